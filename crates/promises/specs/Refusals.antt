@@ -1,0 +1,247 @@
+-- Demand 1: which number is given exactly when, in 01's order; what a refusal leaves; and that nothing else can meet the public statement.
+use Prim.Native.Nat.{ℕ, zero, suc, _≤_, _<_}
+use mathlib.Core.Path.{_≡_, refl, sym, ap, _∙_}
+use mathlib.Core.Bool.{Bool, true, false, cond, _&&_, _||_, not}
+use mathlib.Core.Option.{Option, none, some}
+use mathlib.Core.List.{List, [], _∷_, _++_}
+use native.Mathlib.Omega.{arith}
+use lib.ListN.{length, take, drop, length-append, length-drop}
+use lib.Seq.{drop-at}
+use lib.Dec.{leb, ltb, eqb}
+use borrow.Author.Tests.{ltb-true, ltb-false, ne-eqb}
+use Rattle.meaning.specs.Words.{word, inside, isSome}
+use Rattle.meaning.specs.Maps.{mapEntries, goodGlyphs, goodLookups}
+use Rattle.meaning.specs.Tables.{Table, table}
+use Rattle.meaning.specs.Fault.{fault}
+use Rattle.meaning.specs.Cut.{cut}
+use Rattle.meaning.specs.Layout.{layout}
+use Rattle.meaning.specs.Subset.{Outcome, refused, limit, goodKind, hasFormat, hasDevice, laidInto, written, subset}
+use Rattle.laws.specs.Stands.{All}
+use Rattle.laws.specs.CallBack.{subset-is}
+
+-- what a call is given
+pub record Call : Type 0 where
+  pub kind : ℕ
+  pub source : List ℕ
+  pub glyphs : List ℕ
+  pub lookups : List ℕ
+  pub buffer : List ℕ
+
+-- what it answers
+abbrev pub answer : Call → Outcome
+answer c = subset (c .kind) (c .source) (c .glyphs) (c .lookups) (c .buffer)
+
+-- what is left of the call's table, if something survives
+abbrev pub left? : Call → Option Table
+left? c = cut (mapEntries (c .glyphs)) (mapEntries (c .lookups)) (table (c .kind) (c .source))
+
+-- the plain layout of what is left; no bytes if nothing is
+unfoldable pub layout? : Option Table → List ℕ
+layout? none = []
+layout? (some t) = layout t
+
+abbrev pub plain : Call → List ℕ
+plain c = layout? (left? c)
+
+-- document 01's table: the number of each refusal, and whether it applies to a call, each judged by itself
+unfoldable pub refusals : Call → List (ℕ × Bool)
+refusals c =
+    -- kind not 1 to 4
+    (1, not (goodKind (c .kind)))
+    -- glyph map length not a multiple of 4, or a column not strictly increasing
+    ∷ (2, not (goodGlyphs (c .glyphs)))
+    -- the same for the lookup map's length, or its old column
+    ∷ (3, not (goodLookups (c .lookups)))
+    -- source over the limit
+    ∷ (4, ltb limit (length (c .source)))
+    -- the first two bytes stand and hold a format the kind hasn't
+    ∷ (5, inside (c .source) 0 2 && not (hasFormat (c .kind) (word (c .source) 0)))
+    -- malformed
+    ∷ (6, isSome (fault (c .kind) (c .source)))
+    -- pair value format has a bit of 0x00F0
+    ∷ (7, eqb (c .kind) 4 && (hasDevice (word (c .source) 4) || hasDevice (word (c .source) 6)))
+    -- nothing survives
+    ∷ (8, not (isSome (left? c)))
+    -- the plain layout is over the limit
+    ∷ (9, ltb limit (length (plain c)))
+    -- the buffer is shorter than the plain layout
+    ∷ (10, ltb (length (c .buffer)) (length (plain c)))
+    ∷ []
+
+-- the number of the first refusal that applies; 0, kept, if none does
+unfoldable pub first : List (ℕ × Bool) → ℕ
+first [] = 0
+first (r ∷ rs) = cond (r .1) (r .0) (first rs)
+
+-- The public statement: the lowest number that applies; the length of the plain layout where it is kept or there is no room for it, and 0 otherwise;
+-- the plain layout at the front of the buffer, and the rest of it as it was, where it is kept, and otherwise the buffer as it was.
+pub record Meets (c : Call) (r : Outcome) : Type 0 where
+  pub number : r .number ≡ first (refusals c)
+  pub len : r .len ≡ cond (eqb (r .number) 0 || eqb (r .number) 10) (length (plain c)) 0
+  pub out : r .out ≡ cond (eqb (r .number) 0) (plain c ++ drop (length (plain c)) (c .buffer)) (c .buffer)
+
+-- an outcome by its number, as the public statement gives it
+byNumber : Call → ℕ → Outcome
+byNumber c n = record { number = n; len = cond (eqb n 0 || eqb n 10) (length (plain c)) 0; out = cond (eqb n 0) (plain c ++ drop (length (plain c)) (c .buffer)) (c .buffer) }
+
+-- refusals that are tested before an outcome
+tried : List ℕ → List (ℕ × Bool) → Outcome → Outcome
+tried out [] y = y
+tried out (r ∷ rs) y = cond (r .1) (refused out (r .0)) (tried out rs y)
+
+tried-is : (c : Call) (rs qs : List (ℕ × Bool)) (y : Outcome) → All (λ r. refused (c .buffer) (r .0) ≡ byNumber c (r .0)) rs → y ≡ byNumber c (first qs) → tried (c .buffer) rs y ≡ byNumber c (first (rs ++ qs))
+unfolding first tried
+tried-is c [] qs y h e = e
+tried-is c (r ∷ rs) qs y h e = step (r .1) (tried-is c rs qs y (h .1) e)
+  where
+    step : (b : Bool) → tried (c .buffer) rs y ≡ byNumber c (first (rs ++ qs)) → cond b (refused (c .buffer) (r .0)) (tried (c .buffer) rs y) ≡ byNumber c (cond b (r .0) (first (rs ++ qs)))
+    step true f = h .0
+    step false f = f
+
+-- the last three
+unfolded : (c : Call) (o : Option Table) → left? c ≡ o
+    → written (c .buffer) o ≡ byNumber c (cond (not (isSome o)) 8 (cond (ltb limit (length (layout? o))) 9 (cond (ltb (length (c .buffer)) (length (layout? o))) 10 0)))
+unfolding written laidInto layout? isSome byNumber
+unfolded c none e = refl
+unfolded c (some t) e = step (ltb limit (length (layout t))) (ltb (length (c .buffer)) (length (layout t)))
+  where
+    step : (b d : Bool) → cond b (refused (c .buffer) 9) (cond d (record { number = 10; len = length (layout t); out = c .buffer }) (record { number = 0; len = length (layout t); out = layout t ++ drop (length (layout t)) (c .buffer) })) ≡ byNumber c (cond b 9 (cond d 10 0))
+    step true d = refl
+    step false true = rw e
+    step false false = rw e
+
+-- the call's outcome, by its number
+answer-is : (c : Call) → answer c ≡ byNumber c (first (refusals c))
+unfolding refusals first byNumber tried
+answer-is c =
+    subset-is (c .kind) (c .source) (c .glyphs) (c .lookups) (c .buffer)
+    ∙ tried-is c (take 7 (refusals c)) (drop 7 (refusals c)) (written (c .buffer) (left? c)) (refl, (refl, (refl, (refl, (refl, (refl, (refl, tt))))))) (unfolded c (left? c) refl)
+
+-- the call meets the public statement
+pub answer-meets : (c : Call) → Meets c (answer c)
+unfolding byNumber
+answer-meets c = rw (answer-is c) (record { number = refl; len = refl; out = refl })
+
+-- what meets it is the outcome by its number
+meets-is : (c : Call) (r : Outcome) → Meets c r → r ≡ byNumber c (first (refusals c))
+unfolding byNumber
+meets-is c r m = (λ i. record { number = r .number; len = m .len i; out = m .out i }) ∙ ap (byNumber c) (m .number)
+
+-- two outcomes that meet it are equal
+pub meets-once : (c : Call) (r q : Outcome) → Meets c r → Meets c q → r ≡ q
+meets-once c r q m k = meets-is c r m ∙ sym (meets-is c q k)
+
+-- Which number is given exactly when.
+
+-- each number is above the one before, the first above `low`
+abbrev Rising : ℕ → List (ℕ × Bool) → Type 0
+Rising low [] = Unit {0}
+Rising low (r ∷ rs) = (low < r .0) × Rising (r .0) rs
+
+-- a number that stands further on in such a list is above `low`
+rising-in : (low : ℕ) (before : List (ℕ × Bool)) (t : ℕ × Bool) (after : List (ℕ × Bool)) → Rising low (before ++ (t ∷ after)) → low < t .0
+rising-in low [] t after h = h .0
+rising-in low (r ∷ before) t after h = let k = rising-in (r .0) before t after (h .1) in omega arith
+
+-- a number that is not in such a list is not its first
+first-not : (low n : ℕ) (rs : List (ℕ × Bool)) → Rising low rs → n ≤ low → 0 < n → first rs ≡ n → ⊥
+unfolding first
+first-not low n [] h l z e = omega arith
+first-not low n (r ∷ rs) h l z e = step (r .1) e (first-not (r .0) n rs (h .1) (omega (arith, h .0)) z)
+  where
+    step : (b : Bool) → cond b (r .0) (first rs) ≡ n → (first rs ≡ n → ⊥) → ⊥
+    step true q k = omega (arith, h .0)
+    step false q k = k q
+
+-- none of these applies
+abbrev pub NoneOf : List (ℕ × Bool) → Type 0
+NoneOf = All (λ r. r .1 ≡ false)
+
+given : (low : ℕ) (before : List (ℕ × Bool)) (n : ℕ) (b : Bool) (after : List (ℕ × Bool)) → Rising low (before ++ ((n, b) ∷ after)) → first (before ++ ((n, b) ∷ after)) ≡ n → (b ≡ true) × NoneOf before
+unfolding first
+given low [] n true after h e = (refl, tt)
+given low [] n false after h e = absurd (first-not n n after (h .1) (omega arith) (omega (arith, h .0)) e)
+given low (r ∷ before) n b after h e = step (r .1) refl e (given (r .0) before n b after (h .1))
+  where
+    rest : List (ℕ × Bool)
+    rest = before ++ ((n, b) ∷ after)
+
+    step : (t : Bool) → r .1 ≡ t → cond t (r .0) (first rest) ≡ n → (first rest ≡ n → (b ≡ true) × NoneOf before) → (b ≡ true) × ((r .1 ≡ false) × NoneOf before)
+    step true f q k = absurd (omega (arith, rising-in (r .0) before (n, b) after (h .1)))
+    step false f q k = (k q .0, (f, k q .1))
+
+gives : (before : List (ℕ × Bool)) (n : ℕ) (b : Bool) (after : List (ℕ × Bool)) → b ≡ true → NoneOf before → first (before ++ ((n, b) ∷ after)) ≡ n
+unfolding first
+gives [] n b after e h = rw e
+gives (r ∷ before) n b after e h = rw (h .0) (gives before n b after e (h .1))
+
+kept-first : (low : ℕ) (rs : List (ℕ × Bool)) → Rising low rs → first rs ≡ 0 → NoneOf rs
+unfolding first
+kept-first low [] h e = tt
+kept-first low (r ∷ rs) h e = step (r .1) refl e (kept-first (r .0) rs (h .1))
+  where
+    step : (t : Bool) → r .1 ≡ t → cond t (r .0) (first rs) ≡ 0 → (first rs ≡ 0 → NoneOf rs) → (r .1 ≡ false) × NoneOf rs
+    step true f q k = absurd (omega (arith, h .0))
+    step false f q k = (f, k q)
+
+first-kept : (rs : List (ℕ × Bool)) → NoneOf rs → first rs ≡ 0
+unfolding first
+first-kept [] h = refl
+first-kept (r ∷ rs) h = rw (h .0) (first-kept rs (h .1))
+
+refusals-rise : (c : Call) → Rising 0 (refusals c)
+unfolding refusals
+refusals-rise c = (omega arith, (omega arith, (omega arith, (omega arith, (omega arith, (omega arith, (omega arith, (omega arith, (omega arith, (omega arith, tt))))))))))
+
+module _ (c : Call) where
+  -- a number of the table is given exactly if it applies and none before it does
+  pub given-exactly : (before : List (ℕ × Bool)) (n : ℕ) (applies : Bool) (after : List (ℕ × Bool)) → refusals c ≡ before ++ ((n, applies) ∷ after)
+      → ((answer c) .number ≡ n → (applies ≡ true) × NoneOf before) × (applies ≡ true → NoneOf before → (answer c) .number ≡ n)
+  given-exactly before n b after e =
+      let f = answer-meets c .number ∙ ap first e in
+      (λ q. given 0 before n b after (rw e at (refusals-rise c)) (sym f ∙ q), λ t h. f ∙ gives before n b after t h)
+
+  -- it is kept exactly if none applies
+  pub kept-exactly : ((answer c) .number ≡ 0 → NoneOf (refusals c)) × (NoneOf (refusals c) → (answer c) .number ≡ 0)
+  kept-exactly =
+      let f = answer-meets c .number in
+      (λ q. kept-first 0 (refusals c) (refusals-rise c) (sym f ∙ q), λ h. f ∙ first-kept (refusals c) h)
+
+  -- a refusal leaves the buffer as it was
+  pub refused-untouched : ((answer c) .number ≡ 0 → ⊥) → (answer c) .out ≡ c .buffer
+  refused-untouched h = answer-meets c .out ∙ rw (ne-eqb ((answer c) .number) 0 h)
+
+  -- and its length is 0, save where there is no room
+  pub refused-length : ((answer c) .number ≡ 0 → ⊥) → ((answer c) .number ≡ 10 → ⊥) → (answer c) .len ≡ 0
+  refused-length h k = answer-meets c .len ∙ rw (ne-eqb ((answer c) .number) 0 h, ne-eqb ((answer c) .number) 10 k)
+
+  -- then it is the length needed, and the buffer is shorter
+  pub no-room : (answer c) .number ≡ 10 → ((answer c) .len ≡ length (plain c)) × (length (c .buffer) < length (plain c))
+  unfolding refusals
+  no-room h = (
+    answer-meets c .len ∙ rw h,
+    ltb-true (length (c .buffer)) (length (plain c)) (given-exactly (take 9 (refusals c)) 10 (ltb (length (c .buffer)) (length (plain c))) [] refl .0 h .0),
+  )
+
+  -- what is kept: its length is that of the plain layout, which is at most the limit and the buffer
+  pub kept-length : (answer c) .number ≡ 0 → ((answer c) .len ≡ length (plain c)) × ((answer c) .len ≤ limit) × ((answer c) .len ≤ length (c .buffer))
+  unfolding refusals
+  kept-length h =
+      let l : (answer c) .len ≡ length (plain c) = answer-meets c .len ∙ rw h in
+      let n = kept-exactly .0 h in
+      let late = n .1 .1 .1 .1 .1 .1 .1 .1 in
+      (l, omega (arith, ltb-false limit (length (plain c)) (late .0)), omega (arith, ltb-false (length (c .buffer)) (length (plain c)) (late .1 .0)))
+
+  -- its bytes are the plain layout, and those past them keep their old content
+  pub kept-bytes : (answer c) .number ≡ 0 → (answer c) .out ≡ plain c ++ drop ((answer c) .len) (c .buffer)
+  kept-bytes h = answer-meets c .out ∙ rw (h, kept-length h .0)
+
+  -- the buffer is as long as before, whatever the answer
+  pub buffer-length : length ((answer c) .out) ≡ length (c .buffer)
+  buffer-length = step ((answer c) .number) refl
+    where
+      step : (n : ℕ) → (answer c) .number ≡ n → length ((answer c) .out) ≡ length (c .buffer)
+      step zero e =
+          let k = kept-length e in
+          omega (arith, ap length (kept-bytes e), length-append (plain c) (drop ((answer c) .len) (c .buffer)), length-drop ((answer c) .len) (c .buffer))
+      step (suc n) e = ap length (refused-untouched (λ q. omega arith))
