@@ -1,11 +1,13 @@
 -- The label job: a file with a trailer that points back to table, glyph map and lookup map, and what the program prints for it.
 use Prim.Native.Nat.{ℕ, zero, suc, _+_, _-_, _*_, _/_, _%_}
+use Prim.Native.Char.{code}
+use Prim.Native.String.{String, [] as end, _∷_ as _then_}
 use mathlib.Core.Bool.{Bool, true, false, cond, _&&_, not}
 use mathlib.Core.List.{List, [], _∷_, _++_}
 use lib.ListN.{length, take, drop, replicate}
 use lib.Dec.{leb, ltb, eqb}
 use Rattle.meaning.specs.Words.{word}
-use Rattle.meaning.specs.Subset.{Outcome, refused, limit, subset}
+use Rattle.meaning.specs.Subset.{Outcome, left, refused, limit, subset}
 
 -- the most bytes of a job file
 unfoldable pub jobLimit : ℕ
@@ -38,6 +40,11 @@ glyphPart f = partAt f (trailer f + 10)
 unfoldable pub lookupPart : List ℕ → Part
 lookupPart f = partAt f (trailer f + 18)
 
+-- a text as its bytes, one for each character, as is so of the plain ones that are used here
+unfoldable pub ascii : String → List ℕ
+ascii end = []
+ascii (c then t) = code c ∷ ascii t
+
 -- two lists are the same
 unfoldable pub eqList : List ℕ → List ℕ → Bool
 eqList [] [] = true
@@ -47,7 +54,7 @@ eqList (a ∷ r) (b ∷ q) = eqb a b && eqList r q
 
 -- the four bytes `LSJ1`
 unfoldable pub tag : List ℕ
-tag = 0x4C ∷ 0x53 ∷ 0x4A ∷ 0x31 ∷ []
+tag = ascii "LSJ1"
 
 -- a part lies wholly before the trailer; an empty one may start at it
 unfoldable pub before : List ℕ → Part → Bool
@@ -68,7 +75,7 @@ bytesOf f p = take (p .len) (drop (p .start) f)
 
 -- the job of a file, on a lent buffer: 11 for a faulty file, before anything else, and otherwise the call on the file's kind and parts
 unfoldable pub job : List ℕ → List ℕ → Outcome
-unfolding jobLimit long trailer partAt tablePart glyphPart lookupPart eqList tag before tagged goodJob bytesOf word subset
+unfolding jobLimit long trailer ascii partAt tablePart glyphPart lookupPart eqList tag before tagged goodJob bytesOf word subset
 job f out =
     cond (not (goodJob f)) (refused out 11)
     (subset (word f (trailer f)) (bytesOf f (tablePart f)) (bytesOf f (glyphPart f)) (bytesOf f (lookupPart f)) out)
@@ -88,25 +95,21 @@ decimal n = digits 20 n []
 unfoldable pub hexDigit : ℕ → ℕ
 hexDigit d = cond (ltb d 10) (48 + d) (87 + d)
 
+abbrev pub newline : ℕ
+newline = 10
+
 -- bytes in lower-case hex, 16 a line, where the line that is begun takes `room` more; each line ends in a newline, the last one too
 unfoldable pub hexLines : ℕ → List ℕ → List ℕ
-hexLines room [] = 10 ∷ []
-hexLines zero (b ∷ bs) = 10 ∷ hexDigit (b / 16) ∷ hexDigit (b % 16) ∷ hexLines 15 bs
+hexLines room [] = newline ∷ []
+hexLines zero (b ∷ bs) = newline ∷ hexDigit (b / 16) ∷ hexDigit (b % 16) ∷ hexLines 15 bs
 hexLines (suc room) (b ∷ bs) = hexDigit (b / 16) ∷ hexDigit (b % 16) ∷ hexLines room bs
-
--- `kept` and `refused`, with the blank after them
-unfoldable pub keptWord : List ℕ
-keptWord = 107 ∷ 101 ∷ 112 ∷ 116 ∷ 32 ∷ []
-
-unfoldable pub refusedWord : List ℕ
-refusedWord = 114 ∷ 101 ∷ 102 ∷ 117 ∷ 115 ∷ 101 ∷ 100 ∷ 32 ∷ []
 
 -- `kept N` and the N bytes, or `refused` and the number
 unfoldable pub printed : Outcome → List ℕ
-unfolding digits decimal hexDigit hexLines keptWord refusedWord
+unfolding ascii digits decimal hexDigit hexLines
 printed r =
-    cond (eqb (r .number) 0) (keptWord ++ (decimal (r .len) ++ (10 ∷ hexLines 16 (take (r .len) (r .out)))))
-    (refusedWord ++ (decimal (r .number) ++ (10 ∷ [])))
+    cond (eqb (r .number) 0) (ascii "kept " ++ (decimal (r .len) ++ (newline ∷ hexLines 16 (left r))))
+    (ascii "refused " ++ (decimal (r .number) ++ (newline ∷ [])))
 
 -- how many bytes the program lends for the result
 unfoldable pub room : ℕ

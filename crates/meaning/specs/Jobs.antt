@@ -1,0 +1,53 @@
+-- Jobs of the program with what it prints: one table, one statement over all its rows, by computation.
+use Prim.Native.Nat.{ℕ}
+use Prim.Native.String.{String}
+use mathlib.Core.Path.{_≡_, refl}
+use mathlib.Core.List.{List, [], _∷_, _++_, map}
+use Rattle.meaning.specs.Words.{flat}
+use Rattle.meaning.specs.Job.{ascii, program}
+
+-- a job file, and what the program prints for it
+pub record JobRow : Type 0 where
+  pub file : List ℕ
+  pub prints : String
+
+-- the maps of document 01's case: glyphs 3 → 1, 5 → 2, 9 → 3, lookups 4 → 0, 7 → 2
+abbrev maps₁ : List ℕ
+maps₁ = 3 ∷ 1 ∷ 5 ∷ 2 ∷ 9 ∷ 3 ∷ 4 ∷ 0 ∷ 7 ∷ 2 ∷ []
+
+-- the four bytes `LSJ1`, as words
+abbrev lsj1 : List ℕ
+lsj1 = 0x4C53 ∷ 0x4A31 ∷ []
+
+-- a context of format 3 without coverages, 6 bytes long
+abbrev bare : List ℕ
+bare = 3 ∷ 0 ∷ 0 ∷ []
+
+-- the jobs
+unfoldable pub jobs : List JobRow
+jobs =
+    -- P1, its table first, then its maps: 56, 12 and 8 bytes
+    record {
+      file = flat ((0x0001 ∷ 0x0030 ∷ 0x0002 ∷ 0x000A ∷ 0x0024 ∷ 0x0002 ∷ 0x0006 ∷ 0x0010 ∷ 0x0002 ∷ 0x0001 ∷ 0x0009 ∷ 0x0000 ∷ 0x0007 ∷ 0x0002 ∷ 0x0001 ∷ 0x0006 ∷ 0x0000 ∷ 0x0004 ∷ 0x0001 ∷ 0x0004 ∷ 0x0001 ∷ 0x0001 ∷ 0x0000 ∷ 0x0005 ∷ 0x0001 ∷ 0x0002 ∷ 0x0003 ∷ 0x0005 ∷ []) ++ (maps₁ ++ ((1 ∷ 0 ∷ 0 ∷ 0 ∷ 56 ∷ 0 ∷ 56 ∷ 0 ∷ 12 ∷ 0 ∷ 68 ∷ 0 ∷ 8 ∷ []) ++ lsj1)));
+      prints = "kept 40\n000100200002000a0018000100040002\n00010003000000020001000400010000\n0001000200010002\n";
+    }
+    -- an empty part may start at the trailer
+    ∷ record { file = flat (bare ++ ((1 ∷ 0 ∷ 0 ∷ 0 ∷ 6 ∷ 0 ∷ 6 ∷ 0 ∷ 0 ∷ 0 ∷ 6 ∷ 0 ∷ 0 ∷ []) ++ lsj1)); prints = "kept 6\n000300000000\n" }
+    -- not past it
+    ∷ record { file = flat (bare ++ ((1 ∷ 0 ∷ 0 ∷ 0 ∷ 6 ∷ 0 ∷ 7 ∷ 0 ∷ 0 ∷ 0 ∷ 6 ∷ 0 ∷ 0 ∷ []) ++ lsj1)); prints = "refused 11\n" }
+    -- start and length are not added modulo 2³²
+    ∷ record { file = flat (bare ++ ((1 ∷ 0 ∷ 0 ∷ 0 ∷ 6 ∷ 0xFFFF ∷ 0xFFFF ∷ 0 ∷ 1 ∷ 0 ∷ 6 ∷ 0 ∷ 0 ∷ []) ++ lsj1)); prints = "refused 11\n" }
+    -- no part may reach into the trailer
+    ∷ record { file = flat (bare ++ ((1 ∷ 0 ∷ 0 ∷ 0 ∷ 7 ∷ 0 ∷ 6 ∷ 0 ∷ 0 ∷ 0 ∷ 6 ∷ 0 ∷ 0 ∷ []) ++ lsj1)); prints = "refused 11\n" }
+    -- 11 is answered before a kind that there is not; a wrong tag, and a file of 29 bytes
+    ∷ record { file = flat (bare ++ ((9 ∷ 0 ∷ 0 ∷ 0 ∷ 6 ∷ 0 ∷ 6 ∷ 0 ∷ 0 ∷ 0 ∷ 6 ∷ 0 ∷ 0 ∷ []) ++ lsj1)); prints = "refused 1\n" }
+    ∷ record { file = flat (bare ++ ((9 ∷ 0 ∷ 0 ∷ 0 ∷ 6 ∷ 0 ∷ 6 ∷ 0 ∷ 0 ∷ 0 ∷ 6 ∷ 0 ∷ 0 ∷ []) ++ (0x4C53 ∷ 0x4A32 ∷ []))); prints = "refused 11\n" }
+    ∷ record { file = 0 ∷ flat (0 ∷ 0 ∷ 0 ∷ 0 ∷ 0 ∷ 0 ∷ 0 ∷ 0 ∷ 0 ∷ 0 ∷ 0 ∷ 0 ∷ lsj1); prints = "refused 11\n" }
+    -- a trailer alone: the three parts are empty, and an empty source is malformed
+    ∷ record { file = flat ((1 ∷ 0 ∷ 0 ∷ 0 ∷ 0 ∷ 0 ∷ 0 ∷ 0 ∷ 0 ∷ 0 ∷ 0 ∷ 0 ∷ 0 ∷ []) ++ lsj1); prints = "refused 6\n" }
+    ∷ []
+
+-- each job prints what its row states
+pub each-job : map (λ r. program (r .file)) jobs ≡ map (λ r. ascii (r .prints)) jobs
+unfolding program ascii jobs
+each-job = refl

@@ -1,0 +1,89 @@
+-- Matching on small tables, by computation: what the rows of calls cannot show, since they end with bytes.
+use Prim.Native.Nat.{ℕ}
+use mathlib.Core.Path.{_≡_, refl}
+use mathlib.Core.Option.{Option, none, some}
+use mathlib.Core.List.{List, [], _∷_, map}
+use lib.ListN.{replicate}
+use lib.IntN.{pos, negsuc}
+use Rattle.meaning.specs.Words.{bytes2, flat}
+use Rattle.meaning.specs.Tables.{table}
+use Rattle.meaning.specs.Subset.{Outcome, left, subset}
+use Rattle.meaning.specs.Matching.{Move, atPlace, match, ligate, adjust}
+
+-- chained, by glyph: for glyph 5 first a rule with backtrack 1, input 5 and 6, lookahead 7 and the record (1, 4), then one for 5 alone with the record (0, 9)
+abbrev two-rules : List ℕ
+two-rules = 1 ∷ 44 ∷ 1 ∷ 8 ∷ 2 ∷ 6 ∷ 24 ∷ 1 ∷ 1 ∷ 2 ∷ 6 ∷ 1 ∷ 7 ∷ 1 ∷ 1 ∷ 4 ∷ 0 ∷ 1 ∷ 0 ∷ 1 ∷ 0 ∷ 9 ∷ 1 ∷ 1 ∷ 5 ∷ []
+
+-- chained, by coverage: backtrack 1, input 5 and 6, lookahead 7, the record (0, 3)
+abbrev covers : List ℕ
+covers = 3 ∷ 1 ∷ 22 ∷ 2 ∷ 28 ∷ 34 ∷ 1 ∷ 40 ∷ 1 ∷ 0 ∷ 3 ∷ 1 ∷ 1 ∷ 1 ∷ 1 ∷ 1 ∷ 5 ∷ 1 ∷ 1 ∷ 6 ∷ 1 ∷ 1 ∷ 7 ∷ []
+
+-- chained, by class, with no backtrack class table: glyph 5, and a rule that names class 0 before it
+abbrev names-null : List ℕ
+names-null = 0x0002 ∷ 0x001C ∷ 0x0000 ∷ 0x0022 ∷ 0x0000 ∷ 0x0001 ∷ 0x000E ∷ 0x0001 ∷ 0x0004 ∷ 0x0001 ∷ 0x0000 ∷ 0x0001 ∷ 0x0000 ∷ 0x0000 ∷ 0x0001 ∷ 0x0001 ∷ 0x0005 ∷ 0x0002 ∷ 0x0000 ∷ []
+
+-- plain, by glyph: a rule of glyph count 0 for glyph 5
+abbrev count-none : List ℕ
+count-none = 1 ∷ 16 ∷ 1 ∷ 8 ∷ 1 ∷ 4 ∷ 0 ∷ 0 ∷ 1 ∷ 1 ∷ 5 ∷ []
+
+-- where a context is asked, and what it answers: its input length and its records, or nothing
+pub record Asked : Type 0 where
+  pub kind : ℕ
+  pub source : List ℕ
+  pub string : List ℕ
+  pub place : ℕ
+  pub answers : Option (ℕ × List (ℕ × ℕ))
+
+unfoldable pub asked : List Asked
+asked =
+    -- the first rule fits, and the search stops there
+    record { kind = 2; source = two-rules; string = 1 ∷ 5 ∷ 6 ∷ 7 ∷ []; place = 1; answers = some (2, (1, 4) ∷ []) }
+    -- its lookahead, its backtrack or its input fails: the second fits
+    ∷ record { kind = 2; source = two-rules; string = 1 ∷ 5 ∷ 6 ∷ 8 ∷ []; place = 1; answers = some (1, (0, 9) ∷ []) }
+    ∷ record { kind = 2; source = two-rules; string = 2 ∷ 5 ∷ 6 ∷ 7 ∷ []; place = 1; answers = some (1, (0, 9) ∷ []) }
+    ∷ record { kind = 2; source = two-rules; string = 5 ∷ []; place = 0; answers = some (1, (0, 9) ∷ []) }
+    -- a glyph that is not covered, and a place past the end
+    ∷ record { kind = 2; source = two-rules; string = 1 ∷ 5 ∷ 6 ∷ 7 ∷ []; place = 0; answers = none }
+    ∷ record { kind = 2; source = two-rules; string = 1 ∷ 5 ∷ 6 ∷ 7 ∷ []; place = 4; answers = none }
+    -- lookahead follows the input
+    ∷ record { kind = 2; source = covers; string = 1 ∷ 5 ∷ 6 ∷ 7 ∷ []; place = 1; answers = some (2, (0, 3) ∷ []) }
+    ∷ record { kind = 2; source = covers; string = 1 ∷ 5 ∷ 6 ∷ 6 ∷ []; place = 1; answers = none }
+    -- a null class table holds no glyph, so a rule that names a class there fits nowhere
+    ∷ record { kind = 2; source = names-null; string = 4 ∷ 5 ∷ []; place = 1; answers = none }
+    -- a count of 0 matches nowhere
+    ∷ record { kind = 1; source = count-none; string = 5 ∷ []; place = 0; answers = none }
+    ∷ []
+
+-- each is answered as it says
+pub each-asked : map (λ q. atPlace (match (table (q .kind) (flat (q .source)))) [] (q .string) (q .place)) asked ≡ map (λ q. q .answers) asked
+unfolding bytes2 flat table match atPlace asked
+each-asked = refl
+
+-- two ligatures of glyph 5: 5, 6, 7 give 20, and 5, 6 give 21
+abbrev two-ligatures : List ℕ
+two-ligatures = flat (1 ∷ 28 ∷ 1 ∷ 8 ∷ 2 ∷ 6 ∷ 14 ∷ 20 ∷ 3 ∷ 6 ∷ 7 ∷ 21 ∷ 2 ∷ 6 ∷ 1 ∷ 1 ∷ 5 ∷ [])
+
+-- the first ligature that fits is formed, with its count of components
+pub first-ligature : (ligate (table 3 two-ligatures) 5 (6 ∷ 7 ∷ []) ≡ some (20, 3)) × (ligate (table 3 two-ligatures) 5 (6 ∷ 8 ∷ []) ≡ some (21, 2)) × (ligate (table 3 two-ligatures) 5 (7 ∷ []) ≡ none)
+unfolding bytes2 flat table ligate
+first-ligature = (refl, refl, refl)
+
+-- the cut of that table by the map 5 → 0, 6 → 1, 7 → 2, 21 → 3, into a buffer of 24 bytes
+abbrev less-one : Outcome
+less-one = subset 3 two-ligatures (flat (5 ∷ 0 ∷ 6 ∷ 1 ∷ 7 ∷ 2 ∷ 21 ∷ 3 ∷ [])) [] (replicate 24 0)
+
+-- The condition on ligatures is needed: the components of the first ligature are retained, and its glyph is not.
+-- The source forms 20 of the three glyphs; the small table is kept, and forms 21, which is now 3, of the first two.
+pub condition-needed : (less-one .number ≡ 0) × (ligate (table 3 two-ligatures) 5 (6 ∷ 7 ∷ []) ≡ some (20, 3)) × (ligate (table 3 (left less-one)) 0 (1 ∷ 2 ∷ []) ≡ some (3, 2))
+unfolding bytes2 flat table subset ligate
+condition-needed = (refl, refl, refl)
+
+-- the pair 5, 6: x placement −32,768 and x advance −1 for the first glyph, x placement 32,767 for the second
+abbrev one-pair : List ℕ
+one-pair = flat (1 ∷ 22 ∷ 5 ∷ 1 ∷ 1 ∷ 12 ∷ 1 ∷ 6 ∷ 0x8000 ∷ 0xFFFF ∷ 0x7FFF ∷ 1 ∷ 1 ∷ 5 ∷ [])
+
+-- values are signed, absent fields are 0, and a pair that is not listed is not found; -32,768 is `negsuc 32767`
+pub signed-values : (adjust (table 4 one-pair) 5 6 ≡ some (record { x-placement = negsuc 32767; y-placement = pos 0; x-advance = negsuc 0; y-advance = pos 0 }, record { x-placement = pos 32767; y-placement = pos 0; x-advance = pos 0; y-advance = pos 0 }))
+    × (adjust (table 4 one-pair) 5 7 ≡ none)
+unfolding bytes2 flat table adjust
+signed-values = (refl, refl)
