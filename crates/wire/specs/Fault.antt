@@ -1,6 +1,6 @@
 -- What a check answers: the place of a fault, or that all is sound.
 use Prim.Native.Nat.{ℕ}
-use mathlib.Core.Path.{_≡_, refl, sym, ap, ap₂, _∙_}
+use mathlib.Core.Path.{_≡_, refl, ap, ap₂, _∙_}
 use mathlib.Core.Option.{Option, none, some}
 use Rattle.meaning.specs.Fault.{lowest}
 use Rattle.wire.specs.declared.Fault.{Fault}
