@@ -1,0 +1,116 @@
+// Big-endian words: reading them anywhere, and writing them where there is room. And what a check answers.
+ghost use mathlib.Core.Path.{_≡_};
+ghost use mathlib.Core.List.{[], _∷_};
+ghost use Prim.Native.Nat.{_+_, _*_, _<_};
+ghost use lib.ListN.{getD, set};
+ghost use lib.Seq.{sets};
+ghost use Rattle.meaning.specs.Words.{word, bytes2, flat, inside, ascends};
+ghost use Rattle.meaning.specs.Fault.{lowest};
+ghost use Rattle.laws.specs.Left.{column};
+ghost use Rattle.wire.specs.Fault.{faultOf, placeOf};
+
+// What a check answers: where the first faulty part starts, or that all is sound.
+pub enum Fault {
+    At(usize),
+    Sound,
+}
+
+// The byte at `at`; 0 past the end.
+pub fn byte(s: &[u8], at: usize) -> usize
+    ensures { λ r. ⌜ (r ≡ getD (now (s .entry)) at 0) × (r < 256) ⌝ }
+{
+    if at < s.len() {
+        return s[at] as usize;
+    }
+    0
+}
+
+// The word at `at`; bytes past the end read as 0.
+pub fn word_at(s: &[u8], at: usize) -> usize
+    ensures { λ r. ⌜ (r ≡ word (now (s .entry)) at) × (r < 65536) ⌝ }
+{
+    if s.len() <= at {
+        return 0;
+    }
+    byte(s, at) * 256 + byte(s, at + 1)
+}
+
+// Whether the `n` bytes from `at` on lie inside the source.
+pub fn inside(s: &[u8], at: usize, n: usize) -> bool
+    requires { ⌜ (at < 0x1_0000_0000_0000) × (n < 0x1_0000_0000_0000) ⌝ }
+    ensures { λ r. ⌜ r ≡ inside (now (s .entry)) at n ⌝ }
+{
+    at + n <= s.len()
+}
+
+// Whether the first words of `n` records that are `step` bytes long, from `at` on, ascend strictly.
+pub fn ascending(s: &[u8], at: usize, n: usize, step: usize) -> bool
+    requires { ⌜ at + step * n < 0x1_0000_0000_0000_0000 ⌝ }
+    ensures { λ r. ⌜ r ≡ ascends (column (now (s .entry)) step at n) ⌝ }
+{
+    let mut p = at;
+    let mut left = n;
+    while 1 < left {
+        if word_at(s, p + step) <= word_at(s, p) {
+            return false;
+        }
+        p += step;
+        left -= 1;
+    }
+    true
+}
+
+// The byte `b` at `at`, where there is room for it.
+pub fn put_byte(out: &mut [u8], at: usize, b: usize)
+    requires { ⌜ b < 256 ⌝ }
+    ensures { λ _. ⌜ now (out .exit) ≡ set (now (out .entry)) at b ⌝ }
+{
+    if at < out.len() {
+        out[at] = b as u8;
+    }
+}
+
+// The word's two bytes from `at` on, each where there is room for it; the place after them.
+pub fn put(out: &mut [u8], at: usize, w: usize) -> usize
+    requires { ⌜ at < 0x2_0000_0000_0000 ⌝ }
+    ensures { λ r. ⌜ (r ≡ at + 2) × (now (out .exit) ≡ sets (now (out .entry)) at (bytes2 w)) ⌝ }
+{
+    put_byte(out, at, w / 256 % 256);
+    put_byte(out, at + 1, w % 256);
+    at + 2
+}
+
+// An entry of two words from `at` on, where there is room; the place after it.
+pub fn put_entry(out: &mut [u8], at: usize, a: usize, b: usize) -> usize
+    requires { ⌜ at < 0x1_0000_0000_0000 ⌝ }
+    ensures { λ r. ⌜ (r ≡ at + 4) × (now (out .exit) ≡ sets (now (out .entry)) at (flat (a ∷ b ∷ []))) ⌝ }
+{
+    let p = put(out, at, a);
+    put(out, p, b)
+}
+
+// A record of three words from `at` on, where there is room; the place after it.
+pub fn put_record(out: &mut [u8], at: usize, a: usize, b: usize, c: usize) -> usize
+    requires { ⌜ at < 0x1_0000_0000_0000 ⌝ }
+    ensures { λ r. ⌜ (r ≡ at + 6) × (now (out .exit) ≡ sets (now (out .entry)) at (flat (a ∷ b ∷ c ∷ []))) ⌝ }
+{
+    let p = put(out, at, a);
+    let q = put(out, p, b);
+    put(out, q, c)
+}
+
+// The lower of two faults, where there is one.
+pub fn lowest(a: Fault, b: Fault) -> Fault
+    ensures { λ r. ⌜ r ≡ faultOf (lowest (placeOf a) (placeOf b)) ⌝ }
+{
+    let Fault::At(p) = a else {
+        return b;
+    };
+    let Fault::At(q) = b else {
+        return Fault::At(p);
+    };
+    if p <= q {
+        return Fault::At(p);
+    }
+    Fault::At(q)
+}
