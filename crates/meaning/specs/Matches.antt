@@ -60,7 +60,7 @@ unfolding bytes2 flat table match atPlace asked
 each-asked = refl
 
 -- two ligatures of glyph 5: 5, 6, 7 give 20, and 5, 6 give 21
-abbrev two-ligatures : List ℕ
+abbrev pub two-ligatures : List ℕ
 two-ligatures = flat (1 ∷ 28 ∷ 1 ∷ 8 ∷ 2 ∷ 6 ∷ 14 ∷ 20 ∷ 3 ∷ 6 ∷ 7 ∷ 21 ∷ 2 ∷ 6 ∷ 1 ∷ 1 ∷ 5 ∷ [])
 
 -- the first ligature that fits is formed, with its count of components
@@ -69,7 +69,7 @@ unfolding bytes2 flat table ligate
 first-ligature = (refl, refl, refl)
 
 -- the cut of that table by the map 5 → 0, 6 → 1, 7 → 2, 21 → 3, into a buffer of 24 bytes
-abbrev less-one : Outcome
+abbrev pub less-one : Outcome
 less-one = subset 3 two-ligatures (flat (5 ∷ 0 ∷ 6 ∷ 1 ∷ 7 ∷ 2 ∷ 21 ∷ 3 ∷ [])) [] (replicate 24 0)
 
 -- The condition on ligatures is needed: the components of the first ligature are retained, and its glyph is not.

@@ -18,6 +18,8 @@ use Rattle.meaning.specs.Layout.{layout}
 use Rattle.meaning.specs.Subset.{Outcome, refused, limit, goodKind, hasFormat, hasDevice, laidInto, written, subset}
 use Rattle.laws.specs.Stands.{All}
 use Rattle.laws.specs.CallBack.{subset-is}
+use Rattle.promises.specs.Survives.{survives}
+use Rattle.promises.specs.CutSurvives.{cut-survives}
 
 -- what a call is given
 pub record Call : Type 0 where
@@ -61,7 +63,7 @@ refusals c =
     -- pair value format has a bit of 0x00F0
     ∷ (7, eqb (c .kind) 4 && (hasDevice (word (c .source) 4) || hasDevice (word (c .source) 6)))
     -- nothing survives
-    ∷ (8, not (isSome (left? c)))
+    ∷ (8, not (survives (mapEntries (c .glyphs)) (table (c .kind) (c .source))))
     -- the plain layout is over the limit
     ∷ (9, ltb limit (length (plain c)))
     -- the buffer is shorter than the plain layout
@@ -115,7 +117,8 @@ answer-is : (c : Call) → answer c ≡ byNumber c (first (refusals c))
 unfolding refusals first byNumber tried
 answer-is c =
     subset-is (c .kind) (c .source) (c .glyphs) (c .lookups) (c .buffer)
-    ∙ tried-is c (take 7 (refusals c)) (drop 7 (refusals c)) (written (c .buffer) (left? c)) (refl, (refl, (refl, (refl, (refl, (refl, (refl, tt))))))) (unfolded c (left? c) refl)
+    ∙ tried-is c (take 7 (refusals c)) (drop 7 (refusals c)) (written (c .buffer) (left? c)) (refl, (refl, (refl, (refl, (refl, (refl, (refl, tt)))))))
+    (rw (cut-survives (mapEntries (c .glyphs)) (mapEntries (c .lookups)) (table (c .kind) (c .source))) at (unfolded c (left? c) refl))
 
 -- the call meets the public statement
 pub answer-meets : (c : Call) → Meets c (answer c)
@@ -245,3 +248,18 @@ module _ (c : Call) where
           let k = kept-length e in
           omega (arith, ap length (kept-bytes e), length-append (plain c) (drop ((answer c) .len) (c .buffer)), length-drop ((answer c) .len) (c .buffer))
       step (suc n) e = ap length (refused-untouched (λ q. omega arith))
+
+  -- where none of the first seven applies the number is 8 exactly if nothing survives
+  pub empty-on-good : NoneOf (take 7 (refusals c)) → eqb ((answer c) .number) 8 ≡ not (survives (mapEntries (c .glyphs)) (table (c .kind) (c .source)))
+  unfolding refusals first
+  empty-on-good h =
+      let r = h .1 .1 .1 .1 .1 .1 in
+      ap (λ (n : ℕ). eqb n 8) (answer-meets c .number)
+      ∙ rw (h .0, h .1 .0, h .1 .1 .0, h .1 .1 .1 .0, h .1 .1 .1 .1 .0, h .1 .1 .1 .1 .1 .0, r .0)
+      (step (survives (mapEntries (c .glyphs)) (table (c .kind) (c .source))) (ltb limit (length (plain c))) (ltb (length (c .buffer)) (length (plain c))))
+    where
+      step : (t big short : Bool) → eqb (cond (not t) 8 (cond big 9 (cond short 10 0))) 8 ≡ not t
+      step false big short = refl
+      step true true short = refl
+      step true false true = refl
+      step true false false = refl

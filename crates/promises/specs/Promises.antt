@@ -1,0 +1,155 @@
+-- Every promise in one place, each with its words above it. They hold of every call: any kind, any source bytes, any two maps, any buffer.
+-- A reader who believes the definitions of `meaning` needs of this crate what stands here, the statements that it names in Refusals.antt (`Call`, `answer`, `plain`, `refusals`, `Meets`),
+-- Survives.antt, and `Retained`, `new`, `cutMatch`, `cutLigated` and `Closed`, each a line or two.
+use Prim.Native.Nat.{ℕ, _≤_, _<_}
+use mathlib.Core.Path.{_≡_, ap, _∙_}
+use mathlib.Core.Bool.{Bool, true, not}
+use mathlib.Core.Option.{none, some, Option·map}
+use mathlib.Core.List.{List, [], _∷_, _++_, map}
+use lib.ListN.{length, take, drop}
+use lib.Dec.{eqb}
+use Rattle.meaning.specs.Words.{flat, bind}
+use Rattle.meaning.specs.Maps.{mapEntries}
+use Rattle.meaning.specs.Tables.{table, Table}
+use Rattle.meaning.specs.Fault.{fault}
+use Rattle.meaning.specs.Layout.{layout}
+use Rattle.meaning.specs.Subset.{Outcome, left, limit}
+use Rattle.meaning.specs.Matching.{atPlace, match, ligate, adjust}
+use Rattle.meaning.specs.Job.{ascii, program}
+use Rattle.meaning.specs.Calls.{call, stated}
+use Rattle.meaning.specs.Rows as Rows
+use Rattle.meaning.specs.Points as Points
+use Rattle.meaning.specs.Jobs as Jobs
+use Rattle.meaning.specs.Matches as Matches
+use Rattle.laws.specs.SoundGood.{Bytes}
+use Rattle.laws.specs.CallBack.{Passed, passed, call-reads-back}
+use Rattle.promises.specs.Strings.{All, Retained, new}
+use Rattle.promises.specs.Rules.{cutMatch}
+use Rattle.promises.specs.Ligatures.{cutLigated, Closed}
+use Rattle.promises.specs.Same as Same
+use Rattle.promises.specs.Survives.{survives}
+use Rattle.promises.specs.Refusals.{Call, answer, plain, left?, refusals, first, NoneOf, Meets, answer-meets, meets-once, given-exactly, kept-exactly, refused-untouched, refused-length, no-room, kept-length, kept-bytes, buffer-length, empty-on-good}
+
+-- Worked cases, by computation.
+
+-- `rows`: P1 to P10 of document 01, each with its whole answer: number, length and buffer.
+pub rows : map call Rows.rows ≡ map stated Rows.rows
+rows = Rows.each-row
+
+-- `points`: the open points of document 01 as we read them (docs/DECISIONS.md), each with its whole answer.
+pub points : map call Points.points ≡ map stated Points.points
+points = Points.each-point
+
+-- `jobs`: label jobs with what the program prints for them.
+pub jobs : map (λ r. program (r .file)) Jobs.jobs ≡ map (λ r. ascii (r .prints)) Jobs.jobs
+jobs = Jobs.each-job
+
+-- `matches`: contexts asked at places of strings, with what they answer.
+pub matches : map (λ q. atPlace (match (table (q .kind) (flat (q .source)))) [] (q .string) (q .place)) Matches.asked ≡ map (λ q. q .answers) Matches.asked
+matches = Matches.each-asked
+
+-- How answers are fixed.
+
+-- `unique`: two outcomes that meet the public statement for one call are equal: number, length and buffer, refusals included.
+pub unique : (c : Call) (r q : Outcome) → Meets c r → Meets c q → r ≡ q
+unique = meets-once
+
+-- The call meets it.
+pub meets : (c : Call) → Meets c (answer c)
+meets = answer-meets
+
+module _ (c : Call) where
+  -- Demand 1.
+
+  -- `first-refusal`: the number is that of the first refusal of document 01's table that applies, and 0 if none does.
+  pub first-refusal : (answer c) .number ≡ first (refusals c)
+  first-refusal = answer-meets c .number
+
+  -- A number of that table is given exactly if it applies and none before it does; 0 is given exactly if none applies.
+  pub first-refusal-exactly : (before : List (ℕ × Bool)) (n : ℕ) (applies : Bool) (after : List (ℕ × Bool)) → refusals c ≡ before ++ ((n, applies) ∷ after)
+      → ((answer c) .number ≡ n → (applies ≡ true) × NoneOf before) × (applies ≡ true → NoneOf before → (answer c) .number ≡ n)
+  first-refusal-exactly = given-exactly c
+
+  pub kept-exactly-if : ((answer c) .number ≡ 0 → NoneOf (refusals c)) × (NoneOf (refusals c) → (answer c) .number ≡ 0)
+  kept-exactly-if = kept-exactly c
+
+  -- `refusal-writes-nothing`: a refusal leaves the buffer as it was. Its length is 0, save with 10, where it is the length needed and the buffer is shorter.
+  pub refusal-writes-nothing : ((answer c) .number ≡ 0 → ⊥) → (answer c) .out ≡ c .buffer
+  refusal-writes-nothing = refused-untouched c
+
+  pub refusal-length : ((answer c) .number ≡ 0 → ⊥) → ((answer c) .number ≡ 10 → ⊥) → (answer c) .len ≡ 0
+  refusal-length = refused-length c
+
+  pub length-needed : (answer c) .number ≡ 10 → ((answer c) .len ≡ length (plain c)) × (length (c .buffer) < length (plain c))
+  length-needed = no-room c
+
+  -- The buffer never changes its length.
+  pub same-length : length ((answer c) .out) ≡ length (c .buffer)
+  same-length = buffer-length c
+
+  -- Demand 2.
+
+  -- `kept-is-small`: what is kept has the length of the plain layout, at most the limit and at most the buffer.
+  pub kept-is-small : (answer c) .number ≡ 0 → ((answer c) .len ≡ length (plain c)) × ((answer c) .len ≤ limit) × ((answer c) .len ≤ length (c .buffer))
+  kept-is-small = kept-length c
+
+  -- Its bytes are the plain layout of what survives, and the bytes past them keep their old content.
+  pub kept-is-plain : (answer c) .number ≡ 0 → (answer c) .out ≡ plain c ++ drop ((answer c) .len) (c .buffer)
+  kept-is-plain = kept-bytes c
+
+  -- `empty-exactly`: on good input, where none of the refusals 1 to 7 applies, the answer is 8 exactly if nothing survives, said without `cut` in Survives.antt.
+  pub empty-exactly : NoneOf (take 7 (refusals c)) → eqb ((answer c) .number) 8 ≡ not (survives (mapEntries (c .glyphs)) (table (c .kind) (c .source)))
+  empty-exactly = empty-on-good c
+
+-- What is kept, read as a source of the same kind. A slice's contents are bytes; the definitions take lists of any numbers, so it is asked for.
+pub record BytesOf (c : Call) : Type 0 where
+  pub source : Bytes (c .source)
+  pub glyphs : Bytes (c .glyphs)
+  pub lookups : Bytes (c .lookups)
+
+-- what the source says, and what the bytes that the call leaves say
+abbrev pub says : Call → Table
+says c = table (c .kind) (c .source)
+
+abbrev pub small-says : Call → Table
+small-says c = table (c .kind) (left (answer c))
+
+module _ (c : Call) (bytes : BytesOf c) (kept : (answer c) .number ≡ 0) where
+  -- old number to new, for glyphs and for lookups
+  abbrev g : List (ℕ × ℕ)
+  g = mapEntries (c .glyphs)
+
+  abbrev l : List (ℕ × ℕ)
+  l = mapEntries (c .lookups)
+
+  abbrev tests : Passed (c .kind) (c .source) (c .glyphs) (c .lookups) (c .buffer)
+  tests = passed (c .kind) (c .source) (c .glyphs) (c .lookups) (c .buffer) kept
+
+  -- `reads-back`: the bytes that are left say what was cut, and have no fault.
+  pub reads-back : (left? c ≡ some (small-says c)) × (fault (c .kind) (left (answer c)) ≡ none)
+  reads-back = call-reads-back (c .kind) (c .source) (c .glyphs) (c .lookups) (c .buffer) (bytes .source) (bytes .glyphs) (bytes .lookups) kept
+
+  -- Demand 3.
+
+  -- `context-same`: the small context matches at a place of the renumbered string of retained glyphs exactly if the source matches at that place of the string,
+  -- with the same input length and the source's records in order, less those whose lookup was dropped, renumbered.
+  pub context-same : (string : List ℕ) (i : ℕ) → All (Retained g) string
+      → atPlace (match (small-says c)) [] (map (new g) string) i ≡ Option·map (cutMatch l) (atPlace (match (says c)) [] string i)
+  unfolding bind
+  context-same string i r = rw (reads-back .0) at (Same.context-same (c .glyphs) (c .lookups) (tests .glyphs-good) (c .kind) (c .source) (tests .sound) string i r)
+
+  -- `ligature-same`: the small table forms the same ligature, under its new number and of as many components, where the source forms one, and none where it forms none,
+  -- if each ligature whose components are all retained has its own glyph retained (`Closed`).
+  pub ligature-same : c .kind ≡ 3 → Closed g (says c) → (string : List ℕ) (i : ℕ) → All (Retained g) string
+      → atPlace (λ before x after. ligate (small-says c) x after) [] (map (new g) string) i ≡ Option·map (cutLigated g) (atPlace (λ before x after. ligate (says c) x after) [] string i)
+  unfolding bind
+  ligature-same k closed string i r = rw (reads-back .0) at (Same.ligature-same (c .glyphs) (c .lookups) (tests .glyphs-good) (c .kind) k (c .source) (tests .sound) closed string i r)
+
+  -- `pair-same`: each pair of retained glyphs is found or not as before, with equal adjustments: signed 16-bit, absent fields 0.
+  pub pair-same : c .kind ≡ 4 → (x y : ℕ) → Retained g x → Retained g y → adjust (small-says c) (new g x) (new g y) ≡ adjust (says c) x y
+  unfolding bind
+  pair-same k x y rx ry = rw (reads-back .0) at (Same.pair-same (c .glyphs) (c .lookups) (tests .glyphs-good) (c .kind) k (c .source) (tests .sound) x y rx ry)
+
+-- The condition on ligatures is needed: without it the small table forms another ligature than the source.
+pub closed-needed : (Matches.less-one .number ≡ 0) × (ligate (table 3 Matches.two-ligatures) 5 (6 ∷ 7 ∷ []) ≡ some (20, 3)) × (ligate (table 3 (left Matches.less-one)) 0 (1 ∷ 2 ∷ []) ≡ some (3, 2))
+closed-needed = Matches.condition-needed
