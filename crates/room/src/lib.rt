@@ -1,0 +1,27 @@
+// Whether a plain layout has room: the last three answers of document 01, and what was laid.
+ghost use mathlib.Core.Path.{_≡_};
+ghost use Rattle.room.specs.Laid.{laidFor};
+
+// The most bytes of a source and of a plain layout.
+pub const LIMIT: usize = 65536;
+
+// What became of a table: nothing of it survives, its plain layout is over the limit, the buffer is shorter than the layout, or it was laid, with the layout's length.
+pub enum Laid {
+    Nothing,
+    TooBig,
+    NoRoom(usize),
+    Kept(usize),
+}
+
+// What becomes of a plain layout of `size` bytes in a buffer of `len` bytes.
+pub fn room(size: usize, len: usize) -> Laid
+    ensures { λ r. ⌜ r ≡ laidFor size len ⌝ }
+{
+    if LIMIT < size {
+        return Laid::TooBig;
+    }
+    if len < size {
+        return Laid::NoRoom(size);
+    }
+    Laid::Kept(size)
+}
