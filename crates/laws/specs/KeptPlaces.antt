@@ -15,6 +15,8 @@ use Rattle.meaning.specs.Words.{word, words, bytes2, flat, keys, values, find, 
 use Rattle.meaning.specs.Tables.{reach, reaches}
 use Rattle.meaning.specs.Cut.{keptSets, glyphsOf, setsOf}
 use Rattle.meaning.specs.Layout.{block}
+use Rattle.laws.specs.Stands.{All, Word}
+use Rattle.laws.specs.SetsBack.{Words2}
 use Rattle.laws.specs.Left.{words-left, words-all, words-none}
 use Rattle.laws.specs.Written.{sets-one}
 use Rattle.laws.specs.Slots.{slotBlock, slotBlocks, slot-there}
@@ -80,6 +82,7 @@ module _ (has : ℕ → Bool) (g : List (ℕ × ℕ)) (cov s : List ℕ) (slot n
     pub count : k + length (from i) ≡ length all
     pub glyphs : sets to (2 * k) (flat (keys (from i))) ≡ sets to₀ 0 (flat (keys all))
     pub places : sets at (2 * k) (flat (values (from i))) ≡ sets at₀ 0 (flat (values all))
+    pub small : All Words2 (from i) → All Words2 all
 
   left-is : (i c p : ℕ) → i < length cov → i < n → c ≡ getD cov i 0 → p ≡ word s (slot + 2 * i) → from i ≡ push (keptPlace has (find g c) p) (from (i + 1))
   unfolding keptPlaces
@@ -90,7 +93,7 @@ module _ (has : ℕ → Bool) (g : List (ℕ × ℕ)) (cov s : List ℕ) (slot n
     keeping-all =
         let e : slot + 2 * 0 ≡ slot = omega arith in
         let f : n - 0 ≡ n = omega arith in
-        record { within = omega arith; few = omega arith; count = rw (e, f) (omega arith); glyphs = rw (e, f); places = rw (e, f) }
+        record { within = omega arith; few = omega arith; count = rw (e, f) (omega arith); glyphs = rw (e, f); places = rw (e, f); small = rw (e, f) (λ h. h) }
 
     module _ {to at : List ℕ} {k i c p : ℕ} where
       -- the set is not kept
@@ -98,13 +101,13 @@ module _ (has : ℕ → Bool) (g : List (ℕ × ℕ)) (cov s : List ℕ) (slot n
       unfolding push
       keeping-none a h l e f z =
           let q = rw z at (left-is i c p h l e f) in
-          record { within = omega arith; few = omega (arith, a .few); count = rw q at (a .count); glyphs = rw q at (a .glyphs); places = rw q at (a .places) }
+          record { within = omega arith; few = omega (arith, a .few); count = rw q at (a .count); glyphs = rw q at (a .glyphs); places = rw q at (a .places); small = rw q at (a .small) }
 
       -- it is kept: its glyph and its place are written
       pub keeping-one : Keeping to₀ at₀ to at k i → i < length cov → i < n → c ≡ getD cov i 0 → p ≡ word s (slot + 2 * i) → {x : ℕ} → keptPlace has (find g c) p ≡ some (x, p)
-          → {to′ at′ : List ℕ} → to′ ≡ sets to (2 * k) (bytes2 x) → at′ ≡ sets at (2 * k) (bytes2 p) → Keeping to₀ at₀ to′ at′ (k + 1) (i + 1)
+          → Word x → Word p → {to′ at′ : List ℕ} → to′ ≡ sets to (2 * k) (bytes2 x) → at′ ≡ sets at (2 * k) (bytes2 p) → Keeping to₀ at₀ to′ at′ (k + 1) (i + 1)
       unfolding push keys values
-      keeping-one a h l e f {x} z u v =
+      keeping-one a h l e f {x} z wx wp u v =
           let q = rw z at (left-is i c p h l e f) in
           let d : 2 * (k + 1) ≡ 2 * k + 2 = omega arith in
           record {
@@ -113,15 +116,17 @@ module _ (has : ℕ → Bool) (g : List (ℕ × ℕ)) (cov s : List ℕ) (slot n
             count = omega (arith, a .count, ap length q);
             glyphs = rw (d, u) (sets-one to (2 * k) x (keys (from (i + 1))) ∙ rw q at (a .glyphs));
             places = rw (d, v) (sets-one at (2 * k) p (values (from (i + 1))) ∙ rw q at (a .places));
+            small = λ t. (rw q at (a .small)) ((wx, wp), t);
           }
 
   pub record Kept (to₀ at₀ to at : List ℕ) (k : ℕ) : Type 0 where
     pub count : k ≡ length all
     pub glyphs : to ≡ sets to₀ 0 (flat (keys all))
     pub places : at ≡ sets at₀ 0 (flat (values all))
+    pub small : All Words2 all
 
   pub keeping-end : {to₀ at₀ to at : List ℕ} {k i : ℕ} → Keeping to₀ at₀ to at k i → length cov ≤ i → Kept to₀ at₀ to at k
   unfolding keptPlaces keys values flat
   keeping-end {i = i} a h =
       let e : from i ≡ [] = rw (drop-of-length-le cov h) in
-      record { count = omega (arith, rw e at (a .count)); glyphs = rw e at (a .glyphs); places = rw e at (a .places) }
+      record { count = omega (arith, rw e at (a .count)); glyphs = rw e at (a .glyphs); places = rw e at (a .places); small = (rw e at (a .small)) tt }
