@@ -1,6 +1,6 @@
 use mathlib.Core.Path.{sym, _∙_}
 use borrow.Author.Needs.{needs}
-use Rattle.coverage.proofs.Laws.{fault-none, fault-here}
+use Rattle.coverage.proofs.Checking.{fault-none, fault-here}
 use Rattle.coverage.proofs.check.Statement.{statement}
 use Rattle.coverage.proofs.check.Tie as tie
 

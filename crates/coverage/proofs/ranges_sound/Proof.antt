@@ -3,7 +3,7 @@ use Prim.Native.Nat.{_-_, _≤_}
 use native.Mathlib.Omega.{arith}
 use borrow.Author.Needs.{needs}
 use borrow.Author.Tests.{not-true, not-false}
-use Rattle.coverage.proofs.Laws.{Checking, fits-order, checking-all, checking-turn, checking-faulty, checking-end}
+use Rattle.coverage.proofs.Checking.{Checking, fits-order, checking-all, checking-turn, checking-faulty, checking-end}
 use Rattle.coverage.proofs.ranges_sound.Statement.{statement}
 use Rattle.coverage.proofs.ranges_sound.Tie as tie
 

@@ -4,7 +4,7 @@ use borrow.Author.Needs.{needs}
 use borrow.Author.Tests.{not-true, not-false}
 use Rattle.meaning.specs.Words.{inside}
 use mathlib.Core.Bool.{true}
-use Rattle.coverage.proofs.Laws.{sound-cut, sound-listed, sound-ranged, sound-other}
+use Rattle.coverage.proofs.Checking.{sound-cut, sound-listed, sound-ranged, sound-other}
 use Rattle.coverage.proofs.sound.Statement.{statement}
 use Rattle.coverage.proofs.sound.Tie as tie
 

@@ -1,4 +1,4 @@
--- What the loops of this crate keep, and the ways through its functions, over plain lists and numbers.
+-- The ways through the check of a coverage, and what its loop over ranges keeps.
 use Prim.Native.Nat.{ℕ, _+_, _-_, _*_, _≤_, _<_}
 use mathlib.Core.Path.{_≡_, refl, sym, ap, _∙_}
 use mathlib.Core.Bool.{Bool, true, false, _&&_}
