@@ -3,9 +3,10 @@ use wire::Fault;
 use wire::inside;
 use wire::word_at;
 ghost use mathlib.Core.Path.{_≡_};
+ghost use mathlib.Core.Bool.{true};
 ghost use Prim.Native.Nat.{_+_, _*_, _<_};
-ghost use Rattle.meaning.specs.Words.{triples};
-ghost use Rattle.meaning.specs.Parts.{rangesAscend, classesSound};
+ghost use Rattle.meaning.specs.Words.{word, words, triples};
+ghost use Rattle.meaning.specs.Parts.{rangesAscend, arrayClasses, rangeClasses, classes, classesSound, classOf};
 ghost use Rattle.meaning.specs.Fault.{classesFault};
 ghost use Rattle.wire.specs.Fault.{faultOf};
 ghost use Rattle.classes.specs.Formats.{arraySound};
@@ -78,4 +79,49 @@ fn ranges_ascend(src: &[u8], at: usize, n: usize) -> bool
         i += 1;
     }
     true
+}
+
+// The class of a glyph in the sound class table at `at`; a glyph that is not listed holds class 0.
+pub fn class_of(src: &[u8], at: usize, glyph: usize) -> usize
+    requires { ⌜ classesSound (now src) at ≡ true ⌝ }
+    ensures { λ r. ⌜ (r ≡ classOf (classes (now (src .entry)) at) glyph) × (r < 65536) ⌝ }
+{
+    if word_at(src, at) == 1 {
+        return array_class(src, at, glyph);
+    }
+    range_class(src, at + 4, word_at(src, at + 2), glyph)
+}
+
+// The class of a glyph in the class array of the table at `at`.
+fn array_class(src: &[u8], at: usize, glyph: usize) -> usize
+    requires { ⌜ at + 6 + 2 * word (now src) (at + 4) < 0x1_0000_0000_0000_0000 ⌝ }
+    ensures { λ r. ⌜ (r ≡ classOf (arrayClasses (word (now (src .entry)) (at + 2)) (words (now (src .entry)) (at + 6) (word (now (src .entry)) (at + 4)))) glyph) × (r < 65536) ⌝ }
+{
+    let first = word_at(src, at + 2);
+    if glyph < first {
+        return 0;
+    }
+    let i = glyph - first;
+    if word_at(src, at + 4) <= i {
+        return 0;
+    }
+    word_at(src, at + 6 + 2 * i)
+}
+
+// The class of a glyph in the `n` class ranges from `at` on, which ascend: the first range that ends at the glyph or later decides.
+fn range_class(src: &[u8], at: usize, n: usize, glyph: usize) -> usize
+    requires { ⌜ (at + 6 * n < 0x1_0000_0000_0000_0000) × (rangesAscend 0 (triples (now src) at n) ≡ true) ⌝ }
+    ensures { λ r. ⌜ (r ≡ classOf (rangeClasses (triples (now (src .entry)) at n)) glyph) × (r < 65536) ⌝ }
+{
+    let mut i = 0;
+    while i < n {
+        if glyph <= word_at(src, at + 6 * i + 2) {
+            if glyph < word_at(src, at + 6 * i) {
+                return 0;
+            }
+            return word_at(src, at + 6 * i + 4);
+        }
+        i += 1;
+    }
+    0
 }

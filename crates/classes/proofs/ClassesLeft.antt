@@ -1,0 +1,108 @@
+-- The class of a glyph, in a class array by its place and in ranges from the front.
+use Prim.Native.Nat.{ℕ, zero, suc, _+_, _-_, _≤_, _<_}
+use mathlib.Core.Path.{_≡_, refl, sym, _∙_}
+use mathlib.Core.Bool.{Bool, true, false, cond}
+use mathlib.Core.Option.{some, Option·getD}
+use mathlib.Core.List.{List, [], _∷_, _++_, map}
+use native.Mathlib.Omega.{arith}
+use lib.ListN.{getD}
+use lib.Dec.{leb, eqb}
+use borrow.Author.Tests.{leb-true, le-leb, eqb-true, eqb-false, ne-eqb}
+use Rattle.meaning.specs.Words.{upFrom, find}
+use Rattle.meaning.specs.Parts.{span, rangesAscend, holding, arrayClasses, rangeClasses, classOf}
+use Rattle.laws.specs.Runs.{both, span-one}
+
+-- a glyph among n glyphs from a on that hold c, before others; and one that is not among them
+held-in : (c a n x : ℕ) (t : List (ℕ × ℕ)) → a ≤ x → x < a + n → find (map (λ g. (g, c)) (upFrom a n) ++ t) x ≡ some c
+unfolding find upFrom
+held-in c a zero x t l h = absurd (omega arith)
+held-in c a (suc n) x t l h = step (eqb a x) refl (λ g. held-in c (a + 1) n x t g (omega arith))
+  where
+    step : (b : Bool) → eqb a x ≡ b → (a + 1 ≤ x → find (map (λ g. (g, c)) (upFrom (a + 1) n) ++ t) x ≡ some c)
+        → cond b (some c) (find (map (λ g. (g, c)) (upFrom (a + 1) n) ++ t) x) ≡ some c
+    step true e k = refl
+    step false e k = k (omega (arith, eqb-false a x e))
+
+held-out : (c a n x : ℕ) (t : List (ℕ × ℕ)) → (a ≤ x → x < a + n → ⊥) → find (map (λ g. (g, c)) (upFrom a n) ++ t) x ≡ find t x
+unfolding find upFrom
+held-out c a zero x t h = refl
+held-out c a (suc n) x t h =
+    rw (ne-eqb a x (λ e. h (omega arith) (omega arith))) (held-out c (a + 1) n x t (λ l g. h (omega arith) (omega arith)))
+
+module _ (c a z x : ℕ) (t : List (ℕ × ℕ)) where
+  -- a glyph of a span holds its class, if the others say nothing of it: class 0 is not listed
+  pub class-in : a ≤ x → x ≤ z → classOf t x ≡ 0 → classOf (holding c (span a z) ++ t) x ≡ c
+  unfolding classOf holding span
+  class-in l h e = step (eqb c 0) refl
+    where
+      step : (b : Bool) → eqb c 0 ≡ b → Option·getD (find (cond b [] (map (λ g. (g, c)) (upFrom a (z + 1 - a))) ++ t) x) 0 ≡ c
+      step true f = e ∙ sym (eqb-true c 0 f)
+      step false f = rw (held-in c a (z + 1 - a) x t l (omega arith))
+
+  -- of a glyph outside a span the others decide
+  pub class-out : (a ≤ x → x ≤ z → ⊥) → classOf (holding c (span a z) ++ t) x ≡ classOf t x
+  unfolding classOf holding span
+  class-out h = step (eqb c 0)
+    where
+      step : (b : Bool) → Option·getD (find (cond b [] (map (λ g. (g, c)) (upFrom a (z + 1 - a))) ++ t) x) 0 ≡ Option·getD (find t x) 0
+      step true = refl
+      step false = rw (held-out c a (z + 1 - a) x t (λ l g. h l (omega arith)))
+
+-- a glyph below an array's first holds class 0
+pub array-low : (g : ℕ) (cs : List ℕ) (x : ℕ) → x < g → classOf (arrayClasses g cs) x ≡ 0
+unfolding arrayClasses classOf find
+array-low g [] x h = refl
+array-low g (c ∷ cs) x h = rw (← span-one g) (class-out c g g x (arrayClasses (g + 1) cs) (λ l k. omega arith) ∙ array-low (g + 1) cs x (omega arith))
+
+-- the glyph k places after an array's first holds the k-th class, and class 0 past the end
+pub array-at : (g : ℕ) (cs : List ℕ) (k : ℕ) → classOf (arrayClasses g cs) (g + k) ≡ getD cs k 0
+unfolding arrayClasses classOf find
+array-at g [] k = refl
+array-at g (c ∷ cs) zero =
+    rw (← span-one g) (class-in c g g (g + 0) (arrayClasses (g + 1) cs) (omega arith) (omega arith) (array-low (g + 1) cs (g + 0) (omega arith)))
+array-at g (c ∷ cs) (suc k) =
+    let e : g + suc k ≡ g + 1 + k = omega arith in
+    rw (← span-one g) (class-out c g g (g + suc k) (arrayClasses (g + 1) cs) (λ l h. omega arith) ∙ rw e (array-at (g + 1) cs k))
+
+-- a range before others that ascend: its start and end, and the others from the glyph after it on
+ascend-first : (low a z c : ℕ) (r : List (ℕ × ℕ × ℕ)) → rangesAscend low ((a, z, c) ∷ r) ≡ true → (low ≤ a) × (a ≤ z) × (rangesAscend (z + 1) r ≡ true)
+unfolding rangesAscend
+ascend-first low a z c r h =
+    let p = both (leb low a) _ h in
+    let q = both (leb a z) _ (p .1) in
+    (leb-true low a (p .0), leb-true a z (q .0), q .1)
+
+-- a glyph below all ranges holds class 0
+ranges-low : (low : ℕ) (rs : List (ℕ × ℕ × ℕ)) (x : ℕ) → rangesAscend low rs ≡ true → x < low → classOf (rangeClasses rs) x ≡ 0
+unfolding rangeClasses classOf find
+ranges-low low [] x h l = refl
+ranges-low low ((a, z, c) ∷ r) x h l =
+    let f = ascend-first low a z c r h in
+    class-out c a z x (rangeClasses r) (λ g k. omega arith) ∙ ranges-low (z + 1) r x (f .2) (omega arith)
+
+-- ranges that ascend from somewhere on ascend from 0 on
+ascend-from : (low : ℕ) (rs : List (ℕ × ℕ × ℕ)) → rangesAscend low rs ≡ true → rangesAscend 0 rs ≡ true
+unfolding rangesAscend
+ascend-from low [] h = refl
+ascend-from low ((a, z, c) ∷ r) h = rw (le-leb 0 a (omega arith)) (both (leb low a) _ h .1)
+
+module _ (a z c : ℕ) (r : List (ℕ × ℕ × ℕ)) (h : rangesAscend 0 ((a, z, c) ∷ r) ≡ true) where
+  -- the ranges after the first
+  pub ranges-rest : rangesAscend 0 r ≡ true
+  ranges-rest = ascend-from (z + 1) r (ascend-first 0 a z c r h .2)
+
+  module _ (x : ℕ) where
+    -- a glyph after the first range, one in it, and one before it
+    pub range-after : z < x → classOf (rangeClasses ((a, z, c) ∷ r)) x ≡ classOf (rangeClasses r) x
+    unfolding rangeClasses
+    range-after l = class-out c a z x (rangeClasses r) (λ g k. omega arith)
+
+    pub range-in : a ≤ x → x ≤ z → classOf (rangeClasses ((a, z, c) ∷ r)) x ≡ c
+    unfolding rangeClasses
+    range-in g l = class-in c a z x (rangeClasses r) g l (ranges-low (z + 1) r x (ascend-first 0 a z c r h .2) (omega arith))
+
+    pub range-before : x < a → classOf (rangeClasses ((a, z, c) ∷ r)) x ≡ 0
+    unfolding rangeClasses
+    range-before l =
+        let f = ascend-first 0 a z c r h in
+        class-out c a z x (rangeClasses r) (λ g k. omega arith) ∙ ranges-low (z + 1) r x (f .2) (omega arith)
