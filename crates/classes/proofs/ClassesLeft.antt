@@ -1,16 +1,19 @@
 -- The class of a glyph, in a class array by its place and in ranges from the front.
-use Prim.Native.Nat.{ℕ, zero, suc, _+_, _-_, _≤_, _<_}
+use Prim.Native.Nat.{ℕ, zero, suc, _+_, _-_, _*_, _/_, _≤_, _<_}
 use mathlib.Core.Path.{_≡_, refl, sym, _∙_}
 use mathlib.Core.Bool.{Bool, true, false, cond}
 use mathlib.Core.Option.{some, Option·getD}
 use mathlib.Core.List.{List, [], _∷_, _++_, map}
+use native.Mathlib.Nat.{zero-add}
 use native.Mathlib.Omega.{arith}
-use lib.ListN.{getD}
+use lib.ListN.{length, getD}
 use lib.Dec.{leb, eqb}
 use borrow.Author.Tests.{leb-true, le-leb, eqb-true, eqb-false, ne-eqb}
-use Rattle.meaning.specs.Words.{upFrom, find}
+use Rattle.meaning.specs.Words.{word, entries, upFrom, find}
 use Rattle.meaning.specs.Parts.{span, rangesAscend, holding, arrayClasses, rangeClasses, classOf}
+use Rattle.meaning.specs.Maps.{mapEntries}
 use Rattle.laws.specs.Runs.{both, span-one}
+use Rattle.laws.specs.Left.{entries-left, entries-all, entries-none}
 
 -- a glyph among n glyphs from a on that hold c, before others; and one that is not among them
 held-in : (c a n x : ℕ) (t : List (ℕ × ℕ)) → a ≤ x → x < a + n → find (map (λ g. (g, c)) (upFrom a n) ++ t) x ≡ some c
@@ -106,3 +109,21 @@ module _ (a z c : ℕ) (r : List (ℕ × ℕ × ℕ)) (h : rangesAscend 0 ((a, z
     range-before l =
         let f = ascend-first 0 a z c r h in
         class-out c a z x (rangeClasses r) (λ g k. omega arith) ∙ ranges-low (z + 1) r x (f .2) (omega arith)
+
+-- the entries of a map from the i-th on
+unfoldable pub entriesFrom : List ℕ → ℕ → List (ℕ × ℕ)
+entriesFrom m i = entries m (4 * i) (length m / 4 - i)
+
+-- all of them, the first and the others, and none
+module _ (m : List ℕ) where
+  pub from-all : entriesFrom m 0 ≡ mapEntries m
+  unfolding entriesFrom mapEntries
+  from-all = rw zero-add at (entries-all m 0 (length m / 4))
+
+  pub from-left : (i : ℕ) → i < length m / 4 → entriesFrom m i ≡ (word m (4 * i), word m (4 * i + 2)) ∷ entriesFrom m (i + 1)
+  unfolding entriesFrom
+  from-left i h = rw (zero-add (4 * i), zero-add (4 * (i + 1))) at (entries-left m 0 (length m / 4) i h)
+
+  pub from-none : (i : ℕ) → length m / 4 ≤ i → entriesFrom m i ≡ []
+  unfolding entriesFrom
+  from-none i h = entries-none m (4 * i) (length m / 4) i h

@@ -1,3 +1,5 @@
 pub mod Checking
 pub mod ClassesLeft
 pub mod Reading
+pub mod Filling
+pub mod Ranking

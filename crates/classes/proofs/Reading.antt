@@ -18,11 +18,15 @@ pub head-inside : (s : List ℕ) (at : ℕ) → classesSound s at ≡ true → a
 unfolding classesSound inside
 head-inside s at h = leb-true (at + 4) (length s) (both (leb (at + 4) (length s)) _ h .0)
 
--- what a table of each format says, and what its being sound says
+-- r is the class of x that a table says, and a word
+abbrev pub Says : List (ℕ × ℕ) → ℕ → ℕ → Type 0
+Says cs x r = (r ≡ classOf cs x) × (r < 65536)
+
+-- a table of each format: it says what its array or its ranges say, and what its being sound says
 module _ (s : List ℕ) (at : ℕ) {format : ℕ} (f : format ≡ word s at) where
-  pub by-array : format ≡ 1 → (x : ℕ) → classOf (arrayClasses (word s (at + 2)) (words s (at + 6) (word s (at + 4)))) x ≡ classOf (classes s at) x
+  pub by-array : format ≡ 1 → (x : ℕ) {r : ℕ} → Says (arrayClasses (word s (at + 2)) (words s (at + 6) (word s (at + 4)))) x r → Says (classes s at) x r
   unfolding classes
-  by-array e x = rw (← f, e)
+  by-array e x h = rw (← f, e) h
 
   pub array-inside : format ≡ 1 → classesSound s at ≡ true → at + 6 + 2 * word s (at + 4) ≤ length s
   unfolding classesSound inside
@@ -31,9 +35,9 @@ module _ (s : List ℕ) (at : ℕ) {format : ℕ} (f : format ≡ word s at) whe
       leb-true (at + 6 + 2 * word s (at + 4)) (length s) (both (leb (at + 6 + 2 * word s (at + 4)) (length s)) _ (p .1) .0)
 
   module _ {n : ℕ} (g : n ≡ word s (at + 2)) (e : format ≡ 1 → ⊥) where
-    pub by-ranges : (x : ℕ) → classOf (rangeClasses (triples s (at + 4) n)) x ≡ classOf (classes s at) x
+    pub by-ranges : (x : ℕ) {r : ℕ} → Says (rangeClasses (triples s (at + 4) n)) x r → Says (classes s at) x r
     unfolding classes
-    by-ranges x = rw (← f, ← g, ne-eqb format 1 e)
+    by-ranges x h = rw (← f, ← g, ne-eqb format 1 e) h
 
     pub ranges-sound : classesSound s at ≡ true → (at + 4 + 6 * n ≤ length s) × (rangesAscend 0 (triples s (at + 4) n) ≡ true)
     unfolding classesSound inside

@@ -1,15 +1,23 @@
 // Class tables: checked, read, ranked and written.
 use wire::Fault;
+use wire::byte;
 use wire::inside;
+use wire::put_byte;
+use wire::put_entry;
 use wire::word_at;
 ghost use mathlib.Core.Path.{_≡_};
 ghost use mathlib.Core.Bool.{true};
-ghost use Prim.Native.Nat.{_+_, _*_, _<_};
-ghost use Rattle.meaning.specs.Words.{word, words, triples};
+ghost use Prim.Native.Nat.{_+_, _*_, _≤_, _<_};
+ghost use lib.ListN.{length};
+ghost use Rattle.meaning.specs.Words.{word, words, triples, keys};
 ghost use Rattle.meaning.specs.Parts.{rangesAscend, arrayClasses, rangeClasses, classes, classesSound, classOf};
 ghost use Rattle.meaning.specs.Fault.{classesFault};
+ghost use Rattle.meaning.specs.Maps.{mapEntries};
+ghost use Rattle.meaning.specs.Cut.{heldBy, numbered, classMap};
 ghost use Rattle.wire.specs.Fault.{faultOf};
 ghost use Rattle.classes.specs.Formats.{arraySound};
+ghost use Rattle.classes.specs.Marks.{marked, Unmarked};
+ghost use Rattle.classes.specs.Filled.{Filled};
 
 // Where the class table at `at` is faulty: at its start, or nowhere.
 pub fn check(src: &[u8], at: usize) -> Fault
@@ -124,4 +132,52 @@ fn range_class(src: &[u8], at: usize, n: usize, glyph: usize) -> usize
         i += 1;
     }
     0
+}
+
+// The class map of a sound class table, in `scratch`: the classes that retained glyphs hold, each with its rank from 0, four bytes an entry.
+// The answer is how many bytes they take.
+pub fn rank(src: &[u8], at: usize, glyphs: &[u8], scratch: &mut [u8]) -> usize
+    requires { ⌜ classesSound (now src) at ≡ true ⌝ }
+    ensures { λ r. ⌜ Filled (classMap (mapEntries (now (glyphs .entry))) (classes (now (src .entry)) at)) (now (scratch .entry)) r (now (scratch .exit)) ⌝ }
+{
+    let mut marks = [0u8; 65536];
+    rank_by(src, at, glyphs, &mut marks, scratch)
+}
+
+// The same, with a place for a mark for each class that occurs.
+fn rank_by(src: &[u8], at: usize, glyphs: &[u8], marks: &mut [u8], scratch: &mut [u8]) -> usize
+    requires { ⌜ (classesSound (now src) at ≡ true) × Unmarked (classes (now src) at) (now marks) ⌝ }
+    ensures { λ r. ⌜ Filled (classMap (mapEntries (now (glyphs .entry))) (classes (now (src .entry)) at)) (now (scratch .entry)) r (now (scratch .exit)) ⌝ }
+{
+    mark(src, at, glyphs, marks);
+    number(marks, scratch)
+}
+
+// A mark at each class that a retained glyph holds.
+fn mark(src: &[u8], at: usize, glyphs: &[u8], marks: &mut [u8])
+    requires { ⌜ (classesSound (now src) at ≡ true) × Unmarked (classes (now src) at) (now marks) ⌝ }
+    ensures { λ _. ⌜ marked 0 (now (marks .exit)) ≡ heldBy (classes (now (src .entry)) at) (keys (mapEntries (now (glyphs .entry)))) ⌝ }
+{
+    let mut i = glyphs.len() / 4;
+    while 0 < i {
+        i -= 1;
+        put_byte(marks, class_of(src, at, word_at(glyphs, 4 * i)), 1);
+    }
+}
+
+// The places that have a mark, each with its rank from 0, in `scratch`, and how many bytes they take.
+fn number(marks: &[u8], scratch: &mut [u8]) -> usize
+    requires { ⌜ length (now marks) ≤ 65536 ⌝ }
+    ensures { λ r. ⌜ Filled (numbered 0 (marked 0 (now (marks .entry)))) (now (scratch .entry)) r (now (scratch .exit)) ⌝ }
+{
+    let mut rank = 0;
+    let mut class = 0;
+    while class < marks.len() {
+        if byte(marks, class) != 0 {
+            put_entry(scratch, 4 * rank, class, rank);
+            rank += 1;
+        }
+        class += 1;
+    }
+    4 * rank
 }

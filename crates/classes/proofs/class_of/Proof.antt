@@ -1,5 +1,4 @@
 use Rattle.classes.proofs.Reading.{head-inside, by-array, array-inside, by-ranges, ranges-sound}
-use mathlib.Core.Path.{_∙_}
 use native.Mathlib.Omega.{arith}
 use borrow.Author.Needs.{needs}
 use Rattle.classes.proofs.class_of.Statement.{statement}
@@ -15,7 +14,7 @@ returns : tie.Need-returns
 returns c =
     let w = c .before .before in
     let a = w .before .before .args in
-    (c .array-class .ensures .0 ∙ by-array (a .src .now) (a .at) (w .word-at .ensures .0) (c .before .if1 .taken) (a .glyph), c .array-class .ensures .1)
+    by-array (a .src .now) (a .at) (w .word-at .ensures .0) (c .before .if1 .taken) (a .glyph) (c .array-class .ensures)
 
 add-range-class : tie.Need-add-range-class
 add-range-class c =
@@ -39,7 +38,7 @@ returns-2 c =
     let n = c .before in
     let w = n .before .before in
     let a = w .before .before .args in
-    (c .range-class .ensures .0 ∙ by-ranges (a .src .now) (a .at) (w .word-at .ensures .0) (n .word-at2 .ensures .0) (n .before .if1 .left) (a .glyph), c .range-class .ensures .1)
+    by-ranges (a .src .now) (a .at) (w .word-at .ensures .0) (n .word-at2 .ensures .0) (n .before .if1 .left) (a .glyph) (c .range-class .ensures)
 
 pub class-of-spec : {M : Type 1} → statement M
 class-of-spec =
