@@ -1,19 +1,22 @@
--- The class of a glyph, in a class array by its place and in ranges from the front.
+-- Class tables in loops: the class of a glyph, the entries of a map from the front, the class map and the new class table.
 use Prim.Native.Nat.{ℕ, zero, suc, _+_, _-_, _*_, _/_, _≤_, _<_}
-use mathlib.Core.Path.{_≡_, refl, sym, _∙_}
+use mathlib.Core.Path.{_≡_, refl, sym, ap, _∙_}
 use mathlib.Core.Bool.{Bool, true, false, cond}
-use mathlib.Core.Option.{some, Option·getD}
+use mathlib.Core.Option.{Option, none, some, Option·getD}
 use mathlib.Core.List.{List, [], _∷_, _++_, map}
 use native.Mathlib.Nat.{zero-add}
 use native.Mathlib.Omega.{arith}
 use lib.ListN.{length, getD}
-use lib.Dec.{leb, eqb}
-use borrow.Author.Tests.{leb-true, le-leb, eqb-true, eqb-false, ne-eqb}
-use Rattle.meaning.specs.Words.{word, entries, upFrom, find}
+use lib.Dec.{leb, ltb, eqb}
+use borrow.Author.Tests.{leb-true, le-leb, ltb-true, ltb-false, eqb-true, eqb-false, eq-eqb, ne-eqb}
+use Rattle.meaning.specs.Words.{word, entries, ascends, upFrom, keys, values, find, bind, push, mapSome}
 use Rattle.meaning.specs.Parts.{span, rangesAscend, holding, arrayClasses, rangeClasses, classOf}
 use Rattle.meaning.specs.Maps.{mapEntries}
-use Rattle.laws.specs.Runs.{both, span-one}
+use Rattle.meaning.specs.Cut.{insertUp, heldBy, numbered, classMap, newClasses}
+use Rattle.laws.specs.Runs.{Up, both, span-one, up-ascends}
+use Rattle.laws.specs.SoundGood.{ascends-up}
 use Rattle.laws.specs.Left.{entries-left, entries-all, entries-none}
+use Rattle.laws.specs.Ascends.{map-length, map-key}
 
 -- a glyph among n glyphs from a on that hold c, before others; and one that is not among them
 held-in : (c a n x : ℕ) (t : List (ℕ × ℕ)) → a ≤ x → x < a + n → find (map (λ g. (g, c)) (upFrom a n) ++ t) x ≡ some c
@@ -127,3 +130,91 @@ module _ (m : List ℕ) where
   pub from-none : (i : ℕ) → length m / 4 ≤ i → entriesFrom m i ≡ []
   unfolding entriesFrom
   from-none i h = entries-none m (4 * i) (length m / 4) i h
+
+-- of numbers that ascend from `low` on the i-th is at least low + i
+up-at : (low : ℕ) (gs : List ℕ) → Up low gs → (i : ℕ) → i < length gs → low + i ≤ getD gs i 0
+up-at low [] u i h = absurd (omega arith)
+up-at low (g ∷ gs) u zero h = omega arith
+up-at low (g ∷ gs) u (suc i) h = omega (arith, up-at (g + 1) gs (u .1) i (omega arith))
+
+-- an entry's index is at most its key, so that a map of words has at most 65,536 entries
+pub index-low : (m : List ℕ) → ascends (keys (mapEntries m)) ≡ true → (i : ℕ) → i < length m / 4 → i ≤ word m (4 * i)
+index-low m h i l =
+    omega (arith, up-at 0 (keys (mapEntries m)) (ascends-up 0 (keys (mapEntries m)) h (λ g r e. omega arith)) i (omega (arith, map-length m)), map-key m i l)
+
+-- The class map.
+
+-- a number put into an ascending list leaves it ascending
+insert-up : (low c : ℕ) (l : List ℕ) → low ≤ c → Up low l → Up low (insertUp c l)
+unfolding insertUp
+insert-up low c [] h u = (h, tt)
+insert-up low c (d ∷ r) h u = step (ltb c d) (eqb c d) refl refl (λ g. insert-up (d + 1) c r g (u .1))
+  where
+    step : (s t : Bool) → ltb c d ≡ s → eqb c d ≡ t → (d + 1 ≤ c → Up (d + 1) (insertUp c r)) → Up low (cond s (c ∷ d ∷ r) (cond t (d ∷ r) (d ∷ insertUp c r)))
+    step true t e f k = (h, (omega (arith, ltb-true c d e), u .1))
+    step false true e f k = u
+    step false false e f k = (u .0, k (omega (arith, ltb-false c d e, eqb-false c d f)))
+
+-- the classes that glyphs hold ascend
+held-up : (cs : List (ℕ × ℕ)) (gs : List ℕ) → Up 0 (heldBy cs gs)
+unfolding heldBy
+held-up cs [] = tt
+held-up cs (g ∷ gs) = insert-up 0 (classOf cs g) (heldBy cs gs) (omega arith) (held-up cs gs)
+
+numbered-keys : (k : ℕ) (l : List ℕ) → keys (numbered k l) ≡ l
+unfolding keys numbered
+numbered-keys k [] = refl
+numbered-keys k (c ∷ l) = ap (λ (r : List ℕ). c ∷ r) (numbered-keys (k + 1) l)
+
+-- the old numbers of a class map ascend, so that a class is found in it by halving
+pub class-map-ascends : (g cs : List (ℕ × ℕ)) → ascends (keys (classMap g cs)) ≡ true
+unfolding classMap
+class-map-ascends g cs = rw (numbered-keys 0 (heldBy cs (keys g))) (up-ascends 0 (heldBy cs (keys g)) (held-up cs (keys g)))
+
+-- The new class table.
+
+-- an entry of the new class table: y with its new class, if there is one other than 0
+abbrev entryOf : ℕ → Option ℕ → Option (ℕ × ℕ)
+entryOf y o = bind o (λ n. cond (eqb n 0) none (some (y, n)))
+
+-- the entry that a glyph's entry gives; m is the class map
+abbrev pub listed : List (ℕ × ℕ) → List (ℕ × ℕ) → ℕ × ℕ → Option (ℕ × ℕ)
+listed m cs e = entryOf (e .1) (find m (classOf cs (e .0)))
+
+-- a class that has no new number, or the new number 0, is not listed; another is
+module _ (m cs : List (ℕ × ℕ)) (x y : ℕ) where
+  pub listed-none : Option·getD (find m (classOf cs x)) 0 ≡ 0 → listed m cs (x, y) ≡ none
+  unfolding bind
+  listed-none e = step (find m (classOf cs x)) e
+    where
+      step : (o : Option ℕ) → Option·getD o 0 ≡ 0 → entryOf y o ≡ none
+      step none e = refl
+      step (some n) e = rw (eq-eqb n 0 e)
+
+  pub listed-some : {n : ℕ} → n ≡ Option·getD (find m (classOf cs x)) 0 → (n ≡ 0 → ⊥) → listed m cs (x, y) ≡ some (y, n)
+  unfolding bind
+  listed-some {n} e h = rw e (step (find m (classOf cs x)) (λ f. h (e ∙ f)))
+    where
+      step : (o : Option ℕ) → (Option·getD o 0 ≡ 0 → ⊥) → entryOf y o ≡ some (y, Option·getD o 0)
+      step none h = absurd (h refl)
+      step (some n) h = rw (ne-eqb n 0 h)
+
+-- where the new numbers of a glyph map ascend, those of the new class table do
+listed-up : (m cs : List (ℕ × ℕ)) (low high : ℕ) (g : List (ℕ × ℕ)) → low ≤ high → Up high (values g) → Up low (keys (mapSome (listed m cs) g))
+unfolding values mapSome push keys bind
+listed-up m cs low high [] h u = tt
+listed-up m cs low high (e ∷ g) h u = step (find m (classOf cs (e .0))) (λ k l. listed-up m cs k (e .1 + 1) g l (u .1))
+  where
+    step : (o : Option ℕ) → ((k : ℕ) → k ≤ e .1 + 1 → Up k (keys (mapSome (listed m cs) g)))
+        → Up low (keys (push (entryOf (e .1) o) (mapSome (listed m cs) g)))
+    step none k = k low (omega arith)
+    step (some n) k = pick (eqb n 0)
+      where
+        pick : (t : Bool) → Up low (keys (push (cond t none (some (e .1, n))) (mapSome (listed m cs) g)))
+        pick true = k low (omega arith)
+        pick false = (omega arith, k (e .1 + 1) (omega arith))
+
+pub new-classes-ascend : (g cs : List (ℕ × ℕ)) → ascends (values g) ≡ true → ascends (keys (newClasses g cs)) ≡ true
+unfolding newClasses
+new-classes-ascend g cs h =
+    up-ascends 0 (keys (newClasses g cs)) (listed-up (classMap g cs) cs 0 0 g (omega arith) (ascends-up 0 (values g) h (λ x r e. omega arith)))

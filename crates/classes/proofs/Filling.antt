@@ -1,6 +1,6 @@
 -- A loop that writes entries of two words from the front of a scratch buffer.
 use Prim.Native.Nat.{ℕ, _+_, _*_, _/_, _≤_, _<_}
-use mathlib.Core.Path.{_≡_, refl, ap, _∙_}
+use mathlib.Core.Path.{_≡_, ap}
 use mathlib.Core.List.{List, [], _∷_}
 use native.Mathlib.Omega.{arith}
 use lib.ListN.{length, take, drop}
@@ -9,36 +9,36 @@ use Rattle.meaning.specs.Words.{entries, flat, twos}
 use Rattle.meaning.specs.Maps.{mapEntries}
 use Rattle.laws.specs.Stands.{All, flat-length, twos-length, stands-all, entries-back}
 use Rattle.laws.specs.SetsBack.{Words2, twos-small}
-use Rattle.laws.specs.Written.{sets-two, sets-front}
+use Rattle.laws.specs.Written.{sets-front}
+use Rattle.laws.specs.ToWrite.{ToWrite, write-all, write-two, write-end}
 use Rattle.classes.specs.Filled.{Filled}
 
--- k of the entries es are written, and those of `left` are to come: with them, all is as it should be.
+-- k of the entries es are written, and those of `left` are to come; if these are words, all are.
 pub record Filling (es : List (ℕ × ℕ)) (out₀ out : List ℕ) (k : ℕ) (left : List (ℕ × ℕ)) : Type 0 where
-  pub used : k + length left ≡ length es
-  pub bytes : sets out (4 * k) (flat (twos left)) ≡ sets out₀ 0 (flat (twos es))
+  pub words : ToWrite out₀ 0 (twos es) out (4 * k) (twos left)
   pub small : All Words2 left → All Words2 es
 
 module _ {es : List (ℕ × ℕ)} {out₀ : List ℕ} where
   -- before the first
   pub filling-all : {left : List (ℕ × ℕ)} → left ≡ es → Filling es out₀ out₀ 0 left
-  filling-all e = rw e (record { used = omega arith; bytes = refl; small = λ h. h })
+  filling-all e = rw e (record { words = write-all; small = λ h. h })
 
   -- those that are left, said otherwise
   pub filling-said : {out : List ℕ} {k : ℕ} {left rest : List (ℕ × ℕ)} → Filling es out₀ out k left → left ≡ rest → Filling es out₀ out k rest
   filling-said h e = rw e at h
 
   -- one more entry
-  pub filling-one : {out next left : List _} {k a b : ℕ} → Filling es out₀ out k ((a, b) ∷ left) → a < 65536 → b < 65536
+  pub filling-one : {out next : List ℕ} {left : List (ℕ × ℕ)} {k a b : ℕ} → Filling es out₀ out k ((a, b) ∷ left) → a < 65536 → b < 65536
       → next ≡ sets out (4 * k) (flat (a ∷ b ∷ [])) → Filling es out₀ next (k + 1) left
   unfolding twos
-  filling-one {out} {next} {left} {k} {a} {b} h u v e =
-      let d : 4 * (k + 1) ≡ 4 * k + 4 = omega arith in
-      record { used = omega (arith, h .used); bytes = rw (d, e) (sets-two out (4 * k) a b (twos left) ∙ h .bytes); small = λ w. h .small ((u, v), w) }
+  filling-one h u v e = record { words = write-two (h .words) (omega arith, e); small = λ w. h .small ((u, v), w) }
 
   -- the last is written
   pub filling-end : {out : List ℕ} {k : ℕ} → Filling es out₀ out k [] → Filled es out₀ (4 * k) out
-  unfolding twos flat
-  filling-end h = record { used = omega (arith, h .used); bytes = h .bytes; small = h .small tt }
+  unfolding twos
+  filling-end h =
+      let w = write-end (h .words) in
+      record { used = omega (arith, w .place, twos-length es); bytes = w .bytes; small = h .small tt }
 
 -- entries that were written read back, if there was room for them
 pub filled-back : {es : List (ℕ × ℕ)} {before after : List ℕ} {r : ℕ} → Filled es before r after → r ≤ length after → mapEntries (take r after) ≡ es

@@ -3,3 +3,4 @@ pub mod ClassesLeft
 pub mod Reading
 pub mod Filling
 pub mod Ranking
+pub mod Listing

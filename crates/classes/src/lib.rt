@@ -1,4 +1,6 @@
 // Class tables: checked, read, ranked and written.
+use maps::Found;
+use maps::find;
 use wire::Fault;
 use wire::byte;
 use wire::inside;
@@ -7,17 +9,18 @@ use wire::put_entry;
 use wire::word_at;
 ghost use mathlib.Core.Path.{_≡_};
 ghost use mathlib.Core.Bool.{true};
+ghost use mathlib.Core.Option.{Option·getD};
 ghost use Prim.Native.Nat.{_+_, _*_, _≤_, _<_};
 ghost use lib.ListN.{length};
-ghost use Rattle.meaning.specs.Words.{word, words, triples, keys};
+ghost use Rattle.meaning.specs.Words.{word, words, triples, ascends, keys, find};
 ghost use Rattle.meaning.specs.Parts.{rangesAscend, arrayClasses, rangeClasses, classes, classesSound, classOf};
 ghost use Rattle.meaning.specs.Fault.{classesFault};
 ghost use Rattle.meaning.specs.Maps.{mapEntries};
-ghost use Rattle.meaning.specs.Cut.{heldBy, numbered, classMap};
+ghost use Rattle.meaning.specs.Cut.{heldBy, numbered, classMap, newClasses};
 ghost use Rattle.wire.specs.Fault.{faultOf};
 ghost use Rattle.classes.specs.Formats.{arraySound};
 ghost use Rattle.classes.specs.Marks.{marked, Unmarked};
-ghost use Rattle.classes.specs.Filled.{Filled};
+ghost use Rattle.classes.specs.Filled.{Filled, Ranked};
 
 // Where the class table at `at` is faulty: at its start, or nowhere.
 pub fn check(src: &[u8], at: usize) -> Fault
@@ -180,4 +183,34 @@ fn number(marks: &[u8], scratch: &mut [u8]) -> usize
         class += 1;
     }
     4 * rank
+}
+
+// The entries of the new class table, in `scratch`: the new number and the new class of each retained glyph whose new class is not 0, in order.
+// The answer is how many bytes they take. `map` is the class map that `rank` writes.
+pub fn list_new(src: &[u8], at: usize, glyphs: &[u8], map: &[u8], scratch: &mut [u8]) -> usize
+    requires { ⌜ Ranked (now src) at (now glyphs) (now map) ⌝ }
+    ensures { λ r. ⌜ Filled (newClasses (mapEntries (now (glyphs .entry))) (classes (now (src .entry)) at)) (now (scratch .entry)) r (now (scratch .exit)) ⌝ }
+{
+    let mut k = 0;
+    let mut i = 0;
+    while i < glyphs.len() / 4 {
+        let new = new_class(src, at, map, word_at(glyphs, 4 * i));
+        if new != 0 {
+            put_entry(scratch, 4 * k, word_at(glyphs, 4 * i + 2), new);
+            k += 1;
+        }
+        i += 1;
+    }
+    4 * k
+}
+
+// The new number of a glyph's class; 0 if the class has none.
+fn new_class(src: &[u8], at: usize, map: &[u8], glyph: usize) -> usize
+    requires { ⌜ (classesSound (now src) at ≡ true) × (ascends (keys (mapEntries (now map))) ≡ true) ⌝ }
+    ensures { λ r. ⌜ (r ≡ Option·getD (find (mapEntries (now (map .entry))) (classOf (classes (now (src .entry)) at) glyph)) 0) × (r < 65536) ⌝ }
+{
+    let Found::New(class) = find(map, class_of(src, at, glyph)) else {
+        return 0;
+    };
+    class
 }
