@@ -1,0 +1,143 @@
+-- The ways through the ranking of classes: marks at the classes that glyphs hold, and the numbering of the marked places.
+use Prim.Native.Nat.{ℕ, zero, suc, _+_, _-_, _*_, _/_, _≤_, _<_}
+use mathlib.Core.Path.{_≡_, refl, sym, ap, _∙_}
+use mathlib.Core.Bool.{Bool, true, false, cond}
+use mathlib.Core.List.{List, [], _∷_}
+use native.Mathlib.Nat.{add-zero, zero-add}
+use native.Mathlib.Numerals.{add-one}
+use native.Mathlib.Omega.{arith}
+use lib.ListN.{length, getD, set, drop, replicate, length-set, length-replicate}
+use lib.Seq.{sets, drop-cons, drop-length}
+use lib.Dec.{eqb}
+use borrow.Author.Tests.{lt-ltb, le-ltb, eq-eqb, ne-eqb}
+use Rattle.meaning.specs.Words.{word, keys, flat}
+use Rattle.meaning.specs.Parts.{classOf}
+use Rattle.meaning.specs.Maps.{mapEntries}
+use Rattle.meaning.specs.Cut.{insertUp, heldBy, numbered, classMap}
+use Rattle.classes.specs.Marks.{marked, Unmarked}
+use Rattle.classes.specs.Filled.{Filled}
+use Rattle.classes.proofs.ClassesLeft.{entriesFrom, from-all, from-left, from-none}
+use Rattle.classes.proofs.Reading.{Says}
+use Rattle.classes.proofs.Filling.{Filling, filling-all, filling-said, filling-one, filling-end}
+
+-- a place before all that have a mark stands first
+insert-least : (k j : ℕ) (l : List ℕ) → k < j → insertUp k (marked j l) ≡ k ∷ marked j l
+unfolding insertUp marked
+insert-least k j [] h = refl
+insert-least k j (b ∷ l) h = step (eqb b 0) (insert-least k (j + 1) l (omega arith))
+  where
+    step : (t : Bool) → insertUp k (marked (j + 1) l) ≡ k ∷ marked (j + 1) l
+        → insertUp k (cond t (marked (j + 1) l) (j ∷ marked (j + 1) l)) ≡ k ∷ cond t (marked (j + 1) l) (j ∷ marked (j + 1) l)
+    step true e = e
+    step false e = rw (lt-ltb k j h)
+
+-- one more mark is one more number in the ascending list of marked places
+pub marked-set : (k c : ℕ) (l : List ℕ) → c < length l → marked k (set l c 1) ≡ insertUp (k + c) (marked k l)
+unfolding insertUp marked
+marked-set k c [] h = absurd (omega arith)
+marked-set k zero (b ∷ l) h = rw add-zero (step (eqb b 0))
+  where
+    step : (t : Bool) → k ∷ marked (k + 1) l ≡ insertUp k (cond t (marked (k + 1) l) (k ∷ marked (k + 1) l))
+    step true = sym (insert-least k (k + 1) l (omega arith))
+    step false = rw (le-ltb k k (omega arith), eq-eqb k k refl)
+marked-set k (suc c) (b ∷ l) h =
+    let e : k + suc c ≡ k + 1 + c = omega arith in
+    rw e (step (eqb b 0) (marked-set (k + 1) c l (omega arith)))
+  where
+    step : (t : Bool) → marked (k + 1) (set l c 1) ≡ insertUp (k + 1 + c) (marked (k + 1) l)
+        → cond t (marked (k + 1) (set l c 1)) (k ∷ marked (k + 1) (set l c 1)) ≡ insertUp (k + 1 + c) (cond t (marked (k + 1) l) (k ∷ marked (k + 1) l))
+    step true e = e
+    step false e = rw (le-ltb (k + 1 + c) k (omega arith), ne-eqb (k + 1 + c) k (λ f. omega arith)) (ap (λ (r : List ℕ). k ∷ r) e)
+
+-- where all is 0, no place has a mark
+pub marked-none : (k n : ℕ) → marked k (replicate n 0) ≡ []
+unfolding marked
+marked-none k zero = refl
+marked-none k (suc n) = marked-none (k + 1) n
+
+-- 65,536 places, all 0, serve any class table
+pub unmarked-all : {cs : List (ℕ × ℕ)} → Unmarked cs (replicate 65536 0)
+unmarked-all = record { none = marked-none 0 65536; few = omega (arith, length-replicate {A = ℕ} 65536 0); room = λ g h. omega (arith, length-replicate {A = ℕ} 65536 0) }
+
+-- What the loop of `mark` keeps, which goes from the last entry to the first: the marks are at the classes of the glyphs from the i-th on.
+pub record Marking (cs : List (ℕ × ℕ)) (glyphs marks₀ marks : List ℕ) (i : ℕ) : Type 0 where
+  pub within : i ≤ length glyphs / 4
+  pub same : length marks ≡ length marks₀
+  pub room : (g : ℕ) → classOf cs g < 65536 → classOf cs g < length marks₀
+  pub held : marked 0 marks ≡ heldBy cs (keys (entriesFrom glyphs i))
+
+module _ {cs : List (ℕ × ℕ)} {glyphs marks₀ : List ℕ} where
+  pub marking-all : Unmarked cs marks₀ → Marking cs glyphs marks₀ marks₀ (length glyphs / 4)
+  unfolding heldBy keys
+  marking-all u = record { within = omega arith; same = refl; room = u .room; held = rw (from-none glyphs (length glyphs / 4) (omega arith)) (u .none) }
+
+  pub marking-turn : {marks next : List ℕ} {i x c : ℕ} → Marking cs glyphs marks₀ marks i → 0 < i
+      → x ≡ word glyphs (4 * (i - 1)) → Says cs x c → next ≡ set marks c 1 → Marking cs glyphs marks₀ next (i - 1)
+  unfolding heldBy keys
+  marking-turn {marks} {next} {i} {x} {c} k h e f g =
+      let back : i - 1 + 1 ≡ i = omega arith in
+      let first = from-left glyphs (i - 1) (omega (arith, k .within)) in
+      let place : c < length marks = rw (k .same, f .0) (k .room x (rw (← (f .0)) (f .1))) in
+      record {
+        within = omega (arith, k .within);
+        same = ap length g ∙ length-set marks c 1 ∙ k .same;
+        room = k .room;
+        held = rw (g, first, back) (rw zero-add at (marked-set 0 c marks place) ∙ rw (k .held, f .0, e));
+      }
+
+  pub marking-end : {marks : List ℕ} {i : ℕ} → Marking cs glyphs marks₀ marks i → i ≤ 0 → marked 0 marks ≡ heldBy cs (keys (mapEntries glyphs))
+  marking-end {i = i} k h =
+      let e : i ≡ 0 = omega arith in
+      rw (e, from-all glyphs) at (k .held)
+
+-- What the loop of `number` keeps: the marked places from c on are left, with the ranks from r on.
+pub record Numbering (marks out₀ out : List ℕ) (r c : ℕ) : Type 0 where
+  pub within : c ≤ length marks
+  pub near : r ≤ c
+  pub few : length marks ≤ 65536
+  pub filling : Filling (numbered 0 (marked 0 marks)) out₀ out r (numbered r (marked c (drop c marks)))
+
+-- what is left of the marked places, by the byte at c
+marked-left : (marks : List ℕ) (c : ℕ) → c < length marks
+    → marked c (drop c marks) ≡ cond (eqb (getD marks c 0) 0) (marked (c + 1) (drop (c + 1) marks)) (c ∷ marked (c + 1) (drop (c + 1) marks))
+unfolding marked
+marked-left marks c h = rw (drop-cons marks c 0 h, add-one)
+
+module _ {marks out₀ : List ℕ} where
+  pub numbering-all : length marks ≤ 65536 → Numbering marks out₀ out₀ 0 0
+  numbering-all h = record { within = omega arith; near = omega arith; few = h; filling = filling-all refl }
+
+  module _ {out : List ℕ} {r c b : ℕ} (k : Numbering marks out₀ out r c) (h : c < length marks) (e : b ≡ getD marks c 0) where
+    -- no mark at c
+    pub numbering-none : b ≡ 0 → Numbering marks out₀ out r (c + 1)
+    numbering-none z = record {
+      within = omega arith;
+      near = omega (arith, k .near);
+      few = k .few;
+      filling = filling-said (k .filling) (rw (marked-left marks c h, ← e, eq-eqb b 0 z));
+    }
+
+    -- a mark at c
+    pub numbering-one : {next : List ℕ} → (b ≡ 0 → ⊥) → next ≡ sets out (4 * r) (flat (c ∷ r ∷ [])) → Numbering marks out₀ next (r + 1) (c + 1)
+    unfolding numbered
+    numbering-one z f =
+        let left : numbered r (marked c (drop c marks)) ≡ (c, r) ∷ numbered (r + 1) (marked (c + 1) (drop (c + 1) marks)) = rw (marked-left marks c h, ← e, ne-eqb b 0 z) in
+        record {
+          within = omega arith;
+          near = omega (arith, k .near);
+          few = k .few;
+          filling = filling-one (filling-said (k .filling) left) (omega (arith, k .few)) (omega (arith, k .few, k .near)) f;
+        }
+
+  -- past the last place none is left
+  pub numbering-end : {out : List ℕ} {r c : ℕ} → Numbering marks out₀ out r c → length marks ≤ c → Filled (numbered 0 (marked 0 marks)) out₀ (4 * r) out
+  unfolding numbered marked
+  numbering-end {r = r} {c} k h =
+      let e : c ≡ length marks = omega (arith, k .within) in
+      filling-end (filling-said (k .filling) (rw (e, drop-length marks)))
+
+-- marks at the classes that the glyphs of a map hold give the map's class map
+pub ranked : (g cs : List (ℕ × ℕ)) (marks : List ℕ) {before after : List ℕ} {r : ℕ} → marked 0 marks ≡ heldBy cs (keys g)
+    → Filled (numbered 0 (marked 0 marks)) before r after → Filled (classMap g cs) before r after
+unfolding classMap
+ranked g cs marks e h = rw e at h

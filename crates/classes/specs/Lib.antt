@@ -1,0 +1,3 @@
+pub mod Formats
+pub mod Filled
+pub mod Marks

@@ -1,0 +1,216 @@
+// Class tables: checked, read, ranked and written.
+use maps::Found;
+use maps::find;
+use wire::Fault;
+use wire::byte;
+use wire::inside;
+use wire::put_byte;
+use wire::put_entry;
+use wire::word_at;
+ghost use mathlib.Core.Path.{_≡_};
+ghost use mathlib.Core.Bool.{true};
+ghost use mathlib.Core.Option.{Option·getD};
+ghost use Prim.Native.Nat.{_+_, _*_, _≤_, _<_};
+ghost use lib.ListN.{length};
+ghost use Rattle.meaning.specs.Words.{word, words, triples, ascends, keys, find};
+ghost use Rattle.meaning.specs.Parts.{rangesAscend, arrayClasses, rangeClasses, classes, classesSound, classOf};
+ghost use Rattle.meaning.specs.Fault.{classesFault};
+ghost use Rattle.meaning.specs.Maps.{mapEntries};
+ghost use Rattle.meaning.specs.Cut.{heldBy, numbered, classMap, newClasses};
+ghost use Rattle.wire.specs.Fault.{faultOf};
+ghost use Rattle.classes.specs.Formats.{arraySound};
+ghost use Rattle.classes.specs.Marks.{marked, Unmarked};
+ghost use Rattle.classes.specs.Filled.{Filled, Ranked};
+
+// Where the class table at `at` is faulty: at its start, or nowhere.
+pub fn check(src: &[u8], at: usize) -> Fault
+    requires { ⌜ at < 0x1_0000_0000_0000 ⌝ }
+    ensures { λ r. ⌜ r ≡ faultOf (classesFault (now (src .entry)) at) ⌝ }
+{
+    if sound(src, at) {
+        return Fault::Sound;
+    }
+    Fault::At(at)
+}
+
+// Whether the class table at `at` lies inside the source, has format 1 or 2, and ascends or ends by glyph 65,535.
+fn sound(src: &[u8], at: usize) -> bool
+    requires { ⌜ at < 0x1_0000_0000_0000 ⌝ }
+    ensures { λ r. ⌜ r ≡ classesSound (now (src .entry)) at ⌝ }
+{
+    if !inside(src, at, 4) {
+        return false;
+    }
+    let format = word_at(src, at);
+    if format == 1 {
+        return array_sound(src, at);
+    }
+    if format != 2 {
+        return false;
+    }
+    let n = word_at(src, at + 2);
+    if !inside(src, at, 4 + 6 * n) {
+        return false;
+    }
+    ranges_ascend(src, at + 4, n)
+}
+
+// Whether the class array of the table at `at` lies inside the source and ends by glyph 65,535.
+fn array_sound(src: &[u8], at: usize) -> bool
+    requires { ⌜ at < 0x1_0000_0000_0000 ⌝ }
+    ensures { λ r. ⌜ r ≡ arraySound (now (src .entry)) at ⌝ }
+{
+    if !inside(src, at, 6) {
+        return false;
+    }
+    let n = word_at(src, at + 4);
+    if !inside(src, at, 6 + 2 * n) {
+        return false;
+    }
+    word_at(src, at + 2) + n <= 65536
+}
+
+// Whether each of the `n` ranges from `at` on has its start at most its end, and they ascend without overlap.
+fn ranges_ascend(src: &[u8], at: usize, n: usize) -> bool
+    requires { ⌜ at + 6 * n < 0x1_0000_0000_0000_0000 ⌝ }
+    ensures { λ r. ⌜ r ≡ rangesAscend 0 (triples (now (src .entry)) at n) ⌝ }
+{
+    let mut low = 0;
+    let mut i = 0;
+    while i < n {
+        let first = word_at(src, at + 6 * i);
+        let last = word_at(src, at + 6 * i + 2);
+        if first < low {
+            return false;
+        }
+        if last < first {
+            return false;
+        }
+        low = last + 1;
+        i += 1;
+    }
+    true
+}
+
+// The class of a glyph in the sound class table at `at`; a glyph that is not listed holds class 0.
+pub fn class_of(src: &[u8], at: usize, glyph: usize) -> usize
+    requires { ⌜ classesSound (now src) at ≡ true ⌝ }
+    ensures { λ r. ⌜ (r ≡ classOf (classes (now (src .entry)) at) glyph) × (r < 65536) ⌝ }
+{
+    if word_at(src, at) == 1 {
+        return array_class(src, at, glyph);
+    }
+    range_class(src, at + 4, word_at(src, at + 2), glyph)
+}
+
+// The class of a glyph in the class array of the table at `at`.
+fn array_class(src: &[u8], at: usize, glyph: usize) -> usize
+    requires { ⌜ at + 6 + 2 * word (now src) (at + 4) < 0x1_0000_0000_0000_0000 ⌝ }
+    ensures { λ r. ⌜ (r ≡ classOf (arrayClasses (word (now (src .entry)) (at + 2)) (words (now (src .entry)) (at + 6) (word (now (src .entry)) (at + 4)))) glyph) × (r < 65536) ⌝ }
+{
+    let first = word_at(src, at + 2);
+    if glyph < first {
+        return 0;
+    }
+    let i = glyph - first;
+    if word_at(src, at + 4) <= i {
+        return 0;
+    }
+    word_at(src, at + 6 + 2 * i)
+}
+
+// The class of a glyph in the `n` class ranges from `at` on, which ascend: the first range that ends at the glyph or later decides.
+fn range_class(src: &[u8], at: usize, n: usize, glyph: usize) -> usize
+    requires { ⌜ (at + 6 * n < 0x1_0000_0000_0000_0000) × (rangesAscend 0 (triples (now src) at n) ≡ true) ⌝ }
+    ensures { λ r. ⌜ (r ≡ classOf (rangeClasses (triples (now (src .entry)) at n)) glyph) × (r < 65536) ⌝ }
+{
+    let mut i = 0;
+    while i < n {
+        if glyph <= word_at(src, at + 6 * i + 2) {
+            if glyph < word_at(src, at + 6 * i) {
+                return 0;
+            }
+            return word_at(src, at + 6 * i + 4);
+        }
+        i += 1;
+    }
+    0
+}
+
+// The class map of a sound class table, in `scratch`: the classes that retained glyphs hold, each with its rank from 0, four bytes an entry.
+// The answer is how many bytes they take.
+pub fn rank(src: &[u8], at: usize, glyphs: &[u8], scratch: &mut [u8]) -> usize
+    requires { ⌜ classesSound (now src) at ≡ true ⌝ }
+    ensures { λ r. ⌜ Filled (classMap (mapEntries (now (glyphs .entry))) (classes (now (src .entry)) at)) (now (scratch .entry)) r (now (scratch .exit)) ⌝ }
+{
+    let mut marks = [0u8; 65536];
+    rank_by(src, at, glyphs, &mut marks, scratch)
+}
+
+// The same, with a place for a mark for each class that occurs.
+fn rank_by(src: &[u8], at: usize, glyphs: &[u8], marks: &mut [u8], scratch: &mut [u8]) -> usize
+    requires { ⌜ (classesSound (now src) at ≡ true) × Unmarked (classes (now src) at) (now marks) ⌝ }
+    ensures { λ r. ⌜ Filled (classMap (mapEntries (now (glyphs .entry))) (classes (now (src .entry)) at)) (now (scratch .entry)) r (now (scratch .exit)) ⌝ }
+{
+    mark(src, at, glyphs, marks);
+    number(marks, scratch)
+}
+
+// A mark at each class that a retained glyph holds.
+fn mark(src: &[u8], at: usize, glyphs: &[u8], marks: &mut [u8])
+    requires { ⌜ (classesSound (now src) at ≡ true) × Unmarked (classes (now src) at) (now marks) ⌝ }
+    ensures { λ _. ⌜ marked 0 (now (marks .exit)) ≡ heldBy (classes (now (src .entry)) at) (keys (mapEntries (now (glyphs .entry)))) ⌝ }
+{
+    let mut i = glyphs.len() / 4;
+    while 0 < i {
+        i -= 1;
+        put_byte(marks, class_of(src, at, word_at(glyphs, 4 * i)), 1);
+    }
+}
+
+// The places that have a mark, each with its rank from 0, in `scratch`, and how many bytes they take.
+fn number(marks: &[u8], scratch: &mut [u8]) -> usize
+    requires { ⌜ length (now marks) ≤ 65536 ⌝ }
+    ensures { λ r. ⌜ Filled (numbered 0 (marked 0 (now (marks .entry)))) (now (scratch .entry)) r (now (scratch .exit)) ⌝ }
+{
+    let mut rank = 0;
+    let mut class = 0;
+    while class < marks.len() {
+        if byte(marks, class) != 0 {
+            put_entry(scratch, 4 * rank, class, rank);
+            rank += 1;
+        }
+        class += 1;
+    }
+    4 * rank
+}
+
+// The entries of the new class table, in `scratch`: the new number and the new class of each retained glyph whose new class is not 0, in order.
+// The answer is how many bytes they take. `map` is the class map that `rank` writes.
+pub fn list_new(src: &[u8], at: usize, glyphs: &[u8], map: &[u8], scratch: &mut [u8]) -> usize
+    requires { ⌜ Ranked (now src) at (now glyphs) (now map) ⌝ }
+    ensures { λ r. ⌜ Filled (newClasses (mapEntries (now (glyphs .entry))) (classes (now (src .entry)) at)) (now (scratch .entry)) r (now (scratch .exit)) ⌝ }
+{
+    let mut k = 0;
+    let mut i = 0;
+    while i < glyphs.len() / 4 {
+        let new = new_class(src, at, map, word_at(glyphs, 4 * i));
+        if new != 0 {
+            put_entry(scratch, 4 * k, word_at(glyphs, 4 * i + 2), new);
+            k += 1;
+        }
+        i += 1;
+    }
+    4 * k
+}
+
+// The new number of a glyph's class; 0 if the class has none.
+fn new_class(src: &[u8], at: usize, map: &[u8], glyph: usize) -> usize
+    requires { ⌜ (classesSound (now src) at ≡ true) × (ascends (keys (mapEntries (now map))) ≡ true) ⌝ }
+    ensures { λ r. ⌜ (r ≡ Option·getD (find (mapEntries (now (map .entry))) (classOf (classes (now (src .entry)) at) glyph)) 0) × (r < 65536) ⌝ }
+{
+    let Found::New(class) = find(map, class_of(src, at, glyph)) else {
+        return 0;
+    };
+    class
+}
