@@ -1,0 +1,3 @@
+pub mod Sequences
+pub mod Records
+pub mod Parts
