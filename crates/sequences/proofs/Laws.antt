@@ -7,9 +7,9 @@ use mathlib.Core.List.{List, _∷_}
 use native.Mathlib.Omega.{arith}
 use lib.Seq.{sets}
 use Rattle.meaning.specs.Words.{word, words, bytes2, flat, find, bind, mapAll, isSome}
-use Rattle.laws.specs.Left.{words-left, words-all, words-none}
-use Rattle.laws.specs.Written.{sets-one}
-use Rattle.sequences.specs.Renumbered.{newOf, renumbered}
+use Rattle.laws.specs.Left.{words-left, words-all, words-none, words-length}
+use Rattle.laws.specs.Written.{Wrote, sets-one}
+use Rattle.sequences.specs.Renumbered.{newOf, renumbered, renumbered-length}
 
 -- whether all have a new number is settled by the others, where the first has one
 some-more : {A : Type 0} (b : A) (o : Option (List A)) → isSome (bind o (λ bs. some (b ∷ bs))) ≡ isSome o
@@ -62,6 +62,10 @@ module _ {m : List (ℕ × ℕ)} {s : List ℕ} {at n : ℕ} {out₀ : List ℕ}
       let one = sets-one out (pos + 2 * i) w (renumbered m (words s (at + 2 * (i + 1)) (n - (i + 1)))) in
       record { within = omega arith; left = rw (g, d) (one ∙ rw (words-left s at n i h, ← e, ← f) at (k .left)) }
 
-  pub renumbering-end : {out : List ℕ} {i : ℕ} → Renumbering m s at n out₀ pos out i → n ≤ i → out ≡ sets out₀ pos (flat (renumbered m (words s at n)))
+  pub renumbering-end : {out : List ℕ} {i p : ℕ} → Renumbering m s at n out₀ pos out i → n ≤ i → p ≡ pos + 2 * n → Wrote out₀ pos (renumbered m (words s at n)) out p
   unfolding renumbered flat
-  renumbering-end {i = i} k h = rw (words-none s (at + 2 * i) n i h) at (k .left)
+  renumbering-end {i = i} k h e =
+      record {
+        place = omega (arith, renumbered-length m (words s at n), words-length s at n);
+        bytes = rw (words-none s (at + 2 * i) n i h) at (k .left);
+      }

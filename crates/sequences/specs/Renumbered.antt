@@ -5,7 +5,12 @@ use mathlib.Core.Bool.{true, false}
 use mathlib.Core.Option.{Option, none, some}
 use mathlib.Core.List.{List, [], _∷_}
 use lib.ListN.{length}
-use Rattle.meaning.specs.Words.{find, bind, mapAll, isSome}
+use Rattle.meaning.specs.Words.{ascends, keys, find, bind, mapAll, isSome}
+use Rattle.meaning.specs.Maps.{mapEntries}
+
+-- the old column of a map, given as its bytes, ascends: what finding in it asks
+abbrev pub Ascends : List ℕ → Type 0
+Ascends m = ascends (keys (mapEntries m)) ≡ true
 
 -- the number, and 0 where there is none
 abbrev pub newOf : Option ℕ → ℕ

@@ -4,16 +4,15 @@ use maps::find;
 use wire::put;
 use wire::word_at;
 ghost use mathlib.Core.Path.{_≡_};
-ghost use mathlib.Core.Bool.{true};
 ghost use Prim.Native.Nat.{_+_, _*_, _<_};
-ghost use lib.Seq.{sets};
-ghost use Rattle.meaning.specs.Words.{words, flat, find, isSome, mapAll, ascends, keys};
+ghost use Rattle.meaning.specs.Words.{words, find, isSome, mapAll};
 ghost use Rattle.meaning.specs.Maps.{mapEntries};
-ghost use Rattle.sequences.specs.Renumbered.{newOf, renumbered};
+ghost use Rattle.laws.specs.Written.{Wrote};
+ghost use Rattle.sequences.specs.Renumbered.{Ascends, newOf, renumbered};
 
 // Whether each of the `n` words from `at` on has a new number.
 pub fn mapped(src: &[u8], at: usize, n: usize, map: &[u8]) -> bool
-    requires { ⌜ (at + 2 * n < 0x1_0000_0000_0000) × (ascends (keys (mapEntries (now map))) ≡ true) ⌝ }
+    requires { ⌜ (at + 2 * n < 0x1_0000_0000_0000) × Ascends (now map) ⌝ }
     ensures { λ r. ⌜ r ≡ isSome (mapAll (find (mapEntries (now (map .entry)))) (words (now (src .entry)) at n)) ⌝ }
 {
     let mut i = 0;
@@ -28,7 +27,7 @@ pub fn mapped(src: &[u8], at: usize, n: usize, map: &[u8]) -> bool
 
 // The new number of `old`, and 0 where there is none.
 pub fn new_number(map: &[u8], old: usize) -> usize
-    requires { ⌜ ascends (keys (mapEntries (now map))) ≡ true ⌝ }
+    requires { ⌜ Ascends (now map) ⌝ }
     ensures { λ r. ⌜ r ≡ newOf (find (mapEntries (now (map .entry))) old) ⌝ }
 {
     let Found::New(new) = find(map, old) else {
@@ -46,8 +45,8 @@ pub fn write_mapped(
     out: &mut [u8],
     pos: usize,
 ) -> usize
-    requires { ⌜ (at + 2 * n < 0x1_0000_0000_0000) × (pos + 2 * n < 0x1_0000_0000_0000) × (ascends (keys (mapEntries (now map))) ≡ true) ⌝ }
-    ensures { λ r. ⌜ (r ≡ pos + 2 * n) × (now (out .exit) ≡ sets (now (out .entry)) pos (flat (renumbered (mapEntries (now (map .entry))) (words (now (src .entry)) at n)))) ⌝ }
+    requires { ⌜ (at + 2 * n < 0x1_0000_0000_0000) × (pos + 2 * n < 0x1_0000_0000_0000) × Ascends (now map) ⌝ }
+    ensures { λ r. ⌜ Wrote (now (out .entry)) pos (renumbered (mapEntries (now (map .entry))) (words (now (src .entry)) at n)) (now (out .exit)) r ⌝ }
 {
     let mut i = 0;
     while i < n {

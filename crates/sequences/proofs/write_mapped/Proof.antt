@@ -1,9 +1,8 @@
 use borrow.Author.Needs.{needs}
-use mathlib.Core.Path.{refl, ap, _∙_}
+use mathlib.Core.Path.{refl}
 use Prim.Native.Nat.{_-_}
-use lib.ListN.{length}
-use lib.Seq.{length-sets}
 use Rattle.meaning.specs.Maps.{mapEntries}
+use Rattle.laws.specs.Written.{wrote-length}
 use Rattle.sequences.proofs.Laws.{Renumbering, renumbering-all, renumbering-turn, renumbering-end}
 use Rattle.sequences.proofs.write_mapped.Statement.{statement}
 use Rattle.sequences.proofs.write_mapped.Tie as tie
@@ -26,10 +25,10 @@ loop-again c =
     renumbering-turn (t .before .loop .inv) (t .loop-test .taken) (w .word-at .ensures .0) (m .new-number .ensures) (p .put .ensures .1)
 
 same-length : tie.Need-same-length Inv-loop μ-loop
-same-length c = ap length (renumbering-end (c .before .loop .inv) (c .loop-test .left)) ∙ simp length-sets
+same-length c = wrote-length (renumbering-end (c .before .loop .inv) (c .loop-test .left) refl)
 
 returns : tie.Need-returns Inv-loop μ-loop
-returns c = (refl, renumbering-end (c .before .loop .inv) (c .loop-test .left))
+returns c = renumbering-end (c .before .loop .inv) (c .loop-test .left) refl
 
 pub write-mapped-spec : {M : Type 1} → statement M
 write-mapped-spec =
