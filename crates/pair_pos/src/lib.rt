@@ -1,0 +1,32 @@
+// Pair sets and value formats of pair positioning: checked, sized and written.
+use wire::word_at;
+ghost use mathlib.Core.Path.{_≡_};
+ghost use mathlib.Core.Bool.{true};
+ghost use Prim.Native.Nat.{_≤_, _<_};
+ghost use Rattle.meaning.specs.Words.{words};
+ghost use Rattle.meaning.specs.Tables.{fieldCount, field};
+ghost use Rattle.pair_pos.specs.Fields.{isField};
+
+// The value formats of the first and of the second glyph of each pair.
+pub struct Formats {
+    pub first: usize,
+    pub second: usize,
+}
+
+// How many fields a value record of the format `f` has: one for each set bit of the lower eight.
+pub fn field_count(f: usize) -> usize
+    ensures { λ r. ⌜ (r ≡ fieldCount f) × (r ≤ 8) ⌝ }
+{
+    f % 2 + f / 2 % 2 + f / 4 % 2 + f / 8 % 2 + f / 16 % 2 + f / 32 % 2 + f / 64 % 2 + f / 128 % 2
+}
+
+// The field `k` (1, 2, 4 or 8) of the value record of format `f` that stands at `at`; 0 where the format has no such field.
+pub fn field_at(src: &[u8], at: usize, f: usize, k: usize) -> usize
+    requires { ⌜ (at < 0x1_0000_0000_0000) × (isField k ≡ true) ⌝ }
+    ensures { λ r. ⌜ (r ≡ field f (words (now (src .entry)) at (fieldCount f)) k) × (r < 65536) ⌝ }
+{
+    if f / k % 2 != 1 {
+        return 0;
+    }
+    word_at(src, at + 2 * field_count(f % k))
+}
