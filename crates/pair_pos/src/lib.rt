@@ -1,10 +1,15 @@
 // Pair sets and value formats of pair positioning: checked, sized and written.
+use wire::Fault;
+use wire::ascending;
+use wire::inside;
 use wire::word_at;
 ghost use mathlib.Core.Path.{_≡_};
 ghost use mathlib.Core.Bool.{true};
-ghost use Prim.Native.Nat.{_≤_, _<_};
+ghost use Prim.Native.Nat.{_+_, _*_, _≤_, _<_};
 ghost use Rattle.meaning.specs.Words.{words};
 ghost use Rattle.meaning.specs.Tables.{fieldCount, field};
+ghost use Rattle.meaning.specs.Fault.{pairSetFault};
+ghost use Rattle.wire.specs.Fault.{faultOf};
 ghost use Rattle.pair_pos.specs.Fields.{isField};
 
 // The value formats of the first and of the second glyph of each pair.
@@ -29,4 +34,30 @@ pub fn field_at(src: &[u8], at: usize, f: usize, k: usize) -> usize
         return 0;
     }
     word_at(src, at + 2 * field_count(f % k))
+}
+
+// How many bytes a pair record takes: the second glyph and the fields of both value records.
+fn pair_size(formats: Formats) -> usize
+    ensures { λ r. ⌜ (r ≡ 2 + 2 * fieldCount (formats .first) + 2 * fieldCount (formats .second)) × (r ≤ 34) ⌝ }
+{
+    2 + 2 * field_count(formats.first) + 2 * field_count(formats.second)
+}
+
+// Where the pair set at `at` is faulty: at its start, if it does not lie inside the source or its second glyphs do not ascend.
+pub fn check_set(src: &[u8], at: usize, formats: Formats) -> Fault
+    requires { ⌜ at < 0x1_0000_0000 ⌝ }
+    ensures { λ r. ⌜ r ≡ faultOf (pairSetFault (fieldCount (formats .first)) (fieldCount (formats .second)) (now (src .entry)) at) ⌝ }
+{
+    if !inside(src, at, 2) {
+        return Fault::At(at);
+    }
+    let n = word_at(src, at);
+    let size = pair_size(formats);
+    if !inside(src, at + 2, size * n) {
+        return Fault::At(at);
+    }
+    if !ascending(src, at + 2, n, size) {
+        return Fault::At(at);
+    }
+    Fault::Sound
 }
