@@ -9,24 +9,22 @@ use lib.Dec.{eqb}
 use Rattle.meaning.specs.Words.{isSome, mapSome}
 use Rattle.meaning.specs.Tables.{Pair, field, fieldCount, pairSet}
 use Rattle.meaning.specs.Cut.{unlessEmpty, cutPair, cutPairs, used, keepIf, newFormat, thinPair}
-use Rattle.pair_pos.specs.declared.Formats.{Formats}
 
--- the pairs of the set at `at` in a source s with these formats
-abbrev pub pairsOf : Formats → List ℕ → ℕ → List Pair
-pairsOf formats s at = pairSet (fieldCount (formats .first)) (fieldCount (formats .second)) s at
+-- f1 and f2 are the formats of the value records of the first and of the second glyph, n1 and n2 the new ones, and g is the glyph map.
 
--- those whose second glyph the glyph map g retains, with its new number
-abbrev pub pairsLeft : List (ℕ × ℕ) → Formats → List ℕ → ℕ → List Pair
-pairsLeft g formats s at = mapSome (cutPair g) (pairsOf formats s at)
+-- the pairs of the set that stands at `at` in the source s
+abbrev pub pairsOf : ℕ → ℕ → List ℕ → ℕ → List Pair
+pairsOf f1 f2 s at = pairSet (fieldCount f1) (fieldCount f2) s at
+
+-- those whose second glyph is retained, with its new number
+abbrev pub pairsLeft : List (ℕ × ℕ) → ℕ → ℕ → List ℕ → ℕ → List Pair
+pairsLeft g f1 f2 s at = mapSome (cutPair g) (pairsOf f1 f2 s at)
 
 -- the same with the new formats' fields only
-abbrev pub pairsThin : List (ℕ × ℕ) → Formats → Formats → List ℕ → ℕ → List Pair
-pairsThin g old new s at = map (thinPair (old .first) (old .second) (new .first) (new .second)) (pairsLeft g old s at)
+abbrev pub pairsThin : List (ℕ × ℕ) → ℕ → ℕ → ℕ → ℕ → List ℕ → ℕ → List Pair
+pairsThin g f1 f2 n1 n2 s at = map (thinPair f1 f2 n1 n2) (pairsLeft g f1 f2 s at)
 
--- the format of the first glyph's value record (false) or of the second's (true), and the record itself
-abbrev pub formatOf : Bool → Formats → ℕ
-formatOf second formats = cond second (formats .second) (formats .first)
-
+-- the value record of the second glyph, or of the first
 abbrev pub valuesOf : Bool → Pair → List ℕ
 valuesOf second p = cond second (p .second-values) (p .first-values)
 

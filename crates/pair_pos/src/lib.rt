@@ -1,4 +1,6 @@
 // Pair sets and value formats of pair positioning: checked, sized and written.
+use maps::Found;
+use maps::find;
 use wire::Fault;
 use wire::ascending;
 use wire::inside;
@@ -6,17 +8,14 @@ use wire::word_at;
 ghost use mathlib.Core.Path.{_≡_};
 ghost use mathlib.Core.Bool.{true};
 ghost use Prim.Native.Nat.{_+_, _*_, _≤_, _<_};
-ghost use Rattle.meaning.specs.Words.{words};
+ghost use Rattle.meaning.specs.Words.{words, isSome, ascends, keys};
+ghost use Rattle.meaning.specs.Maps.{mapEntries};
 ghost use Rattle.meaning.specs.Tables.{fieldCount, field};
 ghost use Rattle.meaning.specs.Fault.{pairSetFault};
+ghost use Rattle.meaning.specs.Cut.{cutPairs};
 ghost use Rattle.wire.specs.Fault.{faultOf};
 ghost use Rattle.pair_pos.specs.Fields.{isField};
-
-// The value formats of the first and of the second glyph of each pair.
-pub struct Formats {
-    pub first: usize,
-    pub second: usize,
-}
+ghost use Rattle.pair_pos.specs.Pairs.{pairsOf};
 
 // How many fields a value record of the format `f` has: one for each set bit of the lower eight.
 pub fn field_count(f: usize) -> usize
@@ -37,22 +36,22 @@ pub fn field_at(src: &[u8], at: usize, f: usize, k: usize) -> usize
 }
 
 // How many bytes a pair record takes: the second glyph and the fields of both value records.
-fn pair_size(formats: Formats) -> usize
-    ensures { λ r. ⌜ (r ≡ 2 + 2 * fieldCount (formats .first) + 2 * fieldCount (formats .second)) × (r ≤ 34) ⌝ }
+fn pair_size(f1: usize, f2: usize) -> usize
+    ensures { λ r. ⌜ (r ≡ 2 + 2 * fieldCount f1 + 2 * fieldCount f2) × (r ≤ 34) ⌝ }
 {
-    2 + 2 * field_count(formats.first) + 2 * field_count(formats.second)
+    2 + 2 * field_count(f1) + 2 * field_count(f2)
 }
 
 // Where the pair set at `at` is faulty: at its start, if it does not lie inside the source or its second glyphs do not ascend.
-pub fn check_set(src: &[u8], at: usize, formats: Formats) -> Fault
+pub fn check_set(src: &[u8], at: usize, f1: usize, f2: usize) -> Fault
     requires { ⌜ at < 0x1_0000_0000 ⌝ }
-    ensures { λ r. ⌜ r ≡ faultOf (pairSetFault (fieldCount (formats .first)) (fieldCount (formats .second)) (now (src .entry)) at) ⌝ }
+    ensures { λ r. ⌜ r ≡ faultOf (pairSetFault (fieldCount f1) (fieldCount f2) (now (src .entry)) at) ⌝ }
 {
     if !inside(src, at, 2) {
         return Fault::At(at);
     }
     let n = word_at(src, at);
-    let size = pair_size(formats);
+    let size = pair_size(f1, f2);
     if !inside(src, at + 2, size * n) {
         return Fault::At(at);
     }
@@ -60,4 +59,22 @@ pub fn check_set(src: &[u8], at: usize, formats: Formats) -> Fault
         return Fault::At(at);
     }
     Fault::Sound
+}
+
+// Whether a pair of the set at `at` survives: its second glyph is retained.
+pub fn set_survives(src: &[u8], at: usize, f1: usize, f2: usize, glyphs: &[u8]) -> bool
+    requires { ⌜ (at < 0x1_0000_0000) × (ascends (keys (mapEntries (now glyphs))) ≡ true) ⌝ }
+    ensures { λ r. ⌜ r ≡ isSome (cutPairs (mapEntries (now (glyphs .entry))) (pairsOf f1 f2 (now (src .entry)) at)) ⌝ }
+{
+    let size = pair_size(f1, f2);
+    let mut p = at + 2;
+    let mut left = word_at(src, at);
+    'pairs: while 0 < left {
+        if let Found::New(_) = find(glyphs, word_at(src, p)) {
+            return true;
+        }
+        p += size;
+        left -= 1;
+    }
+    false
 }
