@@ -16,6 +16,10 @@ use Rattle.laws.specs.Left.{words-at}
 abbrev pub isField : ℕ → Bool
 isField k = eqb k 1 || (eqb k 2 || (eqb k 4 || eqb k 8))
 
+-- where the field k stands, if the value record of the format f starts at `start`; 0 where the format has no such field
+unfoldable pub fieldPlace : ℕ → ℕ → ℕ → ℕ
+fieldPlace start f k = cond (eqb (bit f k) 1) (start + 2 * fieldsBelow f k) 0
+
 -- a format has at most eight fields
 pub count-small : (f : ℕ) → fieldCount f ≤ 8
 unfolding bit fieldCount
@@ -84,3 +88,33 @@ module _ (f k : ℕ) where
   pub field-absent : (f / k % 2 ≡ 1 → ⊥) → (vs : List ℕ) → 0 ≡ field f vs k
   unfolding bit field
   field-absent b vs = rw (ne-eqb (bit f k) 1 b)
+
+module _ (start f k : ℕ) where
+  -- the two ways to the place
+  pub place-is : f / k % 2 ≡ 1 → {n : ℕ} → n ≡ fieldCount (f % k) → start + 2 * n ≡ fieldPlace start f k
+  unfolding bit fieldsBelow fieldPlace
+  place-is b e = rw (eq-eqb (bit f k) 1 b, e)
+
+  pub place-none : (f / k % 2 ≡ 1 → ⊥) → 0 ≡ fieldPlace start f k
+  unfolding bit fieldPlace
+  place-none b = rw (ne-eqb (bit f k) 1 b)
+
+  -- what a place says: 0, that the field reads as 0; another one, that the field is the word there
+  pub read-none : 0 < start → fieldPlace start f k ≡ 0 → (vs : List ℕ) → field f vs k ≡ 0
+  unfolding fieldPlace field
+  read-none h e vs = step (eqb (bit f k) 1) e
+    where
+      step : (b : Bool) → cond b (start + 2 * fieldsBelow f k) 0 ≡ 0 → cond b (getD vs (fieldsBelow f k) 0) 0 ≡ 0
+      step true e = absurd (omega arith)
+      step false e = refl
+
+  pub read-there : isField k ≡ true → (fieldPlace start f k ≡ 0 → ⊥) → (s : List ℕ) (p : ℕ) → field f (words s (p + start) (fieldCount f)) k ≡ word s (p + fieldPlace start f k)
+  unfolding fieldPlace field
+  read-there h e s p = step (eqb (bit f k) 1) refl e
+    where
+      step : (b : Bool) → eqb (bit f k) 1 ≡ b → (cond b (start + 2 * fieldsBelow f k) 0 ≡ 0 → ⊥)
+          → cond b (getD (words s (p + start) (fieldCount f)) (fieldsBelow f k) 0) 0 ≡ word s (p + cond b (start + 2 * fieldsBelow f k) 0)
+      step true g e =
+          let q : p + (start + 2 * fieldsBelow f k) ≡ p + start + 2 * fieldsBelow f k = omega arith in
+          rw q (words-at s (p + start) (fieldCount f) (fieldsBelow f k) (below-count f k h (eqb-true (bit f k) 1 g)))
+      step false g e = absurd (e refl)
