@@ -1,0 +1,148 @@
+// Pair sets and value formats of pair positioning: checked, sized and written.
+use maps::Found;
+use maps::find;
+use wire::Fault;
+use wire::ascending;
+use wire::inside;
+use wire::word_at;
+ghost use mathlib.Core.Path.{_≡_};
+ghost use mathlib.Core.Bool.{true, cond, _&&_, not};
+ghost use Prim.Native.Nat.{_+_, _*_, _≤_, _<_};
+ghost use lib.Dec.{eqb};
+ghost use Rattle.meaning.specs.Words.{word, words, find, isSome, ascends, keys};
+ghost use Rattle.meaning.specs.Maps.{mapEntries};
+ghost use Rattle.meaning.specs.Tables.{fieldCount, field};
+ghost use Rattle.meaning.specs.Fault.{pairSetFault};
+ghost use Rattle.meaning.specs.Cut.{cutPairs};
+ghost use Rattle.wire.specs.Fault.{faultOf};
+ghost use Rattle.pair_pos.specs.Fields.{isField, fieldPlace};
+ghost use Rattle.pair_pos.specs.Pairs.{pairsOf, pairsLeft, valuesOf, usedIn};
+
+// How many fields a value record of the format `f` has: one for each set bit of the lower eight.
+pub fn field_count(f: usize) -> usize
+    ensures { λ r. ⌜ (r ≡ fieldCount f) × (r ≤ 8) ⌝ }
+{
+    f % 2 + f / 2 % 2 + f / 4 % 2 + f / 8 % 2 + f / 16 % 2 + f / 32 % 2 + f / 64 % 2 + f / 128 % 2
+}
+
+// The field `k` (1, 2, 4 or 8) of the value record of format `f` that stands at `at`; 0 where the format has no such field.
+pub fn field_at(src: &[u8], at: usize, f: usize, k: usize) -> usize
+    requires { ⌜ (at < 0x1_0000_0000_0000) × (isField k ≡ true) ⌝ }
+    ensures { λ r. ⌜ (r ≡ field f (words (now (src .entry)) at (fieldCount f)) k) × (r < 65536) ⌝ }
+{
+    if f / k % 2 != 1 {
+        return 0;
+    }
+    word_at(src, at + 2 * field_count(f % k))
+}
+
+// How many bytes a pair record takes: the second glyph and the fields of both value records.
+fn pair_size(f1: usize, f2: usize) -> usize
+    ensures { λ r. ⌜ (r ≡ 2 + 2 * fieldCount f1 + 2 * fieldCount f2) × (r ≤ 34) ⌝ }
+{
+    2 + 2 * field_count(f1) + 2 * field_count(f2)
+}
+
+// Where the pair set at `at` is faulty: at its start, if it does not lie inside the source or its second glyphs do not ascend.
+pub fn check_set(src: &[u8], at: usize, f1: usize, f2: usize) -> Fault
+    requires { ⌜ at < 0x1_0000_0000 ⌝ }
+    ensures { λ r. ⌜ r ≡ faultOf (pairSetFault (fieldCount f1) (fieldCount f2) (now (src .entry)) at) ⌝ }
+{
+    if !inside(src, at, 2) {
+        return Fault::At(at);
+    }
+    let n = word_at(src, at);
+    let size = pair_size(f1, f2);
+    if !inside(src, at + 2, size * n) {
+        return Fault::At(at);
+    }
+    if !ascending(src, at + 2, n, size) {
+        return Fault::At(at);
+    }
+    Fault::Sound
+}
+
+// Whether a pair of the set at `at` survives: its second glyph is retained.
+pub fn set_survives(src: &[u8], at: usize, f1: usize, f2: usize, glyphs: &[u8]) -> bool
+    requires { ⌜ (at < 0x1_0000_0000) × (ascends (keys (mapEntries (now glyphs))) ≡ true) ⌝ }
+    ensures { λ r. ⌜ r ≡ isSome (cutPairs (mapEntries (now (glyphs .entry))) (pairsOf f1 f2 (now (src .entry)) at)) ⌝ }
+{
+    let size = pair_size(f1, f2);
+    let mut p = at + 2;
+    let mut left = word_at(src, at);
+    'pairs: while 0 < left {
+        if let Found::New(_) = find(glyphs, word_at(src, p)) {
+            return true;
+        }
+        p += size;
+        left -= 1;
+    }
+    false
+}
+
+// Where the field `k` stands, if the value record of format `f` starts at `start`; 0 where the format has no such field.
+fn field_place(start: usize, f: usize, k: usize) -> usize
+    requires { ⌜ (start ≤ 18) × (isField k ≡ true) ⌝ }
+    ensures { λ r. ⌜ (r ≡ fieldPlace start f k) × (r ≤ 34) ⌝ }
+{
+    if f / k % 2 != 1 {
+        return 0;
+    }
+    start + 2 * field_count(f % k)
+}
+
+// How many bytes into a pair record the field `k` of the first or of the second value record stands; 0 where its format has no such field.
+fn place_in_pair(f1: usize, f2: usize, second: bool, k: usize) -> usize
+    requires { ⌜ isField k ≡ true ⌝ }
+    ensures { λ r. ⌜ (r ≡ fieldPlace (cond second (2 + 2 * fieldCount f1) 2) (cond second f2 f1) k) × (r ≤ 34) ⌝ }
+{
+    if second {
+        return field_place(2 + 2 * field_count(f1), f2, k);
+    }
+    field_place(2, f1, k)
+}
+
+// Whether the word that stands `place` bytes into the pair record at `p` is not 0, and the pair survives.
+fn speaks(src: &[u8], p: usize, place: usize, glyphs: &[u8]) -> bool
+    requires { ⌜ (p < 0x1_0000_0000_0000) × (place ≤ 34) × (ascends (keys (mapEntries (now glyphs))) ≡ true) ⌝ }
+    ensures { λ r. ⌜ r ≡ not (eqb (word (now (src .entry)) (p + place)) 0) && isSome (find (mapEntries (now (glyphs .entry))) (word (now (src .entry)) p)) ⌝ }
+{
+    if word_at(src, p + place) == 0 {
+        return false;
+    }
+    match find(glyphs, word_at(src, p)) {
+        Found::New(_) => true,
+        Found::Gone => false,
+    }
+}
+
+// Whether some surviving pair of the set at `at` has the field `k` (1, 2, 4 or 8) nonzero in the value record of its first glyph, or of its second.
+pub fn set_uses(
+    src: &[u8],
+    at: usize,
+    f1: usize,
+    f2: usize,
+    second: bool,
+    k: usize,
+    glyphs: &[u8],
+) -> bool
+    requires { ⌜ (at < 0x1_0000_0000) × (isField k ≡ true) × (ascends (keys (mapEntries (now glyphs))) ≡ true) ⌝ }
+    ensures { λ r. ⌜ r ≡ usedIn (valuesOf second) (cond second f2 f1) k (pairsLeft (mapEntries (now (glyphs .entry))) f1 f2 (now (src .entry)) at) ⌝ }
+{
+    let place = place_in_pair(f1, f2, second, k);
+    if place == 0 {
+        return false;
+    }
+    let size = pair_size(f1, f2);
+    let start = at + 2;
+    let mut p = start;
+    let mut left = word_at(src, at);
+    'pairs: while 0 < left {
+        if speaks(src, p, place, glyphs) {
+            return true;
+        }
+        p += size;
+        left -= 1;
+    }
+    false
+}
