@@ -1,1 +1,2 @@
 pub mod Retained
+pub mod Cover
