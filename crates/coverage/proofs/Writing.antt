@@ -18,7 +18,7 @@ use Rattle.laws.specs.Left.{words-left, words-all, words-none, words-length}
 use Rattle.laws.specs.RunsLeft.{goesOn, from, runs-begin, runs-on, runs-end, runs-on-count, runs-end-count, on-next}
 use Rattle.laws.specs.Written.{Wrote, wrote-none, wrote-two, wrote-more}
 use Rattle.laws.specs.ToWrite.{ToWrite, write-all, write-said, write-one, write-three, write-end}
-use Rattle.coverage.specs.Glyphs.{glyphsOf, glyphsFrom, classless, glyphRuns, CountsRuns}
+use Rattle.coverage.specs.Glyphs.{glyphsOf, glyphsFrom, classless, onward, glyphRuns, CountsRuns}
 
 -- Glyphs from the front.
 
@@ -47,12 +47,12 @@ and-true false = refl
 
 module _ (s : List ℕ) (i : ℕ) where
   -- the last glyph ends its run; another does where the next glyph is no neighbour
-  pub onward-last : length s / 2 ≤ i + 1 → false ≡ goesOn (word s (2 * i)) 0 (classless (glyphsFrom s (i + 1)))
+  pub onward-last : length s / 2 ≤ i + 1 → false ≡ onward s i
   unfolding goesOn
   onward-last h = rw (glyphs-none s (i + 1) h)
 
   pub onward-next : {x y : ℕ} → i + 1 < length s / 2 → x ≡ word s (2 * i) → y ≡ word s (2 * (i + 1))
-      → eqb (x + 1) y ≡ goesOn (word s (2 * i)) 0 (classless (glyphsFrom s (i + 1)))
+      → eqb (x + 1) y ≡ onward s i
   unfolding goesOn
   onward-next h e f = rw (glyphs-left s (i + 1) h, e, f) (and-true _)
 
@@ -66,7 +66,7 @@ module _ {s : List ℕ} where
   pub counting-all : Counting s 0 0
   counting-all = record { within = omega arith; near = omega arith; left = rw (glyphs-all s) (omega arith) }
 
-  module _ {count i : ℕ} {b : Bool} (k : Counting s count i) (h : i < length s / 2) (e : b ≡ goesOn (word s (2 * i)) 0 (classless (glyphsFrom s (i + 1)))) where
+  module _ {count i : ℕ} {b : Bool} (k : Counting s count i) (h : i < length s / 2) (e : b ≡ onward s i) where
     pub counting-on : b ≡ true → Counting s count (i + 1)
     counting-on f =
         let d = ap (λ (gs : List ℕ). length (glyphRuns gs)) (glyphs-left s i h) ∙ runs-on-count (word s (2 * i)) 0 (classless (glyphsFrom s (i + 1))) (sym e ∙ f) in
@@ -98,7 +98,7 @@ module _ {s out₀ : List ℕ} {at : ℕ} where
   listing-turn {i = i} k h e f = record {
     within = omega arith;
     near = omega (arith, k .near);
-    left = write-one (write-said (k .left) (rw (e) (glyphs-left s i h))) f;
+    left = write-one (write-said (k .left) (rw e (glyphs-left s i h))) f;
   }
 
   pub listing-end : {out : List ℕ} {p i : ℕ} → Listing s out₀ at out p i → length s / 2 ≤ i → Wrote out₀ at (glyphsOf s) out p
@@ -124,7 +124,7 @@ module _ {s out₀ : List ℕ} {at : ℕ} where
   }
 
   module _ {out : List ℕ} {p first i : ℕ} {b : Bool} (k : Ranging s out₀ at out p first i) (h : i < length s / 2)
-      (e : b ≡ goesOn (word s (2 * i)) 0 (classless (glyphsFrom s (i + 1)))) where
+      (e : b ≡ onward s i) where
     -- the glyph's run stays open
     pub ranging-on : b ≡ true → Ranging s out₀ at out p first (i + 1)
     ranging-on f =

@@ -8,17 +8,16 @@ use wire::put_record;
 use wire::word_at;
 ghost use mathlib.Core.Path.{_≡_};
 ghost use mathlib.Core.Bool.{true, _&&_};
-ghost use Prim.Native.Nat.{_+_, _-_, _*_, _/_, _<_};
+ghost use Prim.Native.Nat.{_+_, _*_, _/_, _<_};
 ghost use lib.ListN.{length};
 ghost use lib.Dec.{leb, eqb};
-ghost use Rattle.meaning.specs.Words.{word, words, triples, threes};
+ghost use Rattle.meaning.specs.Words.{triples, threes};
 ghost use Rattle.meaning.specs.Parts.{rangeGlyphs, rangesAscend, rangesCount, coverage, coverageSound};
 ghost use Rattle.meaning.specs.Fault.{coverageFault};
 ghost use Rattle.meaning.specs.Layout.{indexed, coverageWords};
-ghost use Rattle.laws.specs.RunsLeft.{goesOn};
 ghost use Rattle.laws.specs.Written.{Wrote};
 ghost use Rattle.wire.specs.Fault.{faultOf};
-ghost use Rattle.coverage.specs.Glyphs.{glyphsFrom, glyphsOf, classless, glyphRuns, CountsRuns};
+ghost use Rattle.coverage.specs.Glyphs.{glyphsOf, onward, glyphRuns, CountsRuns};
 ghost use Rattle.coverage.specs.Answers.{Counts, Gives, SoundRanges};
 
 // Whether the range from `first` to `last` may stand where `low` is the lowest glyph that is left, and its index is the number of glyphs before it.
@@ -143,7 +142,7 @@ pub fn glyph_at(src: &[u8], at: usize, i: usize) -> usize
 // Whether the run that holds the `i`-th of the glyphs goes on with the next one.
 fn goes_on(glyphs: &[u8], i: usize) -> bool
     requires { ⌜ i < length (now glyphs) / 2 ⌝ }
-    ensures { λ r. ⌜ r ≡ goesOn (word (now (glyphs .entry)) (2 * i)) 0 (classless (glyphsFrom (now (glyphs .entry)) (i + 1))) ⌝ }
+    ensures { λ r. ⌜ r ≡ onward (now (glyphs .entry)) i ⌝ }
 {
     if glyphs.len() / 2 <= i + 1 {
         return false;
@@ -209,17 +208,14 @@ fn put_ranges(glyphs: &[u8], out: &mut [u8], at: usize) -> usize
     let mut first = 0;
     let mut i = 0;
     while i < glyphs.len() / 2 {
+        let next = i + 1;
         if !goes_on(glyphs, i) {
-            p = put_record(
-                out,
-                p,
-                word_at(glyphs, 2 * first),
-                word_at(glyphs, 2 * i),
-                first,
-            );
-            first = i + 1;
+            let start = word_at(glyphs, 2 * first);
+            let end = word_at(glyphs, 2 * i);
+            p = put_record(out, p, start, end, first);
+            first = next;
         }
-        i += 1;
+        i = next;
     }
     p
 }

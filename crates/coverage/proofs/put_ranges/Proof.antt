@@ -1,4 +1,3 @@
-use mathlib.Core.Logic.{⊎-elim}
 use Prim.Native.Nat.{_-_, _/_}
 use lib.ListN.{length}
 use borrow.Author.Needs.{needs}
@@ -19,12 +18,18 @@ loop-holds c = ranging-all
 
 loop-again : tie.Need-loop-again Inv-loop μ-loop
 loop-again c =
+    let w = c .before .before in
+    let z = w .before .before in
+    let a = z .before in
+    let g = a .before .before in
+    let l = g .before in
+    ranging-ends (l .before .loop .inv) (l .loop-test .taken) (g .goes-on .ensures) (not-true _ (a .before .if1 .taken)) (a .word-at .ensures .0) (z .word-at2 .ensures .0) (w .put-record .ensures)
+
+loop-again-2 : tie.Need-loop-again-2 Inv-loop μ-loop
+loop-again-2 c =
     let g = c .before in
     let l = g .before in
-    ⊎-elim
-    (λ w. rw (w .7, w .8, w .9) (ranging-ends (l .before .loop .inv) (l .loop-test .taken) (g .goes-on .ensures) (not-true _ (w .0 .taken)) (w .2 .ensures .0) (w .3 .ensures .0) (w .4 .ensures)))
-    (λ w. rw (w .1, w .2, w .3) (ranging-on (l .before .loop .inv) (l .loop-test .taken) (g .goes-on .ensures) (not-false _ (w .0 .left))))
-    (c .if1 .came)
+    ranging-on (l .before .loop .inv) (l .loop-test .taken) (g .goes-on .ensures) (not-false _ (c .if1 .left))
 
 same-length : tie.Need-same-length Inv-loop μ-loop
 same-length c = wrote-length (ranging-end (c .before .loop .inv) (c .loop-test .left))
@@ -39,15 +44,16 @@ put-ranges-spec =
     Inv-loop
     μ-loop
     loop-holds
-    (λ c κs. search needs)
     (λ c. search needs)
     (λ c κs. search needs)
     (λ c. search needs)
     (λ c κs. search needs)
+    (λ c. search needs)
     (λ c κs. search needs)
-    (λ c. search needs)
-    (λ c. search needs)
+    (λ c κs. search needs)
     (λ c. search needs)
     loop-again
+    (λ c. search needs)
+    loop-again-2
     same-length
     returns)
