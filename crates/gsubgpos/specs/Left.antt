@@ -1,7 +1,7 @@
 -- What is left of sequences, rules and sets of rules, where the maps are lent bytes.
 use Prim.Native.Nat.{ℕ}
-use mathlib.Core.Path.{_≡_, refl, ap, _∙_}
-use mathlib.Core.Bool.{Bool, true, false, cond, _&&_, not}
+use mathlib.Core.Path.{_≡_, refl, sym, ap, _∙_}
+use mathlib.Core.Bool.{Bool, true, false, cond, _&&_, not, true≢false}
 use mathlib.Core.Option.{Option, none, some}
 use mathlib.Core.List.{List, [], _∷_}
 use lib.Dec.{eqb}
@@ -60,3 +60,76 @@ survivors m (w ∷ ws) = step (find m w) (mapAll (find m) ws) (survivors m ws)
     step none p e = refl
     step (some n) none e = refl
     step (some n) (some vs) e = ap (λ (q : Option (List ℕ)). bind q (λ bs. some (n ∷ bs))) e
+
+-- a rule with this glyph count can stay: a plain one with count 0 goes
+abbrev pub countStays : Bool → ℕ → Bool
+countStays chained count = not (not chained && eqb count 0)
+
+-- a rule with its new numbers, and with those of its records whose lookup stays
+unfoldable pub renumberedRule : RuleMaps → Rule → Rule
+renumberedRule m r =
+    record {
+      back = renumbered (m .back) (r .back);
+      count = r .count;
+      input = renumbered (m .input) (r .input);
+      ahead = renumbered (m .ahead) (r .ahead);
+      records = cutRecords (m .lookups) (r .records);
+    }
+
+-- a rule stays if its count lets it and each of its three sequences survives; its records have no say in it
+unfoldable pub stays : Bool → RuleMaps → Rule → Bool
+stays chained m r =
+    countStays chained (r .count)
+    && (isSome (mapAll (find (m .back)) (r .back)) && (isSome (mapAll (find (m .input)) (r .input)) && isSome (mapAll (find (m .ahead)) (r .ahead))))
+
+-- what is left of a rule
+pub cut-rule : (chained : Bool) (m : RuleMaps) (r : Rule) → cutRule chained m r ≡ cond (stays chained m r) (some (renumberedRule m r)) none
+unfolding cutRule bind isSome stays renumberedRule
+cut-rule chained m r =
+    step (not chained && eqb (r .count) 0) (mapAll (find (m .back)) (r .back)) (mapAll (find (m .input)) (r .input)) (mapAll (find (m .ahead)) (r .ahead))
+    (survivors (m .back) (r .back)) (survivors (m .input) (r .input)) (survivors (m .ahead) (r .ahead))
+  where
+    made : List ℕ → List ℕ → List ℕ → Option Rule
+    made b i a = some (record { back = b; count = r .count; input = i; ahead = a; records = cutRecords (m .lookups) (r .records) })
+
+    step : (goes : Bool) (o p q : Option (List ℕ)) → o ≡ cond (isSome o) (some (renumbered (m .back) (r .back))) none
+        → p ≡ cond (isSome p) (some (renumbered (m .input) (r .input))) none → q ≡ cond (isSome q) (some (renumbered (m .ahead) (r .ahead))) none
+        → cond goes none (bind o (λ b. bind p (λ i. bind q (λ a. made b i a))))
+        ≡ cond (not goes && (isSome o && (isSome p && isSome q))) (some (renumberedRule m r)) none
+    step true o p q e f g = refl
+    step false none p q e f g = refl
+    step false (some b) none q e f g = refl
+    step false (some b) (some i) none e f g = refl
+    step false (some b) (some i) (some a) e f g =
+        let x = renumbered (m .back) (r .back) in
+        let y = renumbered (m .input) (r .input) in
+        ap (λ o. bind o (λ b′. made b′ i a)) e ∙ ap (λ p. bind p (λ i′. made x i′ a)) f ∙ ap (λ q. bind q (λ a′. made x y a′)) g
+
+-- whether something is left of a rule
+pub rule-stays : (chained : Bool) (m : RuleMaps) (r : Rule) → isSome (cutRule chained m r) ≡ stays chained m r
+unfolding isSome
+rule-stays chained m r = ap isSome (cut-rule chained m r) ∙ step (stays chained m r)
+  where
+    step : (b : Bool) → isSome (cond b (some (renumberedRule m r)) none) ≡ b
+    step true = refl
+    step false = refl
+
+-- two ways to cut that leave something of the same members leave something of the same sets
+sets-alike : {A : Type 0} (f g : A → Option A) → ((a : A) → isSome (f a) ≡ isSome (g a)) → (xs : List A)
+    → isSome (unlessEmpty (mapSome f xs)) ≡ isSome (unlessEmpty (mapSome g xs))
+unfolding mapSome isSome unlessEmpty push
+sets-alike f g e [] = refl
+sets-alike {A = A} f g e (x ∷ xs) = step (f x) (g x) (e x) (sets-alike f g e xs)
+  where
+    step : (o p : Option A) → isSome o ≡ isSome p → isSome (unlessEmpty (mapSome f xs)) ≡ isSome (unlessEmpty (mapSome g xs))
+        → isSome (unlessEmpty (push o (mapSome f xs))) ≡ isSome (unlessEmpty (push p (mapSome g xs)))
+    step none none q h = h
+    step none (some b) q h = absurd (true≢false (sym q))
+    step (some a) none q h = absurd (true≢false q)
+    step (some a) (some b) q h = refl
+
+-- lookups have no say in whether something is left of a set
+pub lookups-silent : (chained : Bool) (b i a l k : List ℕ) (rs : List Rule) → isSome (cutSet chained (mapsOf b i a l) rs) ≡ isSome (cutSet chained (mapsOf b i a k) rs)
+unfolding cutSet stays
+lookups-silent chained b i a l k rs =
+    sets-alike (cutRule chained (mapsOf b i a l)) (cutRule chained (mapsOf b i a k)) (λ r. rule-stays chained (mapsOf b i a l) r ∙ sym (rule-stays chained (mapsOf b i a k) r)) rs

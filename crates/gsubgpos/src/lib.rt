@@ -17,9 +17,10 @@ ghost use Rattle.meaning.specs.Maps.{mapEntries};
 ghost use Rattle.meaning.specs.Tables.{rule};
 ghost use Rattle.meaning.specs.Fault.{ruleFault};
 ghost use Rattle.meaning.specs.Cut.{cutRecords, cutRule};
+ghost use Rattle.meaning.specs.Layout.{ruleWords};
 ghost use Rattle.laws.specs.Written.{Wrote};
 ghost use Rattle.wire.specs.Fault.{faultOf};
-ghost use Rattle.gsubgpos.specs.Left.{Ascends, NumbersAscend, AllAscend, mapsOf, ruleLeft, newOf, renumbered};
+ghost use Rattle.gsubgpos.specs.Left.{Ascends, NumbersAscend, AllAscend, mapsOf, ruleLeft, newOf, renumbered, countStays, renumberedRule};
 ghost use Rattle.gsubgpos.specs.Parts.{IsRule};
 
 // Numbers or records in a row: where the first stands, and how many there are.
@@ -203,4 +204,168 @@ pub fn check_rule(chained: bool, src: &[u8], at: usize) -> Fault
         return Fault::Sound;
     }
     Fault::At(at)
+}
+
+// Whether a rule with this glyph count can stay: a plain rule with count 0 goes, a chained one stays.
+fn count_stays(chained: bool, count: usize) -> bool
+    ensures { λ r. ⌜ r ≡ countStays chained count ⌝ }
+{
+    if chained {
+        return true;
+    }
+    count != 0
+}
+
+// Whether something is left of the rule at `at`: each number of its backtrack, its input and its lookahead has a new one. Its records have no say in it.
+pub fn rule_survives(
+    chained: bool,
+    src: &[u8],
+    at: usize,
+    back: &[u8],
+    input: &[u8],
+    ahead: &[u8],
+) -> bool
+    requires { ⌜ (at < 0x1000_0000_0000) × NumbersAscend (now back) (now input) (now ahead) ⌝ }
+    ensures { λ r. ⌜ r ≡ isSome (cutRule chained (mapsOf (now (back .entry)) (now (input .entry)) (now (ahead .entry)) []) (rule chained (now (src .entry)) at)) ⌝ }
+{
+    let r = rule_parts(chained, src, at);
+    if !count_stays(chained, r.count) {
+        return false;
+    }
+    if !sequence_survives(src, r.back.at, r.back.len, back) {
+        return false;
+    }
+    if !sequence_survives(src, r.input.at, r.input.len, input) {
+        return false;
+    }
+    sequence_survives(src, r.ahead.at, r.ahead.len, ahead)
+}
+
+// The bytes of a rule's counts: a chained rule has four, a plain one two.
+fn counts_size(chained: bool) -> usize
+    ensures { λ r. ⌜ (r ≡ cond chained 8 4) × (r ≤ 8) ⌝ }
+{
+    if chained {
+        return 8;
+    }
+    4
+}
+
+// The bytes of what is left of the rule at `at`; 0 if it goes.
+pub fn rule_size(
+    chained: bool,
+    src: &[u8],
+    at: usize,
+    back: &[u8],
+    input: &[u8],
+    ahead: &[u8],
+    lookups: &[u8],
+) -> usize
+    requires { ⌜ (at < 0x1000_0000_0000) × AllAscend (now back) (now input) (now ahead) (now lookups) ⌝ }
+    ensures { λ r. ⌜ (r ≡ 2 * length (ruleLeft chained (mapsOf (now (back .entry)) (now (input .entry)) (now (ahead .entry)) (now (lookups .entry))) (now (src .entry)) at)) × (r < 0x10_0000) ⌝ }
+{
+    if !rule_survives(chained, src, at, back, input, ahead) {
+        return 0;
+    }
+    let r = rule_parts(chained, src, at);
+    let kept = records_left(src, r.records.at, r.records.len, lookups);
+    counts_size(chained) + 2 * (r.back.len + r.input.len + r.ahead.len) + 4 * kept
+}
+
+// A count, and the new numbers of the `n` numbers from `at` on.
+fn write_counted(
+    count: usize,
+    src: &[u8],
+    at: usize,
+    n: usize,
+    map: &[u8],
+    out: &mut [u8],
+    pos: usize,
+) -> usize
+    requires { ⌜ (at + 2 * n < 0x1_0000_0000_0000) × (pos + 2 * n < 0x8000_0000_0000) × Ascends (now map) ⌝ }
+    ensures { λ r. ⌜ Wrote (now (out .entry)) pos (count ∷ renumbered (mapEntries (now (map .entry))) (words (now (src .entry)) at n)) (now (out .exit)) r ⌝ }
+{
+    let p = put(out, pos, count);
+    serialize_sequence(src, at, n, map, out, p)
+}
+
+// The number of those of the `n` records from `at` on whose lookup stays, and these, with its new number.
+fn write_records(
+    src: &[u8],
+    at: usize,
+    n: usize,
+    lookups: &[u8],
+    out: &mut [u8],
+    pos: usize,
+) -> usize
+    requires { ⌜ (at + 4 * n < 0x1_0000_0000_0000) × (pos + 4 * n < 0x8000_0000_0000) × Ascends (now lookups) ⌝ }
+    ensures { λ r. ⌜ Wrote (now (out .entry)) pos (length (cutRecords (mapEntries (now (lookups .entry))) (entries (now (src .entry)) at n)) ∷ twos (cutRecords (mapEntries (now (lookups .entry))) (entries (now (src .entry)) at n))) (now (out .exit)) r ⌝ }
+{
+    let k = records_left(src, at, n, lookups);
+    let p = put(out, pos, k);
+    serialize_lookup_records(src, at, n, lookups, out, p)
+}
+
+// The plain rule at `at` with its new numbers, from `pos` on; the place after it.
+fn write_plain(
+    src: &[u8],
+    at: usize,
+    input: &[u8],
+    lookups: &[u8],
+    out: &mut [u8],
+    pos: usize,
+) -> usize
+    requires { ⌜ (at < 0x1000_0000_0000) × (pos < 0x1000_0000_0000) × Ascends (now input) × Ascends (now lookups) ⌝ }
+    ensures { λ r. ⌜ Wrote (now (out .entry)) pos (ruleWords false (renumberedRule (mapsOf [] (now (input .entry)) [] (now (lookups .entry))) (rule false (now (src .entry)) at))) (now (out .exit)) r ⌝ }
+{
+    let r = plain_parts(src, at);
+    let k = records_left(src, r.records.at, r.records.len, lookups);
+    let p = put_entry(out, pos, r.count, k);
+    let q = serialize_sequence(src, r.input.at, r.input.len, input, out, p);
+    serialize_lookup_records(src, r.records.at, r.records.len, lookups, out, q)
+}
+
+// The chained rule at `at` with its new numbers, from `pos` on; the place after it.
+fn write_chained(
+    src: &[u8],
+    at: usize,
+    back: &[u8],
+    input: &[u8],
+    ahead: &[u8],
+    lookups: &[u8],
+    out: &mut [u8],
+    pos: usize,
+) -> usize
+    requires { ⌜ (at < 0x1000_0000_0000) × (pos < 0x1000_0000_0000) × AllAscend (now back) (now input) (now ahead) (now lookups) ⌝ }
+    ensures { λ r. ⌜ Wrote (now (out .entry)) pos (ruleWords true (renumberedRule (mapsOf (now (back .entry)) (now (input .entry)) (now (ahead .entry)) (now (lookups .entry))) (rule true (now (src .entry)) at))) (now (out .exit)) r ⌝ }
+{
+    let r = chained_parts(src, at);
+    let p = write_counted(r.back.len, src, r.back.at, r.back.len, back, out, pos);
+    let q = write_counted(r.count, src, r.input.at, r.input.len, input, out, p);
+    let t = write_counted(r.ahead.len, src, r.ahead.at, r.ahead.len, ahead, out, q);
+    write_records(src, r.records.at, r.records.len, lookups, out, t)
+}
+
+// What is left of the rule at `at`, from `pos` on, where there is room; the place after it. A rule that goes writes nothing.
+pub fn write_rule(
+    chained: bool,
+    src: &[u8],
+    at: usize,
+    back: &[u8],
+    input: &[u8],
+    ahead: &[u8],
+    lookups: &[u8],
+    out: &mut [u8],
+    pos: usize,
+) -> usize
+    requires { ⌜ (at < 0x1000_0000_0000) × (pos < 0x1000_0000_0000) × AllAscend (now back) (now input) (now ahead) (now lookups) ⌝ }
+    ensures { λ r. ⌜ Wrote (now (out .entry)) pos (ruleLeft chained (mapsOf (now (back .entry)) (now (input .entry)) (now (ahead .entry)) (now (lookups .entry))) (now (src .entry)) at) (now (out .exit)) r ⌝ }
+{
+    if !rule_survives(chained, src, at, back, input, ahead) {
+        return pos;
+    }
+    if chained {
+        return write_chained(src, at, back, input, ahead, lookups, out, pos);
+    }
+    write_plain(src, at, input, lookups, out, pos)
 }
