@@ -1,0 +1,22 @@
+-- What is left of ligatures and of sets of them, as the words that are written. g is a glyph map, as its bytes.
+use Prim.Native.Nat.{ℕ}
+use mathlib.Core.List.{List}
+use Rattle.meaning.specs.Words.{mapSome}
+use Rattle.meaning.specs.Maps.{mapEntries}
+use Rattle.meaning.specs.Tables.{Ligature, ligature, ligatureSet}
+use Rattle.meaning.specs.Cut.{cutLigature}
+use Rattle.meaning.specs.Layout.{ligatureWords, setWords}
+use Rattle.laws.specs.Members.{wordsLeft}
+
+-- the words of what is left of the ligature at `at`; one that goes has none
+unfoldable pub ligatureLeft : List ℕ → List ℕ → ℕ → List ℕ
+ligatureLeft g s at = wordsLeft ligatureWords (cutLigature (mapEntries g) (ligature s at))
+
+-- the ligatures that are left in the set at `at`
+unfoldable pub ligaturesLeft : List ℕ → List ℕ → ℕ → List Ligature
+ligaturesLeft g s at = mapSome (cutLigature (mapEntries g)) (ligatureSet s at)
+
+-- the words of what is left of the set at `at`
+unfoldable pub setLeft : List ℕ → List ℕ → ℕ → List ℕ
+unfolding ligaturesLeft
+setLeft g s at = setWords ligatureWords (ligaturesLeft g s at)
