@@ -1,15 +1,15 @@
 -- The ways through one ligature: checked, and left or gone.
 use Prim.Native.Nat.{ℕ, _+_, _-_, _*_, _≤_, _<_}
 use mathlib.Core.Path.{_≡_, refl, sym, ap, _∙_}
-use mathlib.Core.Bool.{Bool, true, false, _&&_, not}
-use mathlib.Core.Option.{Option, none, some}
+use mathlib.Core.Bool.{Bool, true, false, not}
+use mathlib.Core.Option.{none, some}
 use mathlib.Core.List.{List, [], _∷_}
 use native.Mathlib.Omega.{arith}
 use lib.ListN.{length}
 use lib.Seq.{sets}
 use Rattle.meaning.specs.Words.{word, words, flat, inside, find, bind, mapAll, isSome}
 use Rattle.meaning.specs.Maps.{mapEntries}
-use Rattle.meaning.specs.Tables.{Ligature, ligature}
+use Rattle.meaning.specs.Tables.{ligature}
 use Rattle.meaning.specs.Fault.{partFault, ligatureFault}
 use Rattle.meaning.specs.Cut.{cutLigature}
 use Rattle.meaning.specs.Layout.{ligatureWords}
@@ -28,16 +28,16 @@ module _ (s : List ℕ) (at : ℕ) where
   unfolding ligatureFault partFault
   fault-head e h = rw (refused e h)
 
-  module _ {b c : Bool} {n : ℕ} (e : b ≡ inside s at 4) (h : not b ≡ false) (f : n ≡ word s (at + 2) - 1) (g : c ≡ inside s (at + 4) (2 * n)) where
+  module _ {b c : Bool} {count n : ℕ} (e : b ≡ inside s at 4) (h : not b ≡ false) (f : count ≡ word s (at + 2)) (i : n ≡ count - 1) (g : c ≡ inside s (at + 4) (2 * n)) where
     -- one whose components do not
     pub fault-parts : not c ≡ true → At at ≡ faultOf (ligatureFault s at)
     unfolding ligatureFault partFault
-    fault-parts k = rw (passed e h, ← f, refused g k)
+    fault-parts k = rw (passed e h, ← f, ← i, refused g k)
 
     -- and one that lies inside
     pub fault-none : not c ≡ false → Sound ≡ faultOf (ligatureFault s at)
     unfolding ligatureFault partFault
-    fault-none k = rw (passed e h, ← f, passed g k)
+    fault-none k = rw (passed e h, ← f, ← i, passed g k)
 
 module _ (g s : List ℕ) (at : ℕ) where
   -- the ligature goes: its glyph is lost
@@ -45,32 +45,35 @@ module _ (g s : List ℕ) (at : ℕ) where
   unfolding ligatureLeft wordsLeft cutLigature ligature bind
   glyph-lost e f = rw (← e, f)
 
-  -- what takes no bytes is not written
-  pub nothing-wrote : {out : List ℕ} {pos : ℕ} → ligatureLeft g s at ≡ [] → Wrote out pos (ligatureLeft g s at) out pos
-  nothing-wrote e = wrote-said wrote-none (sym e)
+  -- one that goes takes no bytes, and writes nothing
+  pub nothing-size : ligatureLeft g s at ≡ [] → (0 ≡ 2 * length (ligatureLeft g s at)) × (0 ≤ 0x20000)
+  nothing-size e = (omega (arith, ap length e), omega arith)
+
+  pub nothing-wrote : {out : List ℕ} {pos : ℕ} → ligatureLeft g s at ≡ [] → Wrote out pos (ligatureLeft g s at) out pos × (pos ≤ pos + 0x20000)
+  nothing-wrote e = (wrote-said wrote-none (sym e), omega arith)
 
   -- its glyph is retained, it lists n components, and b says whether these are retained
-  module _ {x y n : ℕ} {b : Bool} (e : x ≡ word s at) (f : find (mapEntries g) x ≡ some y) (i : n ≡ word s (at + 2) - 1)
+  module _ {x y count n : ℕ} {b : Bool} (e : x ≡ word s at) (f : find (mapEntries g) x ≡ some y) (i : (count ≡ word s (at + 2)) × (count < 65536)) (j : n ≡ count - 1)
       (a : b ≡ isSome (mapAll (find (mapEntries g)) (words s (at + 4) n))) where
     -- the ligature goes: one of them is lost
-    pub part-lost : not b ≡ true → ligatureLeft g s at ≡ []
+    pub part-lost : b ≡ false → ligatureLeft g s at ≡ []
     unfolding ligatureLeft wordsLeft cutLigature ligature bind
-    part-lost h = rw (← e, f, ← i, is-none (mapAll (find (mapEntries g)) (words s (at + 4) n)) (refused a h))
+    part-lost h = rw (← e, f, ← (i .0), ← j, is-none (mapAll (find (mapEntries g)) (words s (at + 4) n)) (sym a ∙ h))
 
-    module _ (h : not b ≡ false) where
+    module _ (h : b ≡ true) where
       -- it is left: its glyph's new number, its count, and the new numbers of its components
-      left-words : ligatureLeft g s at ≡ y ∷ word s (at + 2) ∷ renumbered (mapEntries g) (words s (at + 4) n)
+      left-words : ligatureLeft g s at ≡ y ∷ count ∷ renumbered (mapEntries g) (words s (at + 4) n)
       unfolding ligatureLeft wordsLeft cutLigature ligature bind ligatureWords
-      left-words = rw (← e, f, ← i, renumbered-all (mapEntries g) (words s (at + 4) n) (passed a h))
+      left-words = rw (← e, f, ← (i .0), ← j, renumbered-all (mapEntries g) (words s (at + 4) n) (sym a ∙ h))
 
-      pub left-length : length (ligatureLeft g s at) ≡ 2 + n
-      left-length = rw left-words (omega (arith, renumbered-length (mapEntries g) (words s (at + 4) n), words-length s (at + 4) n))
+      pub left-size : {r : ℕ} → r ≡ 4 + 2 * n → (r ≡ 2 * length (ligatureLeft g s at)) × (r ≤ 0x20000)
+      left-size k = rw left-words (omega (arith, renumbered-length (mapEntries g) (words s (at + 4) n), words-length s (at + 4) n), omega arith)
 
       -- the two writes, as the code makes them
-      pub left-wrote : {v p q pos : ℕ} {out one two : List ℕ} → n < 65535 → v ≡ word s (at + 2) → (p ≡ pos + 4) × (one ≡ sets out pos (flat (y ∷ v ∷ [])))
+      pub left-wrote : {p q pos : ℕ} {out one two : List ℕ} → (p ≡ pos + 4) × (one ≡ sets out pos (flat (y ∷ count ∷ [])))
           → Wrote one p (renumbered (mapEntries g) (words s (at + 4) n)) two q → Wrote out pos (ligatureLeft g s at) two q × (q ≤ pos + 0x20000)
-      left-wrote {v} {q = q} {pos} {out} {two = two} m j k l =
+      left-wrote {q = q} {pos} {out} {two = two} k l =
           let w : Wrote out pos (ligatureLeft g s at) two q =
-          rw (left-words, ← j) (wrote-more (renumbered (mapEntries g) (words s (at + 4) n)) (wrote-two y v wrote-none k) (l .place) (l .bytes))
+          rw left-words (wrote-more (renumbered (mapEntries g) (words s (at + 4) n)) (wrote-two y count wrote-none k) (l .place) (l .bytes))
           in
-          (w, omega (arith, w .place, left-length))
+          (w, omega (arith, w .place, left-size refl))

@@ -1,21 +1,21 @@
 -- What the loops over the ligatures of a set keep, and the ways through their turns. g is a glyph map, as its bytes.
 use Prim.Native.Nat.{ℕ, _+_, _-_, _*_, _≤_, _<_}
 use mathlib.Core.Path.{_≡_, refl, sym, ap, _∙_}
-use mathlib.Core.Bool.{Bool, true, false}
-use mathlib.Core.Option.{Option, some}
-use mathlib.Core.List.{List, [], _∷_, _++_}
+use mathlib.Core.Bool.{true, false}
+use mathlib.Core.Option.{some}
+use mathlib.Core.List.{List, [], _∷_}
 use native.Mathlib.Omega.{arith}
 use lib.ListN.{length, length-append, length-map}
 use lib.Seq.{sets}
-use Rattle.meaning.specs.Words.{word, bytes2, flat, mapSome, isSome}
+use Rattle.meaning.specs.Words.{word, bytes2, flat, isSome}
 use Rattle.meaning.specs.Maps.{mapEntries}
 use Rattle.meaning.specs.Tables.{Ligature, ligature, ligatureSet}
-use Rattle.meaning.specs.Cut.{cutLigature, cutLigatures, unlessEmpty}
+use Rattle.meaning.specs.Cut.{cutLigature, cutLigatures}
 use Rattle.meaning.specs.Layout.{ligatureWords, setWords, offsets, blocks}
-use Rattle.laws.specs.Members.{members, wordsLeft, memberBlocks, sized, set-size, set-laid, passed-null, passed-gone, Seeking, seeking-all, seeking-next, seeking-found, seeking-end, Counting, counting-all, counting-next, counting-one, counting-end, Sizing, sizing-all, sizing-next, sizing-one, sizing-end, Laying, laying-all, laying-next, laying-one, laying-end}
+use Rattle.laws.specs.Members.{members, memberBlocks, sized, set-size, set-laid, passed-null, passed-gone, Seeking, seeking-all, seeking-next, seeking-found, seeking-end, Counting, counting-all, counting-next, counting-one, counting-end, Sizing, sizing-all, sizing-next, sizing-one, sizing-end, Laying, laying-all, laying-next, laying-one, laying-end}
 use Rattle.laws.specs.Through.{offsets-length}
 use Rattle.laws.specs.Written.{Wrote}
-use Rattle.ligature_subst.specs.Left.{ligatureLeft, ligaturesLeft, setLeft}
+use Rattle.ligature_subst.specs.Left.{ligatureLeft, ligaturesLeft, setLeft, set-cut}
 
 -- each ligature has words
 pub has-words : (x : Ligature) → 0 < length (ligatureWords x)
@@ -62,12 +62,11 @@ module _ {g s : List ℕ} {at n : ℕ} where
 
       -- the first that is left settles it
       pub sought-found : n ≡ word s at → (w ≡ 0 → ⊥) → true ≡ isSome (cutLigatures (mapEntries g) (ligatureSet s at))
-      unfolding ligatureLeft cutLigatures ligaturesLeft
-      sought-found c v = seeking-found _ _ _ _ _ _ _ _ (k .seeking) h e z f v ∙ ap (λ x. isSome (unlessEmpty x)) (all-left g s at n c)
+      unfolding ligatureLeft
+      sought-found c v = rw (set-cut g s at, ← (all-left g s at n c)) (seeking-found _ _ _ _ _ _ _ _ (k .seeking) h e z f v)
 
   pub sought-end : {i : ℕ} → Sought g s at n i → n ≤ i → n ≡ word s at → false ≡ isSome (cutLigatures (mapEntries g) (ligatureSet s at))
-  unfolding cutLigatures ligaturesLeft
-  sought-end k h c = seeking-end _ _ _ _ _ _ _ _ (k .seeking) h ∙ ap (λ x. isSome (unlessEmpty x)) (all-left g s at n c)
+  sought-end k h c = rw (set-cut g s at, ← (all-left g s at n c)) (seeking-end _ _ _ _ _ _ _ _ (k .seeking) h)
 
 -- What the loop of `count_left` keeps: those counted so far and those left among the rest are all.
 pub record Counted (g s : List ℕ) (at n k i : ℕ) : Type 0 where

@@ -12,7 +12,7 @@ use wire::word_at;
 ghost use mathlib.Core.Path.{_≡_};
 ghost use Prim.Native.Nat.{_+_, _-_, _*_, _≤_, _<_};
 ghost use lib.ListN.{length};
-ghost use Rattle.meaning.specs.Words.{word, isSome};
+ghost use Rattle.meaning.specs.Words.{isSome};
 ghost use Rattle.meaning.specs.Maps.{mapEntries};
 ghost use Rattle.meaning.specs.Tables.{ligatureSet};
 ghost use Rattle.meaning.specs.Fault.{faultThrough, ligatureFault, setFault};
@@ -22,16 +22,14 @@ ghost use Rattle.wire.specs.Fault.{faultOf};
 ghost use Rattle.sequences.specs.Renumbered.{Ascends};
 ghost use Rattle.ligature_subst.specs.Left.{ligatureLeft, ligaturesLeft, setLeft};
 
-// How many components the ligature at `at` lists: all but the first; a count of 0 lists none.
-fn listed(src: &[u8], at: usize) -> usize
-    requires { ⌜ at < 0x1_0001_0000 ⌝ }
-    ensures { λ r. ⌜ (r ≡ word (now (src .entry)) (at + 2) - 1) × (r < 65535) ⌝ }
+// How many components a ligature with this count lists: all but the first; a count of 0 lists none.
+fn listed(count: usize) -> usize
+    ensures { λ r. ⌜ r ≡ count - 1 ⌝ }
 {
-    let count = word_at(src, at + 2);
-    if count == 0 {
-        return 0;
+    if 0 < count {
+        return count - 1;
     }
-    count - 1
+    0
 }
 
 // Where the ligature at `at` is faulty: it is if its glyph, its count or its components do not lie inside the source.
@@ -42,7 +40,8 @@ pub fn check_ligature(src: &[u8], at: usize) -> Fault
     if !inside(src, at, 4) {
         return Fault::At(at);
     }
-    if !inside(src, at + 4, 2 * listed(src, at)) {
+    let n = listed(word_at(src, at + 2));
+    if !inside(src, at + 4, 2 * n) {
         return Fault::At(at);
     }
     Fault::Sound
@@ -56,11 +55,11 @@ pub fn ligature_size(src: &[u8], at: usize, glyphs: &[u8]) -> usize
     let Found::New(_) = find(glyphs, word_at(src, at)) else {
         return 0;
     };
-    let n = listed(src, at);
-    if !mapped(src, at + 4, n, glyphs) {
-        return 0;
+    let n = listed(word_at(src, at + 2));
+    if mapped(src, at + 4, n, glyphs) {
+        return 4 + 2 * n;
     }
-    4 + 2 * n
+    0
 }
 
 // What is left of the ligature at `at`, written from `pos` on where there is room; the place after it. One that goes writes nothing.
@@ -68,14 +67,16 @@ pub fn write_ligature(src: &[u8], at: usize, glyphs: &[u8], out: &mut [u8], pos:
     requires { ⌜ (at < 0x1_0001_0000) × (pos < 0x1000_0000_0000) × Ascends (now glyphs) ⌝ }
     ensures { λ r. ⌜ Wrote (now (out .entry)) pos (ligatureLeft (now (glyphs .entry)) (now (src .entry)) at) (now (out .exit)) r × (r ≤ pos + 0x20000) ⌝ }
 {
-    let Found::New(glyph) = find(glyphs, word_at(src, at)) else {
+    let old = word_at(src, at);
+    let Found::New(glyph) = find(glyphs, old) else {
         return pos;
     };
-    let n = listed(src, at);
+    let count = word_at(src, at + 2);
+    let n = listed(count);
     if !mapped(src, at + 4, n, glyphs) {
         return pos;
     }
-    let p = put_entry(out, pos, glyph, word_at(src, at + 2));
+    let p = put_entry(out, pos, glyph, count);
     write_mapped(src, at + 4, n, glyphs, out, p)
 }
 
