@@ -41,28 +41,35 @@ bit-above : (f k : ℕ) → f < k → bit f k ≡ 0
 unfolding bit
 bit-above f k h = rw (div-eq-of-lt h)
 
--- a format below 8 has the first three fields at most
-count-low : (f : ℕ) → f < 8 → fieldCount f ≡ bit f 1 + bit f 2 + bit f 4
+-- a format below 16 has the first four fields at most
+count-low : (f : ℕ) → f < 16 → fieldCount f ≡ bit f 1 + bit f 2 + bit f 4 + bit f 8
 unfolding fieldCount
-count-low f h =
-    rw (bit-above f 8 h, bit-above f 16 (omega arith), bit-above f 32 (omega arith), bit-above f 64 (omega arith), bit-above f 128 (omega arith)) (omega arith)
+count-low f h = rw (bit-above f 16 h, bit-above f 32 (omega arith), bit-above f 64 (omega arith), bit-above f 128 (omega arith)) (omega arith)
 
 -- the remainder by a power of two has the bits below it
-bits-1 : (f : ℕ) → (bit (f % 1) 1 ≡ 0) × (bit (f % 1) 2 ≡ 0) × (bit (f % 1) 4 ≡ 0)
+bits-1 : (f : ℕ) → (bit (f % 1) 1 ≡ 0) × (bit (f % 1) 2 ≡ 0) × (bit (f % 1) 4 ≡ 0) × (bit (f % 1) 8 ≡ 0)
 unfolding bit
-bits-1 f = (omega arith, omega arith, omega arith)
+bits-1 f = (omega arith, omega arith, omega arith, omega arith)
 
-bits-2 : (f : ℕ) → (bit (f % 2) 1 ≡ bit f 1) × (bit (f % 2) 2 ≡ 0) × (bit (f % 2) 4 ≡ 0)
+bits-2 : (f : ℕ) → (bit (f % 2) 1 ≡ bit f 1) × (bit (f % 2) 2 ≡ 0) × (bit (f % 2) 4 ≡ 0) × (bit (f % 2) 8 ≡ 0)
 unfolding bit
-bits-2 f = (omega arith, omega arith, omega arith)
+bits-2 f = (omega arith, omega arith, omega arith, omega arith)
 
-bits-4 : (f : ℕ) → (bit (f % 4) 1 ≡ bit f 1) × (bit (f % 4) 2 ≡ bit f 2) × (bit (f % 4) 4 ≡ 0)
+bits-4 : (f : ℕ) → (bit (f % 4) 1 ≡ bit f 1) × (bit (f % 4) 2 ≡ bit f 2) × (bit (f % 4) 4 ≡ 0) × (bit (f % 4) 8 ≡ 0)
 unfolding bit
-bits-4 f = (omega arith, omega arith, omega arith)
+bits-4 f = (omega arith, omega arith, omega arith, omega arith)
 
-bits-8 : (f : ℕ) → (bit (f % 8) 1 ≡ bit f 1) × (bit (f % 8) 2 ≡ bit f 2) × (bit (f % 8) 4 ≡ bit f 4)
+bits-8 : (f : ℕ) → (bit (f % 8) 1 ≡ bit f 1) × (bit (f % 8) 2 ≡ bit f 2) × (bit (f % 8) 4 ≡ bit f 4) × (bit (f % 8) 8 ≡ 0)
 unfolding bit
-bits-8 f = (omega arith, omega arith, omega arith)
+bits-8 f = (omega arith, omega arith, omega arith, omega arith)
+
+bits-16 : (f : ℕ) → (bit (f % 16) 1 ≡ bit f 1) × (bit (f % 16) 2 ≡ bit f 2) × (bit (f % 16) 4 ≡ bit f 4) × (bit (f % 16) 8 ≡ bit f 8)
+unfolding bit
+bits-16 f = (omega arith, omega arith, omega arith, omega arith)
+
+-- the four fields that can be kept, out of any format
+pub count-kept : (f : ℕ) → fieldCount (f % 16) ≡ bit f 1 + bit f 2 + bit f 4 + bit f 8
+count-kept f = omega (arith, count-low (f % 16) (omega arith), bits-16 f)
 
 -- a field that a format has stands among its fields
 pub below-count : (f k : ℕ) → isField k ≡ true → bit f k ≡ 1 → fieldsBelow f k < fieldCount f

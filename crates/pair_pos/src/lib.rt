@@ -9,14 +9,16 @@ ghost use mathlib.Core.Path.{_≡_};
 ghost use mathlib.Core.Bool.{true, cond, _&&_, not};
 ghost use Prim.Native.Nat.{_+_, _*_, _≤_, _<_};
 ghost use lib.Dec.{eqb};
+ghost use lib.ListN.{length};
 ghost use Rattle.meaning.specs.Words.{word, words, find, isSome, ascends, keys};
 ghost use Rattle.meaning.specs.Maps.{mapEntries};
 ghost use Rattle.meaning.specs.Tables.{fieldCount, field};
 ghost use Rattle.meaning.specs.Fault.{pairSetFault};
 ghost use Rattle.meaning.specs.Cut.{cutPairs};
+ghost use Rattle.meaning.specs.Layout.{pairSetWords};
 ghost use Rattle.wire.specs.Fault.{faultOf};
 ghost use Rattle.pair_pos.specs.Fields.{isField, fieldPlace};
-ghost use Rattle.pair_pos.specs.Pairs.{pairsOf, pairsLeft, valuesOf, usedIn};
+ghost use Rattle.pair_pos.specs.Pairs.{pairsOf, pairsLeft, pairsThin, valuesOf, usedIn};
 
 // How many fields a value record of the format `f` has: one for each set bit of the lower eight.
 pub fn field_count(f: usize) -> usize
@@ -145,4 +147,39 @@ pub fn set_uses(
         left -= 1;
     }
     false
+}
+
+// How many pairs of the set at `at` survive.
+fn count_left(src: &[u8], at: usize, f1: usize, f2: usize, glyphs: &[u8]) -> usize
+    requires { ⌜ (at < 0x1_0000_0000) × (ascends (keys (mapEntries (now glyphs))) ≡ true) ⌝ }
+    ensures { λ r. ⌜ (r ≡ length (pairsLeft (mapEntries (now (glyphs .entry))) f1 f2 (now (src .entry)) at)) × (r < 65536) ⌝ }
+{
+    let size = pair_size(f1, f2);
+    let mut count = 0;
+    let mut p = at + 2;
+    let mut left = word_at(src, at);
+    while 0 < left {
+        if let Found::New(_) = find(glyphs, word_at(src, p)) {
+            count += 1;
+        }
+        p += size;
+        left -= 1;
+    }
+    count
+}
+
+// How many bytes `write_set` writes: the count, and the pairs of the set at `at` that survive, with the fields of the new formats `n1` and `n2`.
+pub fn set_size(
+    src: &[u8],
+    at: usize,
+    f1: usize,
+    f2: usize,
+    n1: usize,
+    n2: usize,
+    glyphs: &[u8],
+) -> usize
+    requires { ⌜ (at < 0x1_0000_0000) × (ascends (keys (mapEntries (now glyphs))) ≡ true) ⌝ }
+    ensures { λ r. ⌜ (r ≡ 2 * length (pairSetWords (pairsThin (mapEntries (now (glyphs .entry))) f1 f2 n1 n2 (now (src .entry)) at))) × (r < 0x200_0000) ⌝ }
+{
+    2 + pair_size(n1 % 16, n2 % 16) * count_left(src, at, f1, f2, glyphs)
 }
