@@ -16,7 +16,7 @@ use Rattle.maps.specs.Found.{Answers, finds-new, finds-none, finds-word}
 use Rattle.maps.specs.declared.Found.{Found}
 use Rattle.maps.specs.declared.Found.the-variants.{New, Gone}
 use Rattle.classes.specs.Filled.{Filled, Ranked}
-use Rattle.classes.proofs.ClassesLeft.{entriesFrom, from-all, from-left, from-none, index-low, class-map-ascends, listed, listed-none, listed-some}
+use Rattle.laws.specs.ClassesLeft.{entriesFrom, from-all, from-left, from-none, index-low, class-map-ascends, listed, listed-none, listed-some}
 use Rattle.classes.proofs.Reading.{Says}
 use Rattle.classes.proofs.Filling.{Filling, filling-all, filling-said, filling-one, filling-end}
 

@@ -16,7 +16,7 @@ use Rattle.meaning.specs.Maps.{mapEntries}
 use Rattle.meaning.specs.Cut.{insertUp, heldBy, numbered, classMap}
 use Rattle.classes.specs.Marks.{marked, Unmarked}
 use Rattle.classes.specs.Filled.{Filled}
-use Rattle.classes.proofs.ClassesLeft.{entriesFrom, from-all, from-left, from-none}
+use Rattle.laws.specs.ClassesLeft.{entriesFrom, from-all, from-left, from-none}
 use Rattle.classes.proofs.Reading.{Says}
 use Rattle.classes.proofs.Filling.{Filling, filling-all, filling-said, filling-one, filling-end}
 
