@@ -102,16 +102,16 @@ module _ {m : List ℕ} where
       left = rw (← runs-on-count (word m (4 * i)) (word m (4 * i + 2)) (entriesFrom m (i + 1)) (sym e ∙ t), ← from-left m i l) (h .left);
     }
 
-    pub counting-end : b ≡ false → Counting m (k + 1) (i + 1)
-    counting-end t = record {
+    pub counting-one : b ≡ false → Counting m (k + 1) (i + 1)
+    counting-one t = record {
       within = omega arith;
       near = omega (arith, h .near);
       left = omega (arith, rw (from-left m i l) at (h .left), runs-end-count (word m (4 * i)) (word m (4 * i + 2)) (entriesFrom m (i + 1)) (sym e ∙ t));
     }
 
-  pub counted : {k i : ℕ} → Counting m k i → length m / 4 ≤ i → (k ≡ length (runs (mapEntries m))) × (k ≤ length m / 4)
+  pub counting-end : {k i : ℕ} → Counting m k i → length m / 4 ≤ i → (k ≡ length (runs (mapEntries m))) × (k ≤ length m / 4)
   unfolding runs
-  counted {i = i} h l = (omega (arith, rw (from-none m i l) at (h .left)), omega (arith, h .near, h .within))
+  counting-end {i = i} h l = (omega (arith, rw (from-none m i l) at (h .left)), omega (arith, h .near, h .within))
 
 -- a run that is to begin with the i-th entry begins with its glyph
 runs-first : (m : List ℕ) (i : ℕ) → from (word m (4 * i)) (runs (entriesFrom m i)) ≡ runs (entriesFrom m i)
@@ -146,10 +146,10 @@ module _ {m out₀ : List ℕ} {at : ℕ} where
     }
 
     -- it ends, and the next one begins with the next entry
-    pub ranging-end : b ≡ false → {z c n q : ℕ} {next : List ℕ} → z ≡ word m (4 * i) → c ≡ word m (4 * i + 2) → n ≡ word m (4 * i + 4)
+    pub ranging-one : b ≡ false → {z c n q : ℕ} {next : List ℕ} → z ≡ word m (4 * i) → c ≡ word m (4 * i + 2) → n ≡ word m (4 * i + 4)
         → (q ≡ p + 6) × (next ≡ sets out p (flat (a ∷ z ∷ c ∷ []))) → Ranging m out₀ at next q n (i + 1)
     unfolding threes
-    ranging-end t {z} {c} {n} d f g w =
+    ranging-one t {z} {c} {n} d f g w =
         let place : 4 * (i + 1) ≡ 4 * i + 4 = omega arith in
         let begins = rw place at (runs-first m (i + 1)) in
         let now : threes (from a (runs (entriesFrom m i))) ≡ a ∷ z ∷ c ∷ threes (from n (runs (entriesFrom m (i + 1)))) =
@@ -157,9 +157,9 @@ module _ {m out₀ : List ℕ} {at : ℕ} where
         in
         record { within = omega arith; room = h .room; left = write-three (write-said (h .left) now) w }
 
-  pub ranged : {out : List ℕ} {p a i : ℕ} → Ranging m out₀ at out p a i → length m / 4 ≤ i → Wrote out₀ at (threes (runs (mapEntries m))) out p
+  pub ranging-end : {out : List ℕ} {p a i : ℕ} → Ranging m out₀ at out p a i → length m / 4 ≤ i → Wrote out₀ at (threes (runs (mapEntries m))) out p
   unfolding threes from runs
-  ranged {i = i} h l = write-end (write-said (h .left) (rw (from-none m i l)))
+  ranging-end {i = i} h l = write-end (write-said (h .left) (rw (from-none m i l)))
 
 -- The class array.
 
@@ -184,8 +184,8 @@ module _ {n : ℕ} {out₀ : List ℕ} {at : ℕ} where
   pub zeroing-one : {out next : List ℕ} {p q i : ℕ} → Zeroing n out₀ at out p i → i < n → (q ≡ p + 2) × (next ≡ sets out p (bytes2 0)) → Zeroing n out₀ at next q (i + 1)
   zeroing-one {i = i} h l e = record { within = omega arith; near = omega (arith, h .near); left = write-one (write-said (h .left) (zeros-left n i l)) e }
 
-  pub zeroed : {out : List ℕ} {p i : ℕ} → Zeroing n out₀ at out p i → n ≤ i → Wrote out₀ at (replicate n 0) out p
-  zeroed {i = i} h l =
+  pub zeroing-end : {out : List ℕ} {p i : ℕ} → Zeroing n out₀ at out p i → n ≤ i → Wrote out₀ at (replicate n 0) out p
+  zeroing-end {i = i} h l =
       let e : n - i ≡ 0 = omega arith in
       write-end (rw e at (h .left))
 
@@ -242,9 +242,9 @@ module _ {m out₀ : List ℕ} {at : ℕ} where
       left = write-one (rw (← f) at (write-row (replicate (x - g) 0) (write-said (h .left) now) w)) v;
     }
 
-  pub spreaded : {out : List ℕ} {p g i : ℕ} → Spreading m out₀ at out p g i → length m / 4 ≤ i → Wrote out₀ at (spread (word m 0) (mapEntries m)) out p
+  pub spreading-end : {out : List ℕ} {p g i : ℕ} → Spreading m out₀ at out p g i → length m / 4 ≤ i → Wrote out₀ at (spread (word m 0) (mapEntries m)) out p
   unfolding spread
-  spreaded {i = i} h l = write-end (write-said (h .left) (rw (from-none m i l)))
+  spreading-end {i = i} h l = write-end (write-said (h .left) (rw (from-none m i l)))
 
 -- The smaller format.
 

@@ -1,6 +1,6 @@
 use borrow.Author.Tests.{not-true, not-false}
 use borrow.Author.Needs.{needs}
-use Rattle.classes.proofs.Writing.{Counting, counting-all, counting-on, counting-end, counted}
+use Rattle.classes.proofs.Writing.{Counting, counting-all, counting-on, counting-one, counting-end}
 use mathlib.Core.Logic.{⊎-elim}
 use Prim.Native.Nat.{_-_, _/_}
 use lib.ListN.{length}
@@ -21,12 +21,12 @@ loop-again c =
     let g = c .before in
     let l = g .before .before in
     ⊎-elim
-    (λ w. rw (w .1) (counting-end (l .loop .inv) (g .before .loop-test .taken) (g .goes-on .ensures) (not-true _ (w .0 .taken))))
+    (λ w. rw (w .1) (counting-one (l .loop .inv) (g .before .loop-test .taken) (g .goes-on .ensures) (not-true _ (w .0 .taken))))
     (λ w. rw (w .1) (counting-on (l .loop .inv) (g .before .loop-test .taken) (g .goes-on .ensures) (not-false _ (w .0 .left))))
     (c .if1 .came)
 
 returns : tie.Need-returns Inv-loop μ-loop
-returns c = counted (c .before .loop .inv) (c .loop-test .left)
+returns c = counting-end (c .before .loop .inv) (c .loop-test .left)
 
 pub count-runs-spec : {M : Type 1} → statement M
 count-runs-spec =

@@ -1,6 +1,6 @@
 use Rattle.laws.specs.Written.{wrote-length}
 use borrow.Author.Needs.{needs}
-use Rattle.classes.proofs.Writing.{Spreading, spreading-all, spreading-up, spreading-near, spreading-turn, spreaded}
+use Rattle.classes.proofs.Writing.{Spreading, spreading-all, spreading-up, spreading-near, spreading-turn, spreading-end}
 use Prim.Native.Nat.{ℕ, _-_, _/_}
 use native.Mathlib.Omega.{arith}
 use lib.ListN.{length, length-replicate}
@@ -42,10 +42,10 @@ loop-again c =
     spreading-turn (x .before .before .loop .inv) (x .before .loop-test .taken) (x .word-at2 .ensures .0) (z .put-zeros .ensures) (w .before .word-at3 .ensures .0) (w .put .ensures)
 
 same-length : tie.Need-same-length Inv-loop μ-loop
-same-length c = wrote-length (spreaded (c .before .loop .inv) (c .loop-test .left))
+same-length c = wrote-length (spreading-end (c .before .loop .inv) (c .loop-test .left))
 
 returns : tie.Need-returns Inv-loop μ-loop
-returns c = spreaded (c .before .loop .inv) (c .loop-test .left)
+returns c = spreading-end (c .before .loop .inv) (c .loop-test .left)
 
 pub put-classes-spec : {M : Type 1} → statement M
 put-classes-spec =

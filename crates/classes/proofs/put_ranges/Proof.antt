@@ -1,7 +1,7 @@
 use borrow.Author.Tests.{not-true, not-false}
 use Rattle.laws.specs.Written.{wrote-length}
 use borrow.Author.Needs.{needs}
-use Rattle.classes.proofs.Writing.{Ranging, ranging-all, ranging-near, ranging-on, ranging-end, ranged}
+use Rattle.classes.proofs.Writing.{Ranging, ranging-all, ranging-near, ranging-on, ranging-one, ranging-end}
 use mathlib.Core.Logic.{⊎-elim}
 use Prim.Native.Nat.{_-_, _/_}
 use lib.ListN.{length}
@@ -25,15 +25,15 @@ loop-again c =
     let g = c .before in
     let l = g .before .before in
     ⊎-elim
-    (λ w. rw (w .8, w .9, w .10) (ranging-end (l .loop .inv) (g .before .loop-test .taken) (g .goes-on .ensures) (not-true _ (w .0 .taken)) (w .2 .ensures .0) (w .3 .ensures .0) (w .7 .ensures .0) (w .4 .ensures)))
+    (λ w. rw (w .8, w .9, w .10) (ranging-one (l .loop .inv) (g .before .loop-test .taken) (g .goes-on .ensures) (not-true _ (w .0 .taken)) (w .2 .ensures .0) (w .3 .ensures .0) (w .7 .ensures .0) (w .4 .ensures)))
     (λ w. rw (w .1, w .2, w .3) (ranging-on (l .loop .inv) (g .before .loop-test .taken) (g .goes-on .ensures) (not-false _ (w .0 .left))))
     (c .if1 .came)
 
 same-length : tie.Need-same-length Inv-loop μ-loop
-same-length c = wrote-length (ranged (c .before .loop .inv) (c .loop-test .left))
+same-length c = wrote-length (ranging-end (c .before .loop .inv) (c .loop-test .left))
 
 returns : tie.Need-returns Inv-loop μ-loop
-returns c = ranged (c .before .loop .inv) (c .loop-test .left)
+returns c = ranging-end (c .before .loop .inv) (c .loop-test .left)
 
 pub put-ranges-spec : {M : Type 1} → statement M
 put-ranges-spec =

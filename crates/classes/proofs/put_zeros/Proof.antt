@@ -1,6 +1,6 @@
 use Rattle.laws.specs.Written.{wrote-length}
 use borrow.Author.Needs.{needs}
-use Rattle.classes.proofs.Writing.{Zeroing, zeroing-all, zeroing-one, zeroed}
+use Rattle.classes.proofs.Writing.{Zeroing, zeroing-all, zeroing-one, zeroing-end}
 use Prim.Native.Nat.{_-_}
 use Rattle.classes.proofs.put_zeros.Statement.{statement}
 use Rattle.classes.proofs.put_zeros.Tie as tie
@@ -21,10 +21,10 @@ loop-again c =
     zeroing-one (l .loop .inv) (w .before .before .loop-test .taken) (w .put .ensures)
 
 same-length : tie.Need-same-length Inv-loop μ-loop
-same-length c = wrote-length (zeroed (c .before .loop .inv) (c .loop-test .left))
+same-length c = wrote-length (zeroing-end (c .before .loop .inv) (c .loop-test .left))
 
 returns : tie.Need-returns Inv-loop μ-loop
-returns c = zeroed (c .before .loop .inv) (c .loop-test .left)
+returns c = zeroing-end (c .before .loop .inv) (c .loop-test .left)
 
 pub put-zeros-spec : {M : Type 1} → statement M
 put-zeros-spec =
