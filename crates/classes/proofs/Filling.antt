@@ -1,15 +1,12 @@
 -- A loop that writes entries of two words from the front of a scratch buffer.
-use Prim.Native.Nat.{ℕ, _+_, _*_, _/_, _≤_, _<_}
-use mathlib.Core.Path.{_≡_, ap}
+use Prim.Native.Nat.{ℕ, _+_, _*_, _≤_, _<_}
+use mathlib.Core.Path.{_≡_}
 use mathlib.Core.List.{List, [], _∷_}
 use native.Mathlib.Omega.{arith}
-use lib.ListN.{length, take, drop}
-use lib.Seq.{sets, length-sets, take-at}
-use Rattle.meaning.specs.Words.{entries, flat, twos}
-use Rattle.meaning.specs.Maps.{mapEntries}
-use Rattle.laws.specs.Stands.{All, flat-length, twos-length, stands-all, entries-back}
-use Rattle.laws.specs.SetsBack.{Words2, twos-small}
-use Rattle.laws.specs.Written.{sets-front}
+use lib.Seq.{sets}
+use Rattle.meaning.specs.Words.{flat, twos}
+use Rattle.laws.specs.Stands.{All, twos-length}
+use Rattle.laws.specs.SetsBack.{Words2}
 use Rattle.laws.specs.ToWrite.{ToWrite, write-all, write-two, write-end}
 use Rattle.classes.specs.Filled.{Filled}
 
@@ -34,19 +31,8 @@ module _ {es : List (ℕ × ℕ)} {out₀ : List ℕ} where
   filling-one h u v e = record { words = write-two (h .words) (omega arith, e); small = λ w. h .small ((u, v), w) }
 
   -- the last is written
-  pub filling-end : {out : List ℕ} {k : ℕ} → Filling es out₀ out k [] → Filled es out₀ (4 * k) out
+  pub filling-end : {out : List ℕ} {k : ℕ} → Filling es out₀ out k [] → k ≤ 65536 → Filled es out₀ (4 * k) out
   unfolding twos
-  filling-end h =
+  filling-end h l =
       let w = write-end (h .words) in
-      record { used = omega (arith, w .place, twos-length es); bytes = w .bytes; small = h .small tt }
-
--- entries that were written read back, if there was room for them
-pub filled-back : {es : List (ℕ × ℕ)} {before after : List ℕ} {r : ℕ} → Filled es before r after → r ≤ length after → mapEntries (take r after) ≡ es
-unfolding mapEntries
-filled-back {es} {before} {after} {r} h l =
-    let bs = flat (twos es) in
-    let long : length bs ≡ r = omega (arith, h .used, flat-length (twos es), twos-length es) in
-    let room : length bs ≤ length before = omega (arith, ap length (h .bytes), length-sets before 0 bs) in
-    let front : take r after ≡ bs = rw (h .bytes, sets-front before bs room) (take-at bs (drop (length bs) before) r long) in
-    let count : length bs / 4 ≡ length es = omega (arith, h .used) in
-    rw (front, count) (entries-back es (stands-all (twos es) (twos-small es (h .small))))
+      record { used = omega (arith, w .place, twos-length es); few = omega arith; bytes = w .bytes; small = h .small tt }

@@ -16,7 +16,7 @@ use Rattle.maps.specs.Found.{Answers, finds-new, finds-none, finds-word}
 use Rattle.maps.specs.declared.Found.{Found}
 use Rattle.maps.specs.declared.Found.the-variants.{New, Gone}
 use Rattle.classes.specs.Filled.{Filled, Ranked}
-use Rattle.classes.proofs.ClassesLeft.{entriesFrom, from-all, from-left, from-none, index-low, class-map-ascends, listed, listed-none, listed-some}
+use Rattle.laws.specs.ClassesLeft.{entriesFrom, from-all, from-left, from-none, index-low, class-map-ascends, listed, listed-none, listed-some}
 use Rattle.classes.proofs.Reading.{Says}
 use Rattle.classes.proofs.Filling.{Filling, filling-all, filling-said, filling-one, filling-end}
 
@@ -40,17 +40,18 @@ ranks-ascend {src} {at} {glyphs} k = rw (k .ranks) (class-map-ascends (mapEntrie
 pub record Listing (src : List ℕ) (at : ℕ) (glyphs map out₀ out : List ℕ) (k i : ℕ) : Type 0 where
   pub ranked : Ranked src at glyphs map
   pub within : i ≤ length glyphs / 4
+  pub low : i ≤ 65536
   pub near : k ≤ i
   pub filling : Filling (newClasses (mapEntries glyphs) (classes src at)) out₀ out k (mapSome (listed (mapEntries map) (classes src at)) (entriesFrom glyphs i))
 
 module _ {src : List ℕ} {at : ℕ} {glyphs map out₀ : List ℕ} where
   pub listing-all : Ranked src at glyphs map → Listing src at glyphs map out₀ out₀ 0 0
   unfolding newClasses
-  listing-all h = record { ranked = h; within = omega arith; near = omega arith; filling = filling-all (rw (from-all glyphs, h .ranks)) }
+  listing-all h = record { ranked = h; within = omega arith; low = omega arith; near = omega arith; filling = filling-all (rw (from-all glyphs, h .ranks)) }
 
   module _ {out : List ℕ} {k i x : ℕ} (h : Listing src at glyphs map out₀ out k i) (l : i < length glyphs / 4) (e : (x ≡ word glyphs (4 * i)) × (x < 65536)) where
     -- a good map has few entries
-    pub listing-few : i < 65536
+    pub listing-few : i + 1 ≤ 65536
     listing-few = omega (arith, index-low glyphs (glyphs-ascend glyphs (h .ranked .good)) i l)
 
     module _ {n : ℕ} (f : NewOf map (classes src at) x n) where
@@ -60,6 +61,7 @@ module _ {src : List ℕ} {at : ℕ} {glyphs map out₀ : List ℕ} where
       listing-none z = record {
         ranked = h .ranked;
         within = omega arith;
+        low = listing-few;
         near = omega (arith, h .near);
         filling = filling-said (h .filling) (rw (from-left glyphs i l, ← (e .0), listed-none (mapEntries map) (classes src at) x (word glyphs (4 * i + 2)) (sym (f .0) ∙ z)));
       }
@@ -75,6 +77,7 @@ module _ {src : List ℕ} {at : ℕ} {glyphs map out₀ : List ℕ} where
           record {
             ranked = h .ranked;
             within = omega arith;
+            low = listing-few;
             near = omega (arith, h .near);
             filling = filling-one (filling-said (h .filling) left) (g .1) (f .1) d;
           }
@@ -82,4 +85,4 @@ module _ {src : List ℕ} {at : ℕ} {glyphs map out₀ : List ℕ} where
   pub listing-end : {out : List ℕ} {k i : ℕ} → Listing src at glyphs map out₀ out k i → length glyphs / 4 ≤ i
       → Filled (newClasses (mapEntries glyphs) (classes src at)) out₀ (4 * k) out
   unfolding mapSome
-  listing-end {i = i} h l = filling-end (filling-said (h .filling) (rw (from-none glyphs i l)))
+  listing-end {i = i} h l = filling-end (filling-said (h .filling) (rw (from-none glyphs i l))) (omega (arith, h .low, h .near))

@@ -16,7 +16,7 @@ use Rattle.meaning.specs.Maps.{mapEntries}
 use Rattle.meaning.specs.Cut.{insertUp, heldBy, numbered, classMap}
 use Rattle.classes.specs.Marks.{marked, Unmarked}
 use Rattle.classes.specs.Filled.{Filled}
-use Rattle.classes.proofs.ClassesLeft.{entriesFrom, from-all, from-left, from-none}
+use Rattle.laws.specs.ClassesLeft.{entriesFrom, from-all, from-left, from-none}
 use Rattle.classes.proofs.Reading.{Says}
 use Rattle.classes.proofs.Filling.{Filling, filling-all, filling-said, filling-one, filling-end}
 
@@ -134,10 +134,10 @@ module _ {marks out₀ : List ℕ} where
   unfolding numbered marked
   numbering-end {r = r} {c} k h =
       let e : c ≡ length marks = omega (arith, k .within) in
-      filling-end (filling-said (k .filling) (rw (e, drop-length marks)))
+      filling-end (filling-said (k .filling) (rw (e, drop-length marks))) (omega (arith, k .near, k .few))
 
 -- marks at the classes that the glyphs of a map hold give the map's class map
-pub ranked : (g cs : List (ℕ × ℕ)) (marks : List ℕ) {before after : List ℕ} {r : ℕ} → marked 0 marks ≡ heldBy cs (keys g)
+pub marked-ranked : (g cs : List (ℕ × ℕ)) (marks : List ℕ) {before after : List ℕ} {r : ℕ} → marked 0 marks ≡ heldBy cs (keys g)
     → Filled (numbered 0 (marked 0 marks)) before r after → Filled (classMap g cs) before r after
 unfolding classMap
-ranked g cs marks e h = rw e at h
+marked-ranked g cs marks e h = rw e at h

@@ -11,7 +11,7 @@ use Rattle.meaning.specs.Words.{word, words, triples, inside, find}
 use Rattle.meaning.specs.Parts.{rangesAscend, arrayClasses, rangeClasses, classes, classesSound, classOf}
 use Rattle.laws.specs.Runs.{both}
 use Rattle.laws.specs.Left.{words-length, words-at, triples-left, triples-all, triples-none}
-use Rattle.classes.proofs.ClassesLeft.{array-low, array-at, ranges-rest, range-after, range-in, range-before}
+use Rattle.laws.specs.ClassesLeft.{array-low, array-at, ranges-rest, range-after, range-in, range-before}
 
 -- a sound table's head lies inside the source
 pub head-inside : (s : List ℕ) (at : ℕ) → classesSound s at ≡ true → at + 4 ≤ length s

@@ -4,21 +4,27 @@ use maps::find;
 use wire::Fault;
 use wire::byte;
 use wire::inside;
+use wire::put;
 use wire::put_byte;
 use wire::put_entry;
+use wire::put_record;
 use wire::word_at;
 ghost use mathlib.Core.Path.{_≡_};
 ghost use mathlib.Core.Bool.{true};
 ghost use mathlib.Core.Option.{Option·getD};
-ghost use Prim.Native.Nat.{_+_, _*_, _≤_, _<_};
-ghost use lib.ListN.{length};
-ghost use Rattle.meaning.specs.Words.{word, words, triples, ascends, keys, find};
+ghost use Prim.Native.Nat.{_+_, _*_, _/_, _≤_, _<_};
+ghost use lib.ListN.{length, replicate};
+ghost use Rattle.meaning.specs.Words.{word, words, triples, threes, ascends, keys, find};
 ghost use Rattle.meaning.specs.Parts.{rangesAscend, arrayClasses, rangeClasses, classes, classesSound, classOf};
 ghost use Rattle.meaning.specs.Fault.{classesFault};
 ghost use Rattle.meaning.specs.Maps.{mapEntries};
 ghost use Rattle.meaning.specs.Cut.{heldBy, numbered, classMap, newClasses};
+ghost use Rattle.meaning.specs.Layout.{runs, spread, classWords};
+ghost use Rattle.laws.specs.Written.{Wrote};
+ghost use Rattle.laws.specs.RunsLeft.{goesOn};
+ghost use Rattle.laws.specs.ClassesLeft.{entriesFrom};
 ghost use Rattle.wire.specs.Fault.{faultOf};
-ghost use Rattle.classes.specs.Formats.{arraySound};
+ghost use Rattle.classes.specs.Formats.{arraySound, CountsIds};
 ghost use Rattle.classes.specs.Marks.{marked, Unmarked};
 ghost use Rattle.classes.specs.Filled.{Filled, Ranked};
 
@@ -213,4 +219,132 @@ fn new_class(src: &[u8], at: usize, map: &[u8], glyph: usize) -> usize
         return 0;
     };
     class
+}
+
+// How many bytes the smaller format takes for these entries of glyphs and classes.
+pub fn size(entries: &[u8]) -> usize
+    requires { ⌜ ascends (keys (mapEntries (now entries))) ≡ true ⌝ }
+    ensures { λ r. ⌜ r ≡ 2 * length (classWords (mapEntries (now (entries .entry)))) ⌝ }
+{
+    if entries.len() < 4 {
+        return 4;
+    }
+    let ids = count_ids(entries);
+    let runs = count_runs(entries);
+    if 6 + 2 * ids <= 4 + 6 * runs {
+        return 6 + 2 * ids;
+    }
+    4 + 6 * runs
+}
+
+// The class table of these entries of glyphs and classes, in the smaller format, from `at` on, where there is room; the place after it.
+pub fn write(entries: &[u8], out: &mut [u8], at: usize) -> usize
+    requires { ⌜ (at < 0x8000_0000_0000) × (ascends (keys (mapEntries (now entries))) ≡ true) ⌝ }
+    ensures { λ r. ⌜ Wrote (now (out .entry)) at (classWords (mapEntries (now (entries .entry)))) (now (out .exit)) r ⌝ }
+{
+    if entries.len() < 4 {
+        return put_entry(out, at, 2, 0);
+    }
+    let ids = count_ids(entries);
+    let runs = count_runs(entries);
+    if 6 + 2 * ids <= 4 + 6 * runs {
+        let p = put_record(out, at, 1, word_at(entries, 0), ids);
+        return put_classes(entries, out, p);
+    }
+    let p = put_entry(out, at, 2, runs);
+    put_ranges(entries, out, p)
+}
+
+// How many ids there are from the first entry's glyph to the last one's.
+fn count_ids(entries: &[u8]) -> usize
+    requires { ⌜ (4 ≤ length (now entries)) × (ascends (keys (mapEntries (now entries))) ≡ true) ⌝ }
+    ensures { λ r. ⌜ CountsIds (now (entries .entry)) r ⌝ }
+{
+    let last = entries.len() / 4 - 1;
+    word_at(entries, 4 * last) + 1 - word_at(entries, 0)
+}
+
+// How many longest runs of one class there are.
+fn count_runs(entries: &[u8]) -> usize
+    ensures { λ r. ⌜ (r ≡ length (runs (mapEntries (now (entries .entry))))) × (r ≤ length (now (entries .entry)) / 4) ⌝ }
+{
+    let mut k = 0;
+    let mut i = 0;
+    while i < entries.len() / 4 {
+        if !goes_on(entries, i) {
+            k += 1;
+        }
+        i += 1;
+    }
+    k
+}
+
+// Whether the run of the i-th entry goes on with the next one: the next glyph, of the same class.
+fn goes_on(entries: &[u8], i: usize) -> bool
+    requires { ⌜ i < length (now entries) / 4 ⌝ }
+    ensures { λ r. ⌜ r ≡ goesOn (word (now (entries .entry)) (4 * i)) (word (now (entries .entry)) (4 * i + 2)) (entriesFrom (now (entries .entry)) (i + 1)) ⌝ }
+{
+    if entries.len() / 4 <= i + 1 {
+        return false;
+    }
+    if word_at(entries, 4 * i) + 1 != word_at(entries, 4 * i + 4) {
+        return false;
+    }
+    word_at(entries, 4 * i + 2) == word_at(entries, 4 * i + 6)
+}
+
+// The class of each id from the first entry's glyph to the last one's, from `at` on; the place after them.
+fn put_classes(entries: &[u8], out: &mut [u8], at: usize) -> usize
+    requires { ⌜ (at + 2 * length (spread (word (now entries) 0) (mapEntries (now entries))) < 0x1_0000_0000_0000) × (ascends (keys (mapEntries (now entries))) ≡ true) ⌝ }
+    ensures { λ r. ⌜ Wrote (now (out .entry)) at (spread (word (now (entries .entry)) 0) (mapEntries (now (entries .entry)))) (now (out .exit)) r ⌝ }
+{
+    let mut p = at;
+    let mut id = word_at(entries, 0);
+    let mut i = 0;
+    while i < entries.len() / 4 {
+        let glyph = word_at(entries, 4 * i);
+        let q = put_zeros(out, p, glyph - id);
+        p = put(out, q, word_at(entries, 4 * i + 2));
+        id = glyph + 1;
+        i += 1;
+    }
+    p
+}
+
+// Class 0 for each of `n` ids, from `at` on; the place after them.
+fn put_zeros(out: &mut [u8], at: usize, n: usize) -> usize
+    requires { ⌜ at + 2 * n < 0x1_0000_0000_0000 ⌝ }
+    ensures { λ r. ⌜ Wrote (now (out .entry)) at (replicate n 0) (now (out .exit)) r ⌝ }
+{
+    let mut p = at;
+    let mut i = 0;
+    while i < n {
+        p = put(out, p, 0);
+        i += 1;
+    }
+    p
+}
+
+// A range for each longest run of one class, from `at` on; the place after them.
+fn put_ranges(entries: &[u8], out: &mut [u8], at: usize) -> usize
+    requires { ⌜ at + 6 * length (runs (mapEntries (now entries))) < 0x1_0000_0000_0000 ⌝ }
+    ensures { λ r. ⌜ Wrote (now (out .entry)) at (threes (runs (mapEntries (now (entries .entry))))) (now (out .exit)) r ⌝ }
+{
+    let mut p = at;
+    let mut first = word_at(entries, 0);
+    let mut i = 0;
+    while i < entries.len() / 4 {
+        if !goes_on(entries, i) {
+            p = put_record(
+                out,
+                p,
+                first,
+                word_at(entries, 4 * i),
+                word_at(entries, 4 * i + 2),
+            );
+            first = word_at(entries, 4 * i + 4);
+        }
+        i += 1;
+    }
+    p
 }

@@ -1,5 +1,5 @@
 -- Class tables in loops: the class of a glyph, the entries of a map from the front, the class map and the new class table.
-use Prim.Native.Nat.{ℕ, zero, suc, _+_, _-_, _*_, _/_, _≤_, _<_}
+use Prim.Native.Nat.{ℕ, zero, suc, _+_, _-_, _*_, _/_, _%_, _≤_, _<_}
 use mathlib.Core.Path.{_≡_, refl, sym, ap, _∙_}
 use mathlib.Core.Bool.{Bool, true, false, cond}
 use mathlib.Core.Option.{Option, none, some, Option·getD}
@@ -11,12 +11,12 @@ use lib.Dec.{leb, ltb, eqb}
 use borrow.Author.Tests.{leb-true, le-leb, ltb-true, ltb-false, eqb-true, eqb-false, eq-eqb, ne-eqb}
 use Rattle.meaning.specs.Words.{word, entries, ascends, upFrom, keys, values, find, bind, push, mapSome}
 use Rattle.meaning.specs.Parts.{span, rangesAscend, holding, arrayClasses, rangeClasses, classOf}
-use Rattle.meaning.specs.Maps.{mapEntries}
+use Rattle.meaning.specs.Maps.{mapEntries, goodGlyphs}
 use Rattle.meaning.specs.Cut.{insertUp, heldBy, numbered, classMap, newClasses}
 use Rattle.laws.specs.Runs.{Up, both, span-one, up-ascends}
 use Rattle.laws.specs.SoundGood.{ascends-up}
 use Rattle.laws.specs.Left.{entries-left, entries-all, entries-none}
-use Rattle.laws.specs.Ascends.{map-length, map-key}
+use Rattle.laws.specs.Ascends.{keys-length, map-length, map-key}
 
 -- a glyph among n glyphs from a on that hold c, before others; and one that is not among them
 held-in : (c a n x : ℕ) (t : List (ℕ × ℕ)) → a ≤ x → x < a + n → find (map (λ g. (g, c)) (upFrom a n) ++ t) x ≡ some c
@@ -214,7 +214,50 @@ listed-up m cs low high (e ∷ g) h u = step (find m (classOf cs (e .0))) (λ k 
         pick true = k low (omega arith)
         pick false = (omega arith, k (e .1 + 1) (omega arith))
 
+-- the new numbers of a good glyph map ascend, and so do the glyphs of the new class table
+pub glyph-values : (m : List ℕ) → goodGlyphs m ≡ true → ascends (values (mapEntries m)) ≡ true
+unfolding goodGlyphs
+glyph-values m h = both (ascends (keys (mapEntries m))) _ (both (eqb (length m % 4) 0) _ h .1) .1
+
 pub new-classes-ascend : (g cs : List (ℕ × ℕ)) → ascends (values g) ≡ true → ascends (keys (newClasses g cs)) ≡ true
 unfolding newClasses
 new-classes-ascend g cs h =
     up-ascends 0 (keys (newClasses g cs)) (listed-up (classMap g cs) cs 0 0 g (omega arith) (ascends-up 0 (values g) h (λ x r e. omega arith)))
+
+-- neither the class map nor the new class table has more entries than the glyph map
+insert-length : (c : ℕ) (l : List ℕ) → length (insertUp c l) ≤ length l + 1
+unfolding insertUp
+insert-length c [] = omega arith
+insert-length c (d ∷ r) = step (ltb c d) (eqb c d) (insert-length c r)
+  where
+    step : (s t : Bool) → length (insertUp c r) ≤ length r + 1 → length (cond s (c ∷ d ∷ r) (cond t (d ∷ r) (d ∷ insertUp c r))) ≤ length (d ∷ r) + 1
+    step true t h = omega arith
+    step false true h = omega arith
+    step false false h = omega arith
+
+held-length : (cs : List (ℕ × ℕ)) (gs : List ℕ) → length (heldBy cs gs) ≤ length gs
+unfolding heldBy
+held-length cs [] = omega arith
+held-length cs (g ∷ gs) = omega (arith, held-length cs gs, insert-length (classOf cs g) (heldBy cs gs))
+
+numbered-length : (k : ℕ) (l : List ℕ) → length (numbered k l) ≡ length l
+unfolding numbered
+numbered-length k [] = refl
+numbered-length k (c ∷ l) = ap suc (numbered-length (k + 1) l)
+
+pub class-map-length : (g cs : List (ℕ × ℕ)) → length (classMap g cs) ≤ length g
+unfolding classMap
+class-map-length g cs = omega (arith, numbered-length 0 (heldBy cs (keys g)), held-length cs (keys g), keys-length g)
+
+some-length : {A B : Type 0} (f : A → Option B) (l : List A) → length (mapSome f l) ≤ length l
+unfolding mapSome push
+some-length f [] = omega arith
+some-length f (a ∷ l) = step (f a) (some-length f l)
+  where
+    step : (o : Option _) → length (mapSome f l) ≤ length l → length (push o (mapSome f l)) ≤ suc (length l)
+    step none h = omega arith
+    step (some b) h = omega arith
+
+pub new-classes-length : (g cs : List (ℕ × ℕ)) → length (newClasses g cs) ≤ length g
+unfolding newClasses
+new-classes-length g cs = some-length (listed (classMap g cs) cs) g
