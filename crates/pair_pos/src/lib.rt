@@ -216,3 +216,75 @@ fn write_values(src: &[u8], at: usize, f: usize, new: usize, out: &mut [u8], pos
     let c = write_field(src, at, f, new, 4, out, b);
     write_field(src, at, f, new, 8, out, c)
 }
+
+// The pair record at `p`, written at `pos` with its second glyph renumbered to `glyph` and the fields of the new formats; the place after it.
+fn write_pair(
+    src: &[u8],
+    p: usize,
+    f1: usize,
+    f2: usize,
+    n1: usize,
+    n2: usize,
+    glyph: usize,
+    out: &mut [u8],
+    pos: usize,
+) -> usize
+    requires { ⌜ (p + 34 < 0x1_0000_0000_0000) × (pos < 0x1_4000_0000_0000) ⌝ }
+    ensures { λ r. ⌜ (Wrote (now (out .entry)) pos (pairWords (thinPair f1 f2 n1 n2 (pairAt (now (src .entry)) (fieldCount f1) (fieldCount f2) p glyph) ∷ [])) (now (out .exit)) r) × (r ≤ pos + 18) ⌝ }
+{
+    let first = p + 2;
+    let second = first + 2 * field_count(f1);
+    let a = put(out, pos, glyph);
+    let b = write_values(src, first, f1, n1, out, a);
+    write_values(src, second, f2, n2, out, b)
+}
+
+// The pairs of the set at `at` that survive, written from `pos` on with the fields of the new formats; the place after them.
+fn write_pairs(
+    src: &[u8],
+    at: usize,
+    f1: usize,
+    f2: usize,
+    n1: usize,
+    n2: usize,
+    glyphs: &[u8],
+    out: &mut [u8],
+    pos: usize,
+) -> usize
+    requires { ⌜ (at < 0x1_0000_0000) × (pos < 0x101_0000_0000) × (ascends (keys (mapEntries (now glyphs))) ≡ true) ⌝ }
+    ensures { λ r. ⌜ Wrote (now (out .entry)) pos (pairWords (pairsThin (mapEntries (now (glyphs .entry))) f1 f2 n1 n2 (now (src .entry)) at)) (now (out .exit)) r ⌝ }
+{
+    let size = pair_size(f1, f2);
+    let mut q = pos;
+    let mut p = at + 2;
+    let mut left = word_at(src, at);
+    while 0 < left {
+        let second = word_at(src, p);
+        if let Found::New(glyph) = find(glyphs, second) {
+            q = write_pair(src, p, f1, f2, n1, n2, glyph, out, q);
+        }
+        p += size;
+        left -= 1;
+    }
+    q
+}
+
+// The set at `at` with the pairs that survive and the fields of the new formats `n1` and `n2`, written from `pos` on where there is room; the place after it.
+pub fn write_set(
+    src: &[u8],
+    at: usize,
+    f1: usize,
+    f2: usize,
+    n1: usize,
+    n2: usize,
+    glyphs: &[u8],
+    out: &mut [u8],
+    pos: usize,
+) -> usize
+    requires { ⌜ (at < 0x1_0000_0000) × (pos < 0x100_0000_0000) × (ascends (keys (mapEntries (now glyphs))) ≡ true) ⌝ }
+    ensures { λ r. ⌜ Wrote (now (out .entry)) pos (pairSetWords (pairsThin (mapEntries (now (glyphs .entry))) f1 f2 n1 n2 (now (src .entry)) at)) (now (out .exit)) r ⌝ }
+{
+    let end = write_pairs(src, at, f1, f2, n1, n2, glyphs, out, pos + 2);
+    put(out, pos, (end - pos - 2) / pair_size(n1 % 16, n2 % 16));
+    end
+}
