@@ -2,3 +2,4 @@ pub mod Checked
 pub mod Walk
 pub mod Uses
 pub mod Sizes
+pub mod Writes

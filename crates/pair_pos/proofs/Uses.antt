@@ -14,8 +14,8 @@ use Rattle.maps.specs.Found.{Answers, finds-new, finds-none}
 use Rattle.maps.specs.declared.Found.{Found}
 use Rattle.maps.specs.declared.Found.the-variants.{New, Gone}
 use Rattle.pair_pos.specs.Fields.{isField, fieldPlace, read-none, read-there}
-use Rattle.pair_pos.specs.Pairs.{pairsLeft, valuesOf, usedIn}
-use Rattle.pair_pos.proofs.Walk.{pairAt, cuts, Walking, walking-front, walking-turn, walking-end}
+use Rattle.pair_pos.specs.Pairs.{pairAt, pairsLeft, valuesOf, usedIn}
+use Rattle.pair_pos.proofs.Walk.{cuts, Walking, walking-front, walking-turn, walking-end}
 
 and-true : (b : Bool) → b && true ≡ b
 and-true true = refl

@@ -5,17 +5,14 @@ use mathlib.Core.Bool.{Bool, true, false}
 use mathlib.Core.Option.{some}
 use mathlib.Core.List.{List, [], _∷_}
 use native.Mathlib.Omega.{arith}
-use Rattle.meaning.specs.Words.{word, words, find, bind, push, mapSome, isSome}
+use Rattle.meaning.specs.Words.{word, find, bind, push, mapSome, isSome}
 use Rattle.meaning.specs.Maps.{mapEntries}
 use Rattle.meaning.specs.Tables.{Pair, pairRecords, pairSet}
 use Rattle.meaning.specs.Cut.{cutPair, cutPairs, unlessEmpty}
 use Rattle.maps.specs.Found.{Answers, finds-new, finds-none}
 use Rattle.maps.specs.declared.Found.{Found}
 use Rattle.maps.specs.declared.Found.the-variants.{New, Gone}
-
--- the pair whose record stands at p, with its second glyph renumbered to n; there are a fields for the first glyph and b for the second
-abbrev pub pairAt : List ℕ → ℕ → ℕ → ℕ → ℕ → Pair
-pairAt s a b p n = record { second = n; first-values = words s (p + 2) a; second-values = words s (p + 2 + 2 * a) b }
+use Rattle.pair_pos.specs.Pairs.{pairAt}
 
 -- the pairs that survive under the glyph map m, out of `left` records from p on
 unfoldable pub cuts : List ℕ → List ℕ → ℕ → ℕ → ℕ → ℕ → List Pair

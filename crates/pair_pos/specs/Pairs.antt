@@ -1,16 +1,20 @@
 -- What survives of a pair set: the pairs, the fields that they use, and the new formats.
-use Prim.Native.Nat.{ℕ, _+_, _≤_, _<_}
+use Prim.Native.Nat.{ℕ, _+_, _*_, _≤_, _<_}
 use mathlib.Core.Path.{_≡_, refl, sym}
 use mathlib.Core.Bool.{Bool, true, false, cond, _||_, not, true≢false}
 use mathlib.Core.Option.{none, some}
 use mathlib.Core.List.{List, [], _∷_, map}
 use native.Mathlib.Omega.{arith}
 use lib.Dec.{eqb}
-use Rattle.meaning.specs.Words.{isSome, mapSome}
+use Rattle.meaning.specs.Words.{words, isSome, mapSome}
 use Rattle.meaning.specs.Tables.{Pair, field, fieldCount, pairSet}
 use Rattle.meaning.specs.Cut.{unlessEmpty, cutPair, cutPairs, used, keepIf, newFormat, thinPair}
 
 -- f1 and f2 are the formats of the value records of the first and of the second glyph, n1 and n2 the new ones, and g is the glyph map.
+
+-- the pair whose record stands at p in the source s, with its second glyph renumbered to n; there are a fields for the first glyph and b for the second
+abbrev pub pairAt : List ℕ → ℕ → ℕ → ℕ → ℕ → Pair
+pairAt s a b p n = record { second = n; first-values = words s (p + 2) a; second-values = words s (p + 2 + 2 * a) b }
 
 -- the pairs of the set that stands at `at` in the source s
 abbrev pub pairsOf : ℕ → ℕ → List ℕ → ℕ → List Pair

@@ -4,8 +4,10 @@ use maps::find;
 use wire::Fault;
 use wire::ascending;
 use wire::inside;
+use wire::put;
 use wire::word_at;
 ghost use mathlib.Core.Path.{_≡_};
+ghost use mathlib.Core.List.{[], _∷_};
 ghost use mathlib.Core.Bool.{true, cond, _&&_, not};
 ghost use Prim.Native.Nat.{_+_, _*_, _≤_, _<_};
 ghost use lib.Dec.{eqb};
@@ -14,11 +16,12 @@ ghost use Rattle.meaning.specs.Words.{word, words, find, isSome, ascends, keys}
 ghost use Rattle.meaning.specs.Maps.{mapEntries};
 ghost use Rattle.meaning.specs.Tables.{fieldCount, field};
 ghost use Rattle.meaning.specs.Fault.{pairSetFault};
-ghost use Rattle.meaning.specs.Cut.{cutPairs};
-ghost use Rattle.meaning.specs.Layout.{pairSetWords};
+ghost use Rattle.meaning.specs.Cut.{cutPairs, pickFields, thinPair};
+ghost use Rattle.meaning.specs.Layout.{pairWords, pairSetWords};
+ghost use Rattle.laws.specs.Written.{Wrote};
 ghost use Rattle.wire.specs.Fault.{faultOf};
 ghost use Rattle.pair_pos.specs.Fields.{isField, fieldPlace};
-ghost use Rattle.pair_pos.specs.Pairs.{pairsOf, pairsLeft, pairsThin, valuesOf, usedIn};
+ghost use Rattle.pair_pos.specs.Pairs.{pairAt, pairsOf, pairsLeft, pairsThin, valuesOf, usedIn};
 
 // How many fields a value record of the format `f` has: one for each set bit of the lower eight.
 pub fn field_count(f: usize) -> usize
@@ -182,4 +185,106 @@ pub fn set_size(
     ensures { λ r. ⌜ (r ≡ 2 * length (pairSetWords (pairsThin (mapEntries (now (glyphs .entry))) f1 f2 n1 n2 (now (src .entry)) at))) × (r < 0x200_0000) ⌝ }
 {
     2 + pair_size(n1 % 16, n2 % 16) * count_left(src, at, f1, f2, glyphs)
+}
+
+// The field `k` of the value record of format `f` at `at`, written at `pos` where the new format has it; the place after it.
+fn write_field(
+    src: &[u8],
+    at: usize,
+    f: usize,
+    new: usize,
+    k: usize,
+    out: &mut [u8],
+    pos: usize,
+) -> usize
+    requires { ⌜ (at < 0x1_0000_0000_0000) × (isField k ≡ true) × (pos < 0x2_0000_0000_0000) ⌝ }
+    ensures { λ r. ⌜ (Wrote (now (out .entry)) pos (pickFields f new (words (now (src .entry)) at (fieldCount f)) (k ∷ [])) (now (out .exit)) r) × (r ≤ pos + 2) ⌝ }
+{
+    if new / k % 2 != 1 {
+        return pos;
+    }
+    put(out, pos, field_at(src, at, f, k))
+}
+
+// The value record of format `f` at `at`, written at `pos` with the fields of the new format; the place after it.
+fn write_values(src: &[u8], at: usize, f: usize, new: usize, out: &mut [u8], pos: usize) -> usize
+    requires { ⌜ (at < 0x1_0000_0000_0000) × (pos < 0x1_8000_0000_0000) ⌝ }
+    ensures { λ r. ⌜ (Wrote (now (out .entry)) pos (pickFields f new (words (now (src .entry)) at (fieldCount f)) (1 ∷ 2 ∷ 4 ∷ 8 ∷ [])) (now (out .exit)) r) × (r ≤ pos + 8) ⌝ }
+{
+    let a = write_field(src, at, f, new, 1, out, pos);
+    let b = write_field(src, at, f, new, 2, out, a);
+    let c = write_field(src, at, f, new, 4, out, b);
+    write_field(src, at, f, new, 8, out, c)
+}
+
+// The pair record at `p`, written at `pos` with its second glyph renumbered to `glyph` and the fields of the new formats; the place after it.
+fn write_pair(
+    src: &[u8],
+    p: usize,
+    f1: usize,
+    f2: usize,
+    n1: usize,
+    n2: usize,
+    glyph: usize,
+    out: &mut [u8],
+    pos: usize,
+) -> usize
+    requires { ⌜ (p + 34 < 0x1_0000_0000_0000) × (pos < 0x1_4000_0000_0000) ⌝ }
+    ensures { λ r. ⌜ (Wrote (now (out .entry)) pos (pairWords (thinPair f1 f2 n1 n2 (pairAt (now (src .entry)) (fieldCount f1) (fieldCount f2) p glyph) ∷ [])) (now (out .exit)) r) × (r ≤ pos + 18) ⌝ }
+{
+    let first = p + 2;
+    let second = first + 2 * field_count(f1);
+    let a = put(out, pos, glyph);
+    let b = write_values(src, first, f1, n1, out, a);
+    write_values(src, second, f2, n2, out, b)
+}
+
+// The pairs of the set at `at` that survive, written from `pos` on with the fields of the new formats; the place after them.
+fn write_pairs(
+    src: &[u8],
+    at: usize,
+    f1: usize,
+    f2: usize,
+    n1: usize,
+    n2: usize,
+    glyphs: &[u8],
+    out: &mut [u8],
+    pos: usize,
+) -> usize
+    requires { ⌜ (at < 0x1_0000_0000) × (pos < 0x101_0000_0000) × (ascends (keys (mapEntries (now glyphs))) ≡ true) ⌝ }
+    ensures { λ r. ⌜ Wrote (now (out .entry)) pos (pairWords (pairsThin (mapEntries (now (glyphs .entry))) f1 f2 n1 n2 (now (src .entry)) at)) (now (out .exit)) r ⌝ }
+{
+    let size = pair_size(f1, f2);
+    let mut q = pos;
+    let mut p = at + 2;
+    let mut left = word_at(src, at);
+    while 0 < left {
+        let second = word_at(src, p);
+        if let Found::New(glyph) = find(glyphs, second) {
+            q = write_pair(src, p, f1, f2, n1, n2, glyph, out, q);
+        }
+        p += size;
+        left -= 1;
+    }
+    q
+}
+
+// The set at `at` with the pairs that survive and the fields of the new formats `n1` and `n2`, written from `pos` on where there is room; the place after it.
+pub fn write_set(
+    src: &[u8],
+    at: usize,
+    f1: usize,
+    f2: usize,
+    n1: usize,
+    n2: usize,
+    glyphs: &[u8],
+    out: &mut [u8],
+    pos: usize,
+) -> usize
+    requires { ⌜ (at < 0x1_0000_0000) × (pos < 0x100_0000_0000) × (ascends (keys (mapEntries (now glyphs))) ≡ true) ⌝ }
+    ensures { λ r. ⌜ Wrote (now (out .entry)) pos (pairSetWords (pairsThin (mapEntries (now (glyphs .entry))) f1 f2 n1 n2 (now (src .entry)) at)) (now (out .exit)) r ⌝ }
+{
+    let end = write_pairs(src, at, f1, f2, n1, n2, glyphs, out, pos + 2);
+    put(out, pos, (end - pos - 2) / pair_size(n1 % 16, n2 % 16));
+    end
 }
