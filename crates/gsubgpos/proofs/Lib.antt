@@ -2,3 +2,4 @@ pub mod Sequences
 pub mod Records
 pub mod Parts
 pub mod Rules
+pub mod Sets

@@ -16,7 +16,7 @@ use Rattle.gsubgpos.specs.Parts.{IsRule}
 use Rattle.gsubgpos.specs.declared.RuleParts.{RuleParts}
 
 -- what ends before something that lies inside lies inside too
-inside-before : (s : List ℕ) (p q at n : ℕ) → p + q ≤ at + n → inside s p q && inside s at n ≡ inside s at n
+pub inside-before : (s : List ℕ) (p q at n : ℕ) → p + q ≤ at + n → inside s p q && inside s at n ≡ inside s at n
 unfolding inside
 inside-before s p q at n h = step (leb (at + n) (length s)) refl
   where

@@ -1,18 +1,19 @@
 -- What is left of a rule, by the parts that stand in its source.
-use Prim.Native.Nat.{ℕ, _+_, _*_}
+use Prim.Native.Nat.{ℕ, suc, _+_, _*_, _≤_, _<_}
 use mathlib.Core.Path.{_≡_, refl, sym, ap, _∙_}
 use mathlib.Core.Bool.{Bool, true, false, cond, _&&_, not}
+use mathlib.Core.Option.{Option, none, some}
 use mathlib.Core.List.{List, [], _∷_, _++_, append-assoc}
 use native.Mathlib.Omega.{arith}
 use lib.ListN.{length, length-append}
 use borrow.Author.Tests.{not-true, not-false}
-use Rattle.meaning.specs.Words.{words, entries, twos, find, isSome, mapAll}
+use Rattle.meaning.specs.Words.{words, entries, twos, find, isSome, bind, push, mapAll, mapSome}
 use Rattle.meaning.specs.Maps.{mapEntries}
 use Rattle.meaning.specs.Tables.{plainRule, rule}
 use Rattle.meaning.specs.Cut.{cutRecords, cutRule}
 use Rattle.meaning.specs.Layout.{ruleWords}
 use Rattle.laws.specs.Stands.{twos-length}
-use Rattle.laws.specs.Left.{words-length}
+use Rattle.laws.specs.Left.{words-length, entries-length}
 use Rattle.laws.specs.Written.{Wrote, wrote-more}
 use Rattle.laws.specs.Members.{wordsLeft}
 use Rattle.gsubgpos.specs.Left.{mapsOf, ruleLeft, renumbered, countStays, renumberedRule, stays, cut-rule, rule-stays}
@@ -111,6 +112,32 @@ module _ {s : List ℕ} {at : ℕ} {r : RuleParts} (b i a l : List ℕ) where
       let h : head ≡ 4 = e in
       omega
       (arith, ap length (plain-words p f), length-append ((r .count ∷ k ∷ []) ++ I) (twos R), length-append (r .count ∷ k ∷ []) I, row-length s i (r .input), twos-length R, ap length (p .back), ap length (p .ahead), words-length s (r .back .at) (r .back .len), words-length s (r .ahead .at) (r .ahead .len))
+
+-- no more records are left than there were
+records-few : (l rs : List (ℕ × ℕ)) → length (cutRecords l rs) ≤ length rs
+unfolding cutRecords mapSome push
+records-few l [] = omega arith
+records-few l ((x, y) ∷ rs) = step (bind (find l y) (λ n. some (x, n))) (cutRecords l rs) (records-few l rs)
+  where
+    step : (o : Option (ℕ × ℕ)) (r : List (ℕ × ℕ)) → length r ≤ length rs → length (push o r) ≤ suc (length rs)
+    step none r h = omega arith
+    step (some e) r h = omega arith
+
+-- what is left of a rule is short
+pub rule-short : {s : List ℕ} {at : ℕ} {r : RuleParts} (b i a l : List ℕ) (chained : Bool) → IsRule chained s at r
+    → 2 * length (ruleWords chained (renumberedRule (mapsOf b i a l) (rule chained s at))) < 0x10_0000
+rule-short {s} {at} {r} b i a l chained p =
+    let e = entries-length s (r .records .at) (r .records .len) in
+    let f = records-few (mapEntries l) (entries s (r .records .at) (r .records .len)) in
+    omega (arith, size-by b i a l chained p {head = cond chained 8 4} {k = length (rowRecords s l (r .records))} refl refl, head-few chained, e, f)
+  where
+    head-few : (c : Bool) → cond c 8 4 ≤ 8
+    head-few true = omega arith
+    head-few false = omega arith
+
+-- a short row of words ends near
+pub wrote-short : {out₀ : List ℕ} {pos : ℕ} {ws out : List ℕ} {r : ℕ} → Wrote out₀ pos ws out r → 2 * length ws < 0x10_0000 → Wrote out₀ pos ws out r × (r < pos + 0x10_0000)
+wrote-short k h = (k, omega (arith, k .place))
 
 -- a plain rule's words take the maps of the input and of the lookups only
 pub plain-only : (b i a l s : List ℕ) (at : ℕ)

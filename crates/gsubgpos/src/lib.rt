@@ -3,24 +3,27 @@ use maps::Found;
 use maps::find;
 use wire::Fault;
 use wire::inside;
+use wire::lowest;
 use wire::put;
 use wire::put_entry;
 use wire::word_at;
 ghost use mathlib.Core.Path.{_≡_};
-ghost use mathlib.Core.Bool.{true, false, cond, _&&_, not};
+ghost use mathlib.Core.Bool.{true, false, cond};
+ghost use mathlib.Core.Option.{none};
 ghost use mathlib.Core.List.{[], _∷_};
 ghost use Prim.Native.Nat.{_+_, _-_, _*_, _≤_, _<_};
 ghost use lib.ListN.{length};
 ghost use lib.Dec.{eqb};
-ghost use Rattle.meaning.specs.Words.{words, entries, twos, find, isSome, mapAll};
+ghost use Rattle.meaning.specs.Words.{word, words, entries, twos, find, isSome, mapAll, push};
 ghost use Rattle.meaning.specs.Maps.{mapEntries};
-ghost use Rattle.meaning.specs.Tables.{rule};
-ghost use Rattle.meaning.specs.Fault.{ruleFault};
-ghost use Rattle.meaning.specs.Cut.{cutRecords, cutRule};
+ghost use Rattle.meaning.specs.Tables.{rule, ruleSet};
+ghost use Rattle.meaning.specs.Fault.{ruleFault, faultThrough, setFault};
+ghost use Rattle.meaning.specs.Cut.{cutRecords, cutRule, cutSet};
 ghost use Rattle.meaning.specs.Layout.{ruleWords};
 ghost use Rattle.laws.specs.Written.{Wrote};
+ghost use Rattle.laws.specs.Members.{wordsLeft, sized};
 ghost use Rattle.wire.specs.Fault.{faultOf};
-ghost use Rattle.gsubgpos.specs.Left.{Ascends, NumbersAscend, AllAscend, mapsOf, ruleLeft, newOf, renumbered, countStays, renumberedRule};
+ghost use Rattle.gsubgpos.specs.Left.{Ascends, NumbersAscend, AllAscend, mapsOf, ruleLeft, setLeft, ruleAt, rulesLeft, newOf, renumbered, countStays, renumberedRule};
 ghost use Rattle.gsubgpos.specs.Parts.{IsRule};
 
 // Numbers or records in a row: where the first stands, and how many there are.
@@ -316,7 +319,7 @@ fn write_plain(
     pos: usize,
 ) -> usize
     requires { ⌜ (at < 0x1000_0000_0000) × (pos < 0x1000_0000_0000) × Ascends (now input) × Ascends (now lookups) ⌝ }
-    ensures { λ r. ⌜ Wrote (now (out .entry)) pos (ruleWords false (renumberedRule (mapsOf [] (now (input .entry)) [] (now (lookups .entry))) (rule false (now (src .entry)) at))) (now (out .exit)) r ⌝ }
+    ensures { λ r. ⌜ (Wrote (now (out .entry)) pos (ruleWords false (renumberedRule (mapsOf [] (now (input .entry)) [] (now (lookups .entry))) (rule false (now (src .entry)) at))) (now (out .exit)) r) × (r < pos + 0x10_0000) ⌝ }
 {
     let r = plain_parts(src, at);
     let k = records_left(src, r.records.at, r.records.len, lookups);
@@ -337,7 +340,7 @@ fn write_chained(
     pos: usize,
 ) -> usize
     requires { ⌜ (at < 0x1000_0000_0000) × (pos < 0x1000_0000_0000) × AllAscend (now back) (now input) (now ahead) (now lookups) ⌝ }
-    ensures { λ r. ⌜ Wrote (now (out .entry)) pos (ruleWords true (renumberedRule (mapsOf (now (back .entry)) (now (input .entry)) (now (ahead .entry)) (now (lookups .entry))) (rule true (now (src .entry)) at))) (now (out .exit)) r ⌝ }
+    ensures { λ r. ⌜ (Wrote (now (out .entry)) pos (ruleWords true (renumberedRule (mapsOf (now (back .entry)) (now (input .entry)) (now (ahead .entry)) (now (lookups .entry))) (rule true (now (src .entry)) at))) (now (out .exit)) r) × (r < pos + 0x10_0000) ⌝ }
 {
     let r = chained_parts(src, at);
     let p = write_counted(r.back.len, src, r.back.at, r.back.len, back, out, pos);
@@ -359,7 +362,7 @@ pub fn write_rule(
     pos: usize,
 ) -> usize
     requires { ⌜ (at < 0x1000_0000_0000) × (pos < 0x1000_0000_0000) × AllAscend (now back) (now input) (now ahead) (now lookups) ⌝ }
-    ensures { λ r. ⌜ Wrote (now (out .entry)) pos (ruleLeft chained (mapsOf (now (back .entry)) (now (input .entry)) (now (ahead .entry)) (now (lookups .entry))) (now (src .entry)) at) (now (out .exit)) r ⌝ }
+    ensures { λ r. ⌜ (Wrote (now (out .entry)) pos (ruleLeft chained (mapsOf (now (back .entry)) (now (input .entry)) (now (ahead .entry)) (now (lookups .entry))) (now (src .entry)) at) (now (out .exit)) r) × (r < pos + 0x10_0000) ⌝ }
 {
     if !rule_survives(chained, src, at, back, input, ahead) {
         return pos;
@@ -368,4 +371,243 @@ pub fn write_rule(
         return write_chained(src, at, back, input, ahead, lookups, out, pos);
     }
     write_plain(src, at, input, lookups, out, pos)
+}
+
+// The fault of the rule that the offset at `slot` reaches from `base`; a null offset reaches none.
+fn fault_at(chained: bool, src: &[u8], base: usize, slot: usize) -> Fault
+    requires { ⌜ base < 0x1000_0000_0000 ⌝ }
+    ensures { λ r. ⌜ r ≡ faultOf (cond (eqb (word (now (src .entry)) slot) 0) none (ruleFault chained (now (src .entry)) (base + word (now (src .entry)) slot))) ⌝ }
+{
+    let off = word_at(src, slot);
+    if off == 0 {
+        return Fault::Sound;
+    }
+    check_rule(chained, src, base + off)
+}
+
+// The lowest fault among the rules that the `n` offsets of the set at `at` reach.
+fn check_rules(chained: bool, src: &[u8], at: usize, n: usize) -> Fault
+    requires { ⌜ (at < 0x100_0000_0000) × (n < 65536) ⌝ }
+    ensures { λ r. ⌜ r ≡ faultOf (faultThrough (ruleFault chained (now (src .entry))) (now (src .entry)) at (at + 2) n) ⌝ }
+{
+    let mut low = Fault::Sound;
+    let mut i = 0;
+    while i < n {
+        low = lowest(low, fault_at(chained, src, at, at + 2 + 2 * i));
+        i += 1;
+    }
+    low
+}
+
+// The fault of the set of rules at `at`: its own place if its offsets do not lie inside the source, else the lowest among its rules.
+pub fn check_set(chained: bool, src: &[u8], at: usize) -> Fault
+    requires { ⌜ at < 0x100_0000_0000 ⌝ }
+    ensures { λ r. ⌜ r ≡ faultOf (setFault (ruleFault chained (now (src .entry))) (now (src .entry)) at) ⌝ }
+{
+    let n = word_at(src, at);
+    if !inside(src, at + 2, 2 * n) {
+        return Fault::At(at);
+    }
+    check_rules(chained, src, at, n)
+}
+
+// Whether something is left of the rule that the offset at `slot` reaches from `base`; a null offset reaches none.
+fn survives_at(
+    chained: bool,
+    src: &[u8],
+    base: usize,
+    slot: usize,
+    back: &[u8],
+    input: &[u8],
+    ahead: &[u8],
+) -> bool
+    requires { ⌜ (base < 0x100_0000_0000) × NumbersAscend (now back) (now input) (now ahead) ⌝ }
+    ensures { λ r. ⌜ r ≡ isSome (ruleAt chained (mapsOf (now (back .entry)) (now (input .entry)) (now (ahead .entry)) []) (now (src .entry)) base slot) ⌝ }
+{
+    let off = word_at(src, slot);
+    if off == 0 {
+        return false;
+    }
+    rule_survives(chained, src, base + off, back, input, ahead)
+}
+
+// Whether something is left of the set of rules at `at`: the loop is left at the first rule that survives.
+pub fn set_survives(
+    chained: bool,
+    src: &[u8],
+    at: usize,
+    back: &[u8],
+    input: &[u8],
+    ahead: &[u8],
+) -> bool
+    requires { ⌜ (at < 0x100_0000_0000) × NumbersAscend (now back) (now input) (now ahead) ⌝ }
+    ensures { λ r. ⌜ r ≡ isSome (cutSet chained (mapsOf (now (back .entry)) (now (input .entry)) (now (ahead .entry)) []) (ruleSet chained (now (src .entry)) at)) ⌝ }
+{
+    let n = word_at(src, at);
+    let mut found = false;
+    let mut i = 0;
+    'rules: while i < n {
+        if survives_at(chained, src, at, at + 2 + 2 * i, back, input, ahead) {
+            found = true;
+            break 'rules;
+        }
+        i += 1;
+    }
+    found
+}
+
+// How many rules are left of those that the `n` offsets of the set at `at` reach.
+fn rules_left(
+    chained: bool,
+    src: &[u8],
+    at: usize,
+    n: usize,
+    back: &[u8],
+    input: &[u8],
+    ahead: &[u8],
+) -> usize
+    requires { ⌜ (at < 0x100_0000_0000) × (n < 65536) × NumbersAscend (now back) (now input) (now ahead) ⌝ }
+    ensures { λ r. ⌜ (r ≡ length (rulesLeft chained (mapsOf (now (back .entry)) (now (input .entry)) (now (ahead .entry)) []) (now (src .entry)) at n)) × (r ≤ n) ⌝ }
+{
+    let mut k = 0;
+    let mut i = 0;
+    while i < n {
+        if survives_at(chained, src, at, at + 2 + 2 * i, back, input, ahead) {
+            k += 1;
+        }
+        i += 1;
+    }
+    k
+}
+
+// The bytes that the rule that the offset at `slot` reaches from `base` takes in what is left of its set: its new offset and itself; 0 if it goes.
+fn size_at(
+    chained: bool,
+    src: &[u8],
+    base: usize,
+    slot: usize,
+    back: &[u8],
+    input: &[u8],
+    ahead: &[u8],
+    lookups: &[u8],
+) -> usize
+    requires { ⌜ (base < 0x100_0000_0000) × AllAscend (now back) (now input) (now ahead) (now lookups) ⌝ }
+    ensures { λ r. ⌜ (r ≡ sized (ruleWords chained) (push (ruleAt chained (mapsOf (now (back .entry)) (now (input .entry)) (now (ahead .entry)) (now (lookups .entry))) (now (src .entry)) base slot) [])) × (r < 0x20_0000) ⌝ }
+{
+    let off = word_at(src, slot);
+    if off == 0 {
+        return 0;
+    }
+    let w = rule_size(chained, src, base + off, back, input, ahead, lookups);
+    if w == 0 {
+        return 0;
+    }
+    2 + w
+}
+
+// The bytes of what is left of the set of rules at `at`.
+pub fn set_size(
+    chained: bool,
+    src: &[u8],
+    at: usize,
+    back: &[u8],
+    input: &[u8],
+    ahead: &[u8],
+    lookups: &[u8],
+) -> usize
+    requires { ⌜ (at < 0x100_0000_0000) × AllAscend (now back) (now input) (now ahead) (now lookups) ⌝ }
+    ensures { λ r. ⌜ (r ≡ 2 * length (setLeft chained (mapsOf (now (back .entry)) (now (input .entry)) (now (ahead .entry)) (now (lookups .entry))) (now (src .entry)) at)) × (r < 0x100_0000_0000) ⌝ }
+{
+    let n = word_at(src, at);
+    let mut total = 0;
+    let mut i = 0;
+    while i < n {
+        total += size_at(
+            chained,
+            src,
+            at,
+            at + 2 + 2 * i,
+            back,
+            input,
+            ahead,
+            lookups,
+        );
+        i += 1;
+    }
+    2 + total
+}
+
+// What is left of the rule that the offset at `slot` reaches from `base`, from `pos` on, where there is room; the place after it.
+fn write_at(
+    chained: bool,
+    src: &[u8],
+    base: usize,
+    slot: usize,
+    back: &[u8],
+    input: &[u8],
+    ahead: &[u8],
+    lookups: &[u8],
+    out: &mut [u8],
+    pos: usize,
+) -> usize
+    requires { ⌜ (base < 0x100_0000_0000) × (pos < 0x1000_0000_0000) × AllAscend (now back) (now input) (now ahead) (now lookups) ⌝ }
+    ensures { λ r. ⌜ (Wrote (now (out .entry)) pos (wordsLeft (ruleWords chained) (ruleAt chained (mapsOf (now (back .entry)) (now (input .entry)) (now (ahead .entry)) (now (lookups .entry))) (now (src .entry)) base slot)) (now (out .exit)) r) × (r < pos + 0x10_0000) ⌝ }
+{
+    let off = word_at(src, slot);
+    if off == 0 {
+        return pos;
+    }
+    write_rule(
+        chained,
+        src,
+        base + off,
+        back,
+        input,
+        ahead,
+        lookups,
+        out,
+        pos,
+    )
+}
+
+// What is left of the set of rules at `at`, from `pos` on, where there is room; the place after it: the number of rules left, an offset for each, and the rules.
+pub fn write_set(
+    chained: bool,
+    src: &[u8],
+    at: usize,
+    back: &[u8],
+    input: &[u8],
+    ahead: &[u8],
+    lookups: &[u8],
+    out: &mut [u8],
+    pos: usize,
+) -> usize
+    requires { ⌜ (at < 0x100_0000_0000) × (pos < 0x100_0000_0000) × AllAscend (now back) (now input) (now ahead) (now lookups) ⌝ }
+    ensures { λ r. ⌜ Wrote (now (out .entry)) pos (setLeft chained (mapsOf (now (back .entry)) (now (input .entry)) (now (ahead .entry)) (now (lookups .entry))) (now (src .entry)) at) (now (out .exit)) r ⌝ }
+{
+    let n = word_at(src, at);
+    let k = rules_left(chained, src, at, n, back, input, ahead);
+    let mut slot = put(out, pos, k);
+    let mut p = 2 + 2 * k;
+    let mut i = 0;
+    while i < n {
+        let q = write_at(
+            chained,
+            src,
+            at,
+            at + 2 + 2 * i,
+            back,
+            input,
+            ahead,
+            lookups,
+            out,
+            pos + p,
+        );
+        if q != pos + p {
+            slot = put(out, slot, p);
+            p = q - pos;
+        }
+        i += 1;
+    }
+    pos + p
 }

@@ -1,7 +1,9 @@
+use mathlib.Core.Bool.{true}
 use native.Mathlib.Omega.{arith}
 use borrow.Author.Needs.{needs}
 use Rattle.laws.specs.Written.{wrote-said}
 use Rattle.gsubgpos.proofs.Rules.{wrote-on, row-length, chained-words}
+use Rattle.gsubgpos.proofs.Rules.{wrote-short, rule-short}
 use Rattle.gsubgpos.proofs.write_chained.Statement.{statement}
 use Rattle.gsubgpos.proofs.write_chained.Tie as tie
 
@@ -37,7 +39,11 @@ returns c =
     let x = y .before .before .before .before in
     let r = x .before .before in
     let a = r .before .before .before .before .before .before .before .args in
-    wrote-said (wrote-on (wrote-on (wrote-on (x .write-counted .ensures) (y .write-counted2 .ensures)) (z .write-counted3 .ensures)) (w .write-records .ensures)) (chained-words (a .back .now) (a .input .now) (a .ahead .now) (a .lookups .now) (r .chained-parts .ensures))
+    wrote-short
+    (wrote-said
+    (wrote-on (wrote-on (wrote-on (x .write-counted .ensures) (y .write-counted2 .ensures)) (z .write-counted3 .ensures)) (w .write-records .ensures))
+    (chained-words (a .back .now) (a .input .now) (a .ahead .now) (a .lookups .now) (r .chained-parts .ensures)))
+    (rule-short (a .back .now) (a .input .now) (a .ahead .now) (a .lookups .now) true (r .chained-parts .ensures))
 
 pub write-chained-spec : {M : Type 1} → statement M
 write-chained-spec =

@@ -1,8 +1,10 @@
+use mathlib.Core.Bool.{false}
 use mathlib.Core.List.{[]}
 use native.Mathlib.Omega.{arith}
 use borrow.Author.Needs.{needs}
 use Rattle.laws.specs.Written.{wrote-none, wrote-two, wrote-said}
 use Rattle.gsubgpos.proofs.Rules.{wrote-on, row-length, plain-words}
+use Rattle.gsubgpos.proofs.Rules.{wrote-short, rule-short}
 use Rattle.gsubgpos.proofs.write_plain.Statement.{statement}
 use Rattle.gsubgpos.proofs.write_plain.Tie as tie
 
@@ -21,7 +23,11 @@ returns c =
     let k = p .before .before in
     let r = k .before in
     let a = r .before .before .before .before .before .args in
-    wrote-said (wrote-on (wrote-on (wrote-two (r .plain-parts .result .count) (k .records-left .result) wrote-none (p .put-entry .ensures)) (q .serialize-sequence .ensures)) (t .serialize-lookup-records .ensures)) (plain-words [] (a .input .now) [] (a .lookups .now) (r .plain-parts .ensures) (k .records-left .ensures .0))
+    wrote-short
+    (wrote-said
+    (wrote-on (wrote-on (wrote-two (r .plain-parts .result .count) (k .records-left .result) wrote-none (p .put-entry .ensures)) (q .serialize-sequence .ensures)) (t .serialize-lookup-records .ensures))
+    (plain-words [] (a .input .now) [] (a .lookups .now) (r .plain-parts .ensures) (k .records-left .ensures .0)))
+    (rule-short [] (a .input .now) [] (a .lookups .now) false (r .plain-parts .ensures))
 
 pub write-plain-spec : {M : Type 1} → statement M
 write-plain-spec =

@@ -1,3 +1,4 @@
+use native.Mathlib.Omega.{arith}
 use borrow.Author.Needs.{needs}
 use borrow.Author.Tests.{not-true, not-false}
 use Rattle.laws.specs.Written.{wrote-none}
@@ -9,7 +10,7 @@ returns : tie.Need-returns
 returns c =
     let v = c .before in
     let a = v .before .before .before .before .before .before .before .args in
-    rw (rule-gone (a .chained) (a .src .now) (a .at) (a .back .now) (a .input .now) (a .ahead .now) (a .lookups .now) (v .rule-survives .ensures) (not-true _ (c .if1 .taken))) wrote-none
+    rw (rule-gone (a .chained) (a .src .now) (a .at) (a .back .now) (a .input .now) (a .ahead .now) (a .lookups .now) (v .rule-survives .ensures) (not-true _ (c .if1 .taken))) (wrote-none, omega arith)
 
 returns-2 : tie.Need-returns-2
 returns-2 c =
