@@ -1,0 +1,36 @@
+-- The fault of a part, by its sort.
+use Prim.Native.Nat.{ℕ, _/_}
+use mathlib.Core.Bool.{Bool, true, false, cond, _&&_}
+use mathlib.Core.Option.{Option}
+use mathlib.Core.List.{List}
+use lib.Dec.{eqb}
+use Rattle.meaning.specs.Words.{word}
+use Rattle.meaning.specs.Tables.{fieldCount}
+use Rattle.meaning.specs.Fault.{coverageFault, classesFault, ruleFault, ligatureFault, setFault, pairSetFault, enough, headerFault}
+use Rattle.checks.specs.declared.Part.{Part}
+use Rattle.checks.specs.declared.Part.the-variants.{Coverage, Classes, Rules, ChainedRules, Ligatures, Pairs}
+
+-- the lowest fault of the part at a place, and of what it reaches
+abbrev pub faultOfPart : Part → List ℕ → ℕ → Option ℕ
+faultOfPart Coverage s = coverageFault s
+faultOfPart Classes s = classesFault s
+faultOfPart Rules s = setFault (ruleFault false s) s
+faultOfPart ChainedRules s = setFault (ruleFault true s) s
+faultOfPart Ligatures s = setFault (ligatureFault s) s
+faultOfPart Pairs s = pairSetFault (fieldCount (word s 4)) (fieldCount (word s 6)) s
+
+-- the fault of a context by its format, of a ligature table and of a pair table, once the first two bytes stand
+abbrev pub byGlyphFault : Bool → List ℕ → Option ℕ
+byGlyphFault chained s = headerFault (enough s (word s 4)) 0 4 (setFault (ruleFault chained s) s) s
+
+abbrev pub byClassFault : Bool → List ℕ → Option ℕ
+byClassFault chained s = cond chained (headerFault true 3 10 (setFault (ruleFault chained s) s) s) (headerFault true 1 6 (setFault (ruleFault chained s) s) s)
+
+abbrev pub ligaturesFault : List ℕ → Option ℕ
+ligaturesFault s = headerFault (enough s (word s 4)) 0 4 (faultOfPart Ligatures s) s
+
+abbrev pub pairFields : List ℕ → Bool
+pairFields s = eqb (word s 4 / 256) 0 && (eqb (word s 6 / 256) 0 && enough s (word s 8))
+
+abbrev pub pairsFault : List ℕ → Option ℕ
+pairsFault s = headerFault (pairFields s) 0 8 (faultOfPart Pairs s) s

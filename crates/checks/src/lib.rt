@@ -1,0 +1,215 @@
+// Malformed, over the whole source: the header of each kind and format, and through its offsets every part, retained or not.
+use wire::Fault;
+use wire::inside;
+use wire::lowest;
+use wire::word_at;
+ghost use mathlib.Core.Path.{_≡_};
+ghost use mathlib.Core.Bool.{true, false};
+ghost use Prim.Native.Nat.{_+_, _*_, _<_};
+ghost use Rattle.meaning.specs.Fault.{faultThrough, headerFault, coversFault, contextFault, fault, enough};
+ghost use Rattle.wire.specs.Fault.{faultOf};
+ghost use Rattle.checks.specs.Parts.{faultOfPart, byGlyphFault, byClassFault, ligaturesFault, pairFields, pairsFault};
+
+// The sorts of parts that an offset of a header reaches.
+pub enum Part {
+    Coverage,
+    Classes,
+    Rules,
+    ChainedRules,
+    Ligatures,
+    Pairs,
+}
+
+// The lowest fault of the part at `at`, and of what it reaches. The value formats of pairs stand in the header.
+fn check_part(part: Part, src: &[u8], at: usize) -> Fault
+    requires { ⌜ at < 65536 ⌝ }
+    ensures { λ r. ⌜ r ≡ faultOf (faultOfPart part (now (src .entry)) at) ⌝ }
+{
+    match part {
+        Part::Coverage => coverage::check(src, at),
+        Part::Classes => classes::check(src, at),
+        Part::Rules => gsubgpos::check_set(false, src, at),
+        Part::ChainedRules => gsubgpos::check_set(true, src, at),
+        Part::Ligatures => ligature_subst::check_set(src, at),
+        Part::Pairs => pair_pos::check_set(src, at, word_at(src, 4), word_at(src, 6)),
+    }
+}
+
+// The lowest fault among the parts that `n` offsets from `slot` on reach; a null offset reaches none.
+fn check_through(part: Part, src: &[u8], slot: usize, n: usize) -> Fault
+    requires { ⌜ slot + 2 * n < 0x1_0000_0000_0000 ⌝ }
+    ensures { λ r. ⌜ r ≡ faultOf (faultThrough (faultOfPart part (now (src .entry))) (now (src .entry)) 0 slot n) ⌝ }
+{
+    let mut low = Fault::Sound;
+    let mut i = 0;
+    while i < n {
+        let off = word_at(src, slot + 2 * i);
+        i += 1;
+        if off == 0 {
+            continue;
+        }
+        low = lowest(low, check_part(part, src, off));
+    }
+    low
+}
+
+// Whether there is a set for each covered glyph, where there are `n` sets; not judged where the coverage is null or faulty.
+fn enough_sets(src: &[u8], n: usize) -> bool
+    ensures { λ r. ⌜ r ≡ enough (now (src .entry)) n ⌝ }
+{
+    let at = word_at(src, 2);
+    if at == 0 {
+        return true;
+    }
+    let Fault::Sound = coverage::check(src, at) else {
+        return true;
+    };
+    coverage::count(src, at) <= n
+}
+
+// The lowest fault of a table whose header ends with a count at `slot` and as many offsets to sets: the coverage's offset stands at 2, and those of class tables from 4 on.
+// `good` says whether the header's other fields are.
+fn check_header(src: &[u8], good: bool, tables: usize, slot: usize, part: Part) -> Fault
+    requires { ⌜ (tables < 4) × (slot < 16) ⌝ }
+    ensures { λ r. ⌜ r ≡ faultOf (headerFault good tables slot (faultOfPart part (now (src .entry))) (now (src .entry))) ⌝ }
+{
+    if !inside(src, 0, slot + 2) {
+        return Fault::At(0);
+    }
+    let n = word_at(src, slot);
+    if !inside(src, slot + 2, 2 * n) {
+        return Fault::At(0);
+    }
+    if !good {
+        return Fault::At(0);
+    }
+    let cover = check_through(Part::Coverage, src, 2, 1);
+    let classes = check_through(Part::Classes, src, 4, tables);
+    let sets = check_through(part, src, slot + 2, n);
+    lowest(cover, lowest(classes, sets))
+}
+
+// Format 3 of a plain context: the counts first, then the coverages' offsets and the records.
+fn check_plain_covers(src: &[u8]) -> Fault
+    ensures { λ r. ⌜ r ≡ faultOf (coversFault false (now (src .entry))) ⌝ }
+{
+    if !inside(src, 0, 6) {
+        return Fault::At(0);
+    }
+    let n = word_at(src, 2);
+    if !inside(src, 6, 2 * n + 4 * word_at(src, 4)) {
+        return Fault::At(0);
+    }
+    check_through(Part::Coverage, src, 6, n)
+}
+
+// Format 3 of a chained context: each count before its array.
+fn check_chained_covers(src: &[u8]) -> Fault
+    ensures { λ r. ⌜ r ≡ faultOf (coversFault true (now (src .entry))) ⌝ }
+{
+    let b = word_at(src, 2);
+    let input = 4 + 2 * b;
+    let i = word_at(src, input);
+    let ahead = input + 2 + 2 * i;
+    let a = word_at(src, ahead);
+    let records = ahead + 2 + 2 * a;
+    // Each count lies before the next one, so that the last array's end says it of all.
+    if !inside(src, records, 2 + 4 * word_at(src, records)) {
+        return Fault::At(0);
+    }
+    let back = check_through(Part::Coverage, src, 4, b);
+    let middle = check_through(Part::Coverage, src, input + 2, i);
+    let front = check_through(Part::Coverage, src, ahead + 2, a);
+    lowest(back, lowest(middle, front))
+}
+
+// Format 3, plain or chained.
+fn check_covers(chained: bool, src: &[u8]) -> Fault
+    ensures { λ r. ⌜ r ≡ faultOf (coversFault chained (now (src .entry))) ⌝ }
+{
+    if chained {
+        return check_chained_covers(src);
+    }
+    check_plain_covers(src)
+}
+
+// Format 2: a chained context has three class tables, a plain one has one.
+fn check_by_class(chained: bool, src: &[u8]) -> Fault
+    ensures { λ r. ⌜ r ≡ faultOf (byClassFault chained (now (src .entry))) ⌝ }
+{
+    if chained {
+        return check_header(src, true, 3, 10, Part::ChainedRules);
+    }
+    check_header(src, true, 1, 6, Part::Rules)
+}
+
+// Format 1: a set for each covered glyph.
+fn check_by_glyph(chained: bool, src: &[u8]) -> Fault
+    ensures { λ r. ⌜ r ≡ faultOf (byGlyphFault chained (now (src .entry))) ⌝ }
+{
+    let good = enough_sets(src, word_at(src, 4));
+    if chained {
+        return check_header(src, good, 0, 4, Part::ChainedRules);
+    }
+    check_header(src, good, 0, 4, Part::Rules)
+}
+
+// A context, plain or chained, by its format.
+fn check_context(chained: bool, src: &[u8]) -> Fault
+    ensures { λ r. ⌜ r ≡ faultOf (contextFault chained (now (src .entry))) ⌝ }
+{
+    let format = word_at(src, 0);
+    match format {
+        1 => check_by_glyph(chained, src),
+        2 => check_by_class(chained, src),
+        _ => check_covers(chained, src),
+    }
+}
+
+// A ligature table.
+fn check_ligatures(src: &[u8]) -> Fault
+    ensures { λ r. ⌜ r ≡ faultOf (ligaturesFault (now (src .entry))) ⌝ }
+{
+    check_header(
+        src,
+        enough_sets(src, word_at(src, 4)),
+        0,
+        4,
+        Part::Ligatures,
+    )
+}
+
+// Whether the bits 0xFF00 of both value formats are zero, and there is a set for each covered glyph.
+fn pair_fields(src: &[u8]) -> bool
+    ensures { λ r. ⌜ r ≡ pairFields (now (src .entry)) ⌝ }
+{
+    if 256 <= word_at(src, 4) {
+        return false;
+    }
+    if 256 <= word_at(src, 6) {
+        return false;
+    }
+    enough_sets(src, word_at(src, 8))
+}
+
+// A pair table.
+fn check_pairs(src: &[u8]) -> Fault
+    ensures { λ r. ⌜ r ≡ faultOf (pairsFault (now (src .entry))) ⌝ }
+{
+    check_header(src, pair_fields(src), 0, 8, Part::Pairs)
+}
+
+// Where the lowest faulty part of a source of this kind starts, or that it is sound: 1 context, 2 chained, 3 ligature, and pair for any other.
+pub fn check(kind: usize, src: &[u8]) -> Fault
+    ensures { λ r. ⌜ r ≡ faultOf (fault kind (now (src .entry))) ⌝ }
+{
+    if !inside(src, 0, 2) {
+        return Fault::At(0);
+    }
+    match kind {
+        1 => check_context(false, src),
+        2 => check_context(true, src),
+        3 => check_ligatures(src),
+        _ => check_pairs(src),
+    }
+}
