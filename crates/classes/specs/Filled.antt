@@ -1,6 +1,6 @@
 -- Entries of two words that are written from the front of a scratch buffer, and what their readers ask.
 use Prim.Native.Nat.{ℕ, _*_, _/_, _≤_}
-use mathlib.Core.Path.{_≡_, ap}
+use mathlib.Core.Path.{_≡_, ap, _∙_}
 use mathlib.Core.Bool.{true}
 use mathlib.Core.List.{List}
 use native.Mathlib.Omega.{arith}
@@ -21,6 +21,10 @@ pub record Filled (es : List (ℕ × ℕ)) (before : List ℕ) (r : ℕ) (after 
   pub few : r ≤ 262144
   pub bytes : after ≡ sets before 0 (flat (twos es))
   pub small : All Words2 es
+
+-- the buffer keeps its length
+pub filled-length : {es : List (ℕ × ℕ)} {before after : List ℕ} {r : ℕ} → Filled es before r after → length after ≡ length before
+filled-length {es} {before} h = ap length (h .bytes) ∙ length-sets before 0 (flat (twos es))
 
 -- where there was room for them, the first r bytes read back as the entries
 pub filled-back : {es : List (ℕ × ℕ)} {before after : List ℕ} {r : ℕ} → Filled es before r after → r ≤ length before → mapEntries (take r after) ≡ es

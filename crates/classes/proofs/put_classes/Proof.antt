@@ -32,7 +32,9 @@ put-requires : tie.Need-put-requires Inv-loop μ-loop
 put-requires c κs =
     let z = c .before .before .before .before in
     let x = z .before .before in
-    omega (arith, z .put-zeros .ensures .place, length-replicate {A = ℕ} (x .word-at2 .result - x .before .before .loop .id) 0, spreading-near (x .before .before .loop .inv) (x .before .loop-test .taken) (x .word-at2 .ensures .0))
+    let l = x .before .before in
+    let gap = length-replicate {A = ℕ} (x .word-at2 .result - l .loop .id) 0 in
+    omega (arith, z .put-zeros .ensures .place, gap, spreading-near (l .loop .inv) (x .before .loop-test .taken) (x .word-at2 .ensures .0))
 
 loop-again : tie.Need-loop-again Inv-loop μ-loop
 loop-again c =

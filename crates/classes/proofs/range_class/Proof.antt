@@ -27,7 +27,8 @@ returns-2 c =
     let first = c .before .before in
     let last = first .before .before in
     let l = last .before .before in
-    (c .word-at3 .ensures .0 ∙ walking-in (l .loop .inv) (last .before .loop-test .taken) (last .word-at .ensures .0) (first .word-at2 .ensures .0) (first .before .if1 .taken) (c .before .if2 .left), c .word-at3 .ensures .1)
+    let said = walking-in (l .loop .inv) (last .before .loop-test .taken) (last .word-at .ensures .0) (first .word-at2 .ensures .0) (omega arith) (omega arith) in
+    (c .word-at3 .ensures .0 ∙ said, c .word-at3 .ensures .1)
 
 loop-again : tie.Need-loop-again Inv-loop μ-loop
 loop-again c =

@@ -16,7 +16,11 @@ returns-2 c =
     let t = h .before .before .before in
     let k = t .before in
     let n = k .before in
-    write-array (n .before .before .before .before .args .entries .now) (n .before .if1 .left) (n .count-ids .ensures) (k .count-runs .ensures) (t .if2 .taken) (h .before .word-at .ensures .0) (h .put-record .ensures) (w .put-classes .ensures)
+    let m = n .before .before .before .before .args .entries .now in
+    write-array m (n .before .if1 .left) (n .count-ids .ensures) (k .count-runs .ensures) (t .if2 .taken)
+    (h .before .word-at .ensures .0)
+    (h .put-record .ensures)
+    (w .put-classes .ensures)
 
 returns-3 : tie.Need-returns-3
 returns-3 c =
@@ -25,7 +29,10 @@ returns-3 c =
     let t = h .before .before in
     let k = t .before in
     let n = k .before in
-    write-ranges (n .before .before .before .before .args .entries .now) (n .before .if1 .left) (n .count-ids .ensures) (k .count-runs .ensures) (t .if2 .left) (h .put-entry2 .ensures) (w .put-ranges .ensures)
+    let m = n .before .before .before .before .args .entries .now in
+    write-ranges m (n .before .if1 .left) (n .count-ids .ensures) (k .count-runs .ensures) (t .if2 .left)
+    (h .put-entry2 .ensures)
+    (w .put-ranges .ensures)
 
 pub write-spec : {M : Type 1} → statement M
 write-spec =
