@@ -24,7 +24,8 @@ fault-place : (r : Fault) → faultOf (placeOf r) ≡ r
 fault-place (At p) = refl
 fault-place Sound = refl
 
--- What a loop over offsets keeps: the lowest answer so far and the lowest fault among the rest give the whole.
+-- What a loop over offsets keeps: the lowest answer so far and the lowest fault among the rest give the whole. Its ways: before the first turn (all),
+-- past a null offset (null), past a part (part), and after the last turn (end).
 pub record Lowest (faultAt : ℕ → Option ℕ) (s : List ℕ) (base slot n : ℕ) (low : Fault) (i : ℕ) : Type 0 where
   pub checking : Checking faultAt s base slot n (placeOf low) i
 

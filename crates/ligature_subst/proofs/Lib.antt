@@ -1,3 +1,3 @@
-pub mod Laws
 pub mod Checks
+pub mod Ligatures
 pub mod Sets

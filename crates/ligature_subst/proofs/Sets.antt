@@ -1,4 +1,7 @@
 -- What the loops over the ligatures of a set keep, and the ways through their turns. g is a glyph map, as its bytes.
+-- Each record is one of the laws of sets, at ligatures, with the bounds that the code asks. Its lemmas are the ways: before the first turn (all),
+-- past a null offset (null), past a ligature that goes (gone), past one that is left (one, found), and after the last turn (end).
+-- (The eight arguments that a law of sets is not told here are those of the record that it is given.)
 use Prim.Native.Nat.{ℕ, _+_, _-_, _*_, _≤_, _<_}
 use mathlib.Core.Path.{_≡_, refl, sym, ap, _∙_}
 use mathlib.Core.Bool.{true, false}
@@ -17,7 +20,7 @@ use Rattle.laws.specs.Through.{offsets-length}
 use Rattle.laws.specs.Written.{Wrote}
 use Rattle.ligature_subst.specs.Left.{ligatureLeft, ligaturesLeft, setLeft, set-cut}
 
--- each ligature has words
+-- each ligature has words, so that one that is left takes bytes
 pub has-words : (x : Ligature) → 0 < length (ligatureWords x)
 unfolding ligatureWords
 has-words x = omega arith

@@ -33,7 +33,7 @@ fn listed(count: usize) -> usize
 }
 
 // Where the ligature at `at` is faulty: it is if its glyph, its count or its components do not lie inside the source.
-pub fn check_ligature(src: &[u8], at: usize) -> Fault
+fn check_ligature(src: &[u8], at: usize) -> Fault
     requires { ⌜ at < 0x1_0001_0000 ⌝ }
     ensures { λ r. ⌜ r ≡ faultOf (ligatureFault (now (src .entry)) at) ⌝ }
 {
@@ -48,7 +48,7 @@ pub fn check_ligature(src: &[u8], at: usize) -> Fault
 }
 
 // How many bytes what is left of the ligature at `at` takes; 0 if it goes.
-pub fn ligature_size(src: &[u8], at: usize, glyphs: &[u8]) -> usize
+fn ligature_size(src: &[u8], at: usize, glyphs: &[u8]) -> usize
     requires { ⌜ (at < 0x1_0001_0000) × Ascends (now glyphs) ⌝ }
     ensures { λ r. ⌜ (r ≡ 2 * length (ligatureLeft (now (glyphs .entry)) (now (src .entry)) at)) × (r ≤ 0x20000) ⌝ }
 {
@@ -63,7 +63,7 @@ pub fn ligature_size(src: &[u8], at: usize, glyphs: &[u8]) -> usize
 }
 
 // What is left of the ligature at `at`, written from `pos` on where there is room; the place after it. One that goes writes nothing.
-pub fn write_ligature(src: &[u8], at: usize, glyphs: &[u8], out: &mut [u8], pos: usize) -> usize
+fn write_ligature(src: &[u8], at: usize, glyphs: &[u8], out: &mut [u8], pos: usize) -> usize
     requires { ⌜ (at < 0x1_0001_0000) × (pos < 0x1000_0000_0000) × Ascends (now glyphs) ⌝ }
     ensures { λ r. ⌜ Wrote (now (out .entry)) pos (ligatureLeft (now (glyphs .entry)) (now (src .entry)) at) (now (out .exit)) r × (r ≤ pos + 0x20000) ⌝ }
 {
@@ -134,7 +134,7 @@ pub fn intersects_lig_glyph(src: &[u8], at: usize, glyphs: &[u8]) -> bool
 }
 
 // How many ligatures of the set at `at` are left.
-pub fn count_left(src: &[u8], at: usize, glyphs: &[u8]) -> usize
+fn count_left(src: &[u8], at: usize, glyphs: &[u8]) -> usize
     requires { ⌜ (at < 0x1_0000_0000) × Ascends (now glyphs) ⌝ }
     ensures { λ r. ⌜ (r ≡ length (ligaturesLeft (now (glyphs .entry)) (now (src .entry)) at)) × (r < 65536) ⌝ }
 {

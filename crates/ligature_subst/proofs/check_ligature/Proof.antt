@@ -1,5 +1,5 @@
 use borrow.Author.Needs.{needs}
-use Rattle.ligature_subst.proofs.Laws.{fault-head, fault-parts, fault-none}
+use Rattle.ligature_subst.proofs.Ligatures.{fault-head, fault-parts, fault-none}
 use Rattle.ligature_subst.proofs.check_ligature.Statement.{statement}
 use Rattle.ligature_subst.proofs.check_ligature.Tie as tie
 

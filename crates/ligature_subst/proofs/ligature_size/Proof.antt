@@ -1,7 +1,7 @@
 use mathlib.Core.Path.{refl}
 use borrow.Author.Needs.{needs}
 use Rattle.maps.specs.Found.{finds-new, finds-none}
-use Rattle.ligature_subst.proofs.Laws.{nothing-size, glyph-lost, part-lost, left-size}
+use Rattle.ligature_subst.proofs.Ligatures.{nothing-size, glyph-lost, part-lost, left-size}
 use Rattle.ligature_subst.proofs.ligature_size.Statement.{statement}
 use Rattle.ligature_subst.proofs.ligature_size.Tie as tie
 

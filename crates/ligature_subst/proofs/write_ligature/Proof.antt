@@ -1,7 +1,7 @@
 use borrow.Author.Needs.{needs}
 use borrow.Author.Tests.{not-true, not-false}
 use Rattle.maps.specs.Found.{finds-new, finds-none}
-use Rattle.ligature_subst.proofs.Laws.{nothing-wrote, glyph-lost, part-lost, left-wrote}
+use Rattle.ligature_subst.proofs.Ligatures.{nothing-wrote, glyph-lost, part-lost, left-wrote}
 use Rattle.ligature_subst.proofs.write_ligature.Statement.{statement}
 use Rattle.ligature_subst.proofs.write_ligature.Tie as tie
 

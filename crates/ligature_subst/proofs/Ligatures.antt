@@ -1,4 +1,4 @@
--- The ways through one ligature: checked, and left or gone.
+-- The ways through one ligature: checked, and left or gone. g is a glyph map, as its bytes.
 use Prim.Native.Nat.{ℕ, _+_, _-_, _*_, _≤_, _<_}
 use mathlib.Core.Path.{_≡_, refl, sym, ap, _∙_}
 use mathlib.Core.Bool.{Bool, true, false, not}
@@ -66,6 +66,7 @@ module _ (g s : List ℕ) (at : ℕ) where
       unfolding ligatureLeft wordsLeft cutLigature ligature bind ligatureWords
       left-words = rw (← e, f, ← (i .0), ← j, renumbered-all (mapEntries g) (words s (at + 4) n) (sym a ∙ h))
 
+      -- its bytes, four and two for each component, as the code counts them
       pub left-size : {r : ℕ} → r ≡ 4 + 2 * n → (r ≡ 2 * length (ligatureLeft g s at)) × (r ≤ 0x20000)
       left-size k = rw left-words (omega (arith, renumbered-length (mapEntries g) (words s (at + 4) n), words-length s (at + 4) n), omega arith)
 
