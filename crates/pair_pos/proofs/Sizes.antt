@@ -1,10 +1,10 @@
--- How long what is written of a pair set is.
+-- How long pair records are, how many are left, and how long what is written of a set is.
 use Prim.Native.Nat.{ℕ, _+_, _-_, _*_, _%_, _≤_, _<_}
 use mathlib.Core.Path.{_≡_, refl}
 use mathlib.Core.Bool.{Bool, true, false, cond}
 use mathlib.Core.Option.{none, some}
 use mathlib.Core.List.{List, [], _∷_, _++_, map}
-use native.Mathlib.Nat.{mul-suc}
+use native.Mathlib.Nat.{mul-suc, mul-le-mul-right}
 use native.Mathlib.Omega.{arith}
 use lib.ListN.{length, length-append}
 use lib.Dec.{eqb}
@@ -20,6 +20,10 @@ use Rattle.maps.specs.declared.Found.the-variants.{New, Gone}
 use Rattle.pair_pos.specs.Fields.{count-kept}
 use Rattle.pair_pos.specs.Pairs.{pairsLeft}
 use Rattle.pair_pos.proofs.Walk.{Walking, walking-all, walking-one, walking-gone, walking-end}
+
+-- records that are 34 bytes long at most, and as many as a word counts, take a number of bytes that is far from wrapping
+pub records-small : (size n : ℕ) → size ≤ 34 → n < 65536 → size * n < 0x100_0000
+records-small size n h l = omega (arith, mul-le-mul-right n h)
 
 -- What a loop keeps that counts the surviving pairs of the set at `at`.
 pub record Counting (m s : List ℕ) (f1 f2 at count size p left : ℕ) : Type 0 where

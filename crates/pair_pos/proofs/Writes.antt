@@ -82,12 +82,12 @@ module _ (f1 f2 n1 n2 : ℕ) where
 
 -- What the loop of `write_pairs` keeps: what is written so far, and what is left to write, is all that is to be written.
 pub record Writing (m s : List ℕ) (f1 f2 n1 n2 at pos : ℕ) (out₀ out : List ℕ) (size q p left : ℕ) : Type 0 where
-  pub room : q + 18 * left < 0x1_0000_0000_0000
+  pub room : q + 18 * left ≤ pos + 0x12_0000
   pub walk : Walking m s (fieldCount f1) (fieldCount f2) (written f1 f2 n1 n2 out q) (written f1 f2 n1 n2 out₀ pos (pairsLeft (mapEntries m) f1 f2 s at)) size p left
 
 pub writing-all : {m s : List ℕ} {f1 f2 n1 n2 at pos size left : ℕ} {out₀ : List ℕ} → (size ≡ 2 + 2 * fieldCount f1 + 2 * fieldCount f2) × (size ≤ 34)
-    → at < 0x1_0000_0000 → pos < 0x101_0000_0000 → (left ≡ word s at) × (left < 65536) → Writing m s f1 f2 n1 n2 at pos out₀ out₀ size pos (at + 2) left
-writing-all z l h w = record { room = omega arith; walk = walking-all z l w refl }
+    → at < 0x1_0000_0000 → (left ≡ word s at) × (left < 65536) → Writing m s f1 f2 n1 n2 at pos out₀ out₀ size pos (at + 2) left
+writing-all z l w = record { room = omega arith; walk = walking-all z l w refl }
 
 module _ {m s : List ℕ} {f1 f2 n1 n2 at pos : ℕ} {out₀ out : List ℕ} {size q p left : ℕ} (c : Writing m s f1 f2 n1 n2 at pos out₀ out size q p left) where
   module _ (h : 0 < left) {x : ℕ} {r : Found} (e : x ≡ word s p) (f : Answers m x r) where

@@ -37,6 +37,10 @@ unfoldable pub usedIn : (Pair → List ℕ) → ℕ → ℕ → List Pair → Bo
 usedIn get f k [] = false
 usedIn get f k (p ∷ ps) = not (eqb (field f (get p) k) 0) || usedIn get f k ps
 
+-- some surviving pair of the set at `at` has the field k nonzero in the value record of its second glyph, or of its first
+abbrev pub setUses : List (ℕ × ℕ) → ℕ → ℕ → Bool → ℕ → List ℕ → ℕ → Bool
+setUses g f1 f2 second k s at = usedIn (valuesOf second) (cond second f2 f1) k (pairsLeft g f1 f2 s at)
+
 or-assoc : (a b c : Bool) → a || (b || c) ≡ (a || b) || c
 or-assoc true b c = refl
 or-assoc false b c = refl
