@@ -8,7 +8,7 @@ use wire::put;
 use wire::word_at;
 ghost use mathlib.Core.Path.{_≡_};
 ghost use mathlib.Core.List.{[], _∷_};
-ghost use mathlib.Core.Bool.{true, cond, _&&_, not};
+ghost use mathlib.Core.Bool.{true, _&&_, not};
 ghost use Prim.Native.Nat.{_+_, _*_, _≤_, _<_};
 ghost use lib.Dec.{eqb};
 ghost use lib.ListN.{length};
@@ -20,7 +20,7 @@ ghost use Rattle.meaning.specs.Cut.{cutPairs, keepIf, pickFields, thinPair};
 ghost use Rattle.meaning.specs.Layout.{pairWords, pairSetWords};
 ghost use Rattle.laws.specs.Written.{Wrote};
 ghost use Rattle.wire.specs.Fault.{faultOf};
-ghost use Rattle.pair_pos.specs.Fields.{isField, fieldPlace};
+ghost use Rattle.pair_pos.specs.Fields.{isField, fieldPlace, placeInPair};
 ghost use Rattle.pair_pos.specs.Pairs.{pairAt, pairsOf, pairsLeft, pairsThin, setUses};
 
 // How many fields a value record of the format `f` has: one for each set bit of the lower eight.
@@ -99,7 +99,7 @@ fn field_place(start: usize, f: usize, k: usize) -> usize
 // How many bytes into a pair record the field `k` of the first or of the second value record stands; 0 where its format has no such field.
 fn place_in_pair(f1: usize, f2: usize, second: bool, k: usize) -> usize
     requires { ⌜ isField k ≡ true ⌝ }
-    ensures { λ r. ⌜ (r ≡ fieldPlace (cond second (2 + 2 * fieldCount f1) 2) (cond second f2 f1) k) × (r ≤ 34) ⌝ }
+    ensures { λ r. ⌜ (r ≡ placeInPair f1 f2 second k) × (r ≤ 34) ⌝ }
 {
     if second {
         return field_place(2 + 2 * field_count(f1), f2, k);
