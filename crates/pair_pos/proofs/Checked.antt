@@ -1,10 +1,9 @@
 -- The ways through the check of a pair set.
-use Prim.Native.Nat.{ℕ, zero, suc, _+_, _*_, _≤_, _<_}
+use Prim.Native.Nat.{ℕ, zero, suc, _+_, _*_}
 use mathlib.Core.Path.{_≡_, refl, ap}
 use mathlib.Core.Bool.{Bool, true, false}
 use mathlib.Core.Option.{none}
 use mathlib.Core.List.{List, _∷_, map}
-use native.Mathlib.Nat.{mul-le-mul-right}
 use native.Mathlib.Omega.{arith}
 use Rattle.meaning.specs.Words.{word, inside, ascends}
 use Rattle.meaning.specs.Tables.{Pair, pairRecords, pairSet}
@@ -12,10 +11,6 @@ use Rattle.meaning.specs.Fault.{partFault, pairSetFault}
 use Rattle.laws.specs.Left.{column}
 use Rattle.wire.specs.Fault.{faultOf}
 use Rattle.wire.specs.declared.Fault.the-variants.{At, Sound}
-
--- records that are 34 bytes long at most, and as many as a word counts, take a number of bytes that is far from wrapping
-pub records-small : (size n : ℕ) → size ≤ 34 → n < 65536 → size * n < 0x100_0000
-records-small size n h l = omega (arith, mul-le-mul-right n h)
 
 -- the second glyphs of pair records are a column of words
 seconds-column : (s : List ℕ) (a b at n : ℕ) → map (λ (p : Pair). p .second) (pairRecords s a b at n) ≡ column s (2 + 2 * a + 2 * b) at n

@@ -1,3 +1,4 @@
+pub mod Fields
 pub mod Checked
 pub mod Walk
 pub mod Uses

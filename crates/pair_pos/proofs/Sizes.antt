@@ -1,10 +1,10 @@
--- How long what is written of a pair set is.
+-- How long pair records are, how many are left, and how long what is written of a set is.
 use Prim.Native.Nat.{ℕ, _+_, _-_, _*_, _%_, _≤_, _<_}
 use mathlib.Core.Path.{_≡_, refl}
 use mathlib.Core.Bool.{Bool, true, false, cond}
 use mathlib.Core.Option.{none, some}
 use mathlib.Core.List.{List, [], _∷_, _++_, map}
-use native.Mathlib.Nat.{mul-suc}
+use native.Mathlib.Nat.{mul-suc, mul-le-mul-right}
 use native.Mathlib.Omega.{arith}
 use lib.ListN.{length, length-append}
 use lib.Dec.{eqb}
@@ -17,27 +17,34 @@ use Rattle.meaning.specs.Layout.{pairWords, pairSetWords}
 use Rattle.maps.specs.Found.{Answers}
 use Rattle.maps.specs.declared.Found.{Found}
 use Rattle.maps.specs.declared.Found.the-variants.{New, Gone}
-use Rattle.pair_pos.specs.Fields.{count-kept}
+use Rattle.pair_pos.proofs.Fields.{count-kept}
 use Rattle.pair_pos.specs.Pairs.{pairsLeft}
 use Rattle.pair_pos.proofs.Walk.{Walking, walking-all, walking-one, walking-gone, walking-end}
+
+-- records that are 34 bytes long at most, and as many as a word counts, take a number of bytes that is far from wrapping
+pub records-small : (size n : ℕ) → size ≤ 34 → n < 65536 → size * n < 0x100_0000
+records-small size n h l = omega (arith, mul-le-mul-right n h)
 
 -- What a loop keeps that counts the surviving pairs of the set at `at`.
 pub record Counting (m s : List ℕ) (f1 f2 at count size p left : ℕ) : Type 0 where
   pub few : count + left < 65536
   pub walk : Walking m s (fieldCount f1) (fieldCount f2) (λ ps. count + length ps) (length (pairsLeft (mapEntries m) f1 f2 s at)) size p left
 
+-- before the first record
 pub counting-all : {m s : List ℕ} {f1 f2 at size left : ℕ} → (size ≡ 2 + 2 * fieldCount f1 + 2 * fieldCount f2) × (size ≤ 34) → at < 0x1_0000_0000
     → (left ≡ word s at) × (left < 65536) → Counting m s f1 f2 at 0 size (at + 2) left
 counting-all z l w = record { few = omega arith; walk = walking-all z l w (omega arith) }
 
 module _ {m s : List ℕ} {f1 f2 at count size p left : ℕ} (c : Counting m s f1 f2 at count size p left) where
   module _ (h : 0 < left) {x : ℕ} {r : Found} (e : x ≡ word s p) (f : Answers m x r) where
+    -- a pair goes, or it survives
     pub counting-gone : r ≡ Gone → Counting m s f1 f2 at count size (p + size) (left - 1)
     counting-gone g = record { few = omega (arith, c .few); walk = walking-gone (c .walk) h e f g }
 
     pub counting-one : {n : ℕ} → r ≡ New n → Counting m s f1 f2 at (count + 1) size (p + size) (left - 1)
     counting-one g = record { few = omega (arith, c .few); walk = walking-one (c .walk) h e f g (λ ps. omega arith) }
 
+  -- after the last
   pub counting-end : left ≤ 0 → (count ≡ length (pairsLeft (mapEntries m) f1 f2 s at)) × (count < 65536)
   counting-end h = (omega (arith, walking-end (c .walk) h), omega (arith, c .few))
 

@@ -1,7 +1,7 @@
 -- Whether a pair set uses a field: the field of each surviving pair is one word of its record, always at the same place.
 use Prim.Native.Nat.{ℕ, _+_, _-_, _*_, _≤_, _<_}
 use mathlib.Core.Path.{_≡_, refl, sym, _∙_}
-use mathlib.Core.Bool.{Bool, true, false, cond, _&&_, _||_, not}
+use mathlib.Core.Bool.{Bool, true, false, cond, _&&_, _||_, not, and-true, and-false}
 use mathlib.Core.Option.{Option, none, some}
 use mathlib.Core.List.{List, [], _∷_}
 use native.Mathlib.Omega.{arith}
@@ -13,17 +13,10 @@ use Rattle.meaning.specs.Tables.{Pair, fieldCount, field}
 use Rattle.maps.specs.Found.{Answers, finds-new, finds-none}
 use Rattle.maps.specs.declared.Found.{Found}
 use Rattle.maps.specs.declared.Found.the-variants.{New, Gone}
-use Rattle.pair_pos.specs.Fields.{isField, fieldPlace, read-none, read-there}
-use Rattle.pair_pos.specs.Pairs.{pairAt, pairsLeft, valuesOf, usedIn}
+use Rattle.pair_pos.specs.Fields.{isField, placeInPair}
+use Rattle.pair_pos.specs.Pairs.{pairAt, valuesOf, usedIn, setUses}
+use Rattle.pair_pos.proofs.Fields.{read-none, read-there}
 use Rattle.pair_pos.proofs.Walk.{cuts, Walking, walking-front, walking-turn, walking-end}
-
-and-true : (b : Bool) → b && true ≡ b
-and-true true = refl
-and-true false = refl
-
-and-false : (b : Bool) → b && false ≡ false
-and-false true = refl
-and-false false = refl
 
 -- the word `place` bytes into the record at p is not 0, and the pair survives under the glyph map m
 abbrev pub speaking : List ℕ → List ℕ → ℕ → ℕ → Bool
@@ -43,35 +36,31 @@ module _ (m s : List ℕ) (p place : ℕ) {w : ℕ} (e : w ≡ word s (p + place
     unfolding isSome
     speaks-gone i = rw (← e, ne-eqb w 0 h, ← f, finds-none g i)
 
--- a field that no format has is used by no pair
+-- a field that reads as 0 is used by no pair
 pub used-absent : (get : Pair → List ℕ) (f k : ℕ) → ((vs : List ℕ) → field f vs k ≡ 0) → (ps : List Pair) → false ≡ usedIn get f k ps
 unfolding usedIn
 used-absent get f k e [] = refl
 used-absent get f k e (p ∷ ps) = rw (e (get p), ← (used-absent get f k e ps))
 
 -- the place of a field in a pair record, by the side: 0, that nobody uses it, and another one, that it is the word there
-pub side-none : (second : Bool) (f1 f2 k : ℕ) {place : ℕ} → place ≡ fieldPlace (cond second (2 + 2 * fieldCount f1) 2) (cond second f2 f1) k → place ≡ 0
+pub side-none : (second : Bool) (f1 f2 k : ℕ) {place : ℕ} → place ≡ placeInPair f1 f2 second k → place ≡ 0
     → (vs : List ℕ) → field (cond second f2 f1) vs k ≡ 0
 side-none false f1 f2 k e z = read-none 2 f1 k (omega arith) (sym e ∙ z)
 side-none true f1 f2 k e z = read-none (2 + 2 * fieldCount f1) f2 k (omega arith) (sym e ∙ z)
 
-pub side-there : (second : Bool) (f1 f2 k : ℕ) {place : ℕ} → place ≡ fieldPlace (cond second (2 + 2 * fieldCount f1) 2) (cond second f2 f1) k → (place ≡ 0 → ⊥) → isField k ≡ true
+pub side-there : (second : Bool) (f1 f2 k : ℕ) {place : ℕ} → place ≡ placeInPair f1 f2 second k → (place ≡ 0 → ⊥) → isField k ≡ true
     → (s : List ℕ) (p n : ℕ) → field (cond second f2 f1) (valuesOf second (pairAt s (fieldCount f1) (fieldCount f2) p n)) k ≡ word s (p + place)
 side-there false f1 f2 k e z h s p n = rw e (read-there 2 f1 k h (λ q. z (e ∙ q)) s p)
 side-there true f1 f2 k e z h s p n =
     let q : p + 2 + 2 * fieldCount f1 ≡ p + (2 + 2 * fieldCount f1) = omega arith in
     rw (e, q) (read-there (2 + 2 * fieldCount f1) f2 k h (λ q. z (e ∙ q)) s p)
 
--- what `set_uses` answers: some surviving pair of the set at `at` has the field k nonzero, in the value record of its first or of its second glyph
-abbrev pub uses : List ℕ → List ℕ → ℕ → ℕ → Bool → ℕ → ℕ → Bool
-uses m s f1 f2 second k at = usedIn (valuesOf second) (cond second f2 f1) k (pairsLeft (mapEntries m) f1 f2 s at)
-
 -- What the loop of `set_uses` keeps: whether the pairs that are left use the field is the whole answer, and `place` is where the field stands in each record.
 pub record Using (m s : List ℕ) (f1 f2 : ℕ) (second : Bool) (k at place size p left : ℕ) : Type 0 where
   pub kept : isField k ≡ true
   pub there : place ≡ 0 → ⊥
-  pub spot : place ≡ fieldPlace (cond second (2 + 2 * fieldCount f1) 2) (cond second f2 f1) k
-  pub walk : Walking m s (fieldCount f1) (fieldCount f2) (usedIn (valuesOf second) (cond second f2 f1) k) (uses m s f1 f2 second k at) size p left
+  pub spot : place ≡ placeInPair f1 f2 second k
+  pub walk : Walking m s (fieldCount f1) (fieldCount f2) (usedIn (valuesOf second) (cond second f2 f1) k) (setUses (mapEntries m) f1 f2 second k s at) size p left
 
 module _ {m s : List ℕ} {f1 f2 : ℕ} {second : Bool} {k at place size p left : ℕ} (u : Using m s f1 f2 second k at place size p left) where
   -- what is asked of the pairs from the next record on: of the next one, or of those after it
@@ -87,13 +76,15 @@ module _ {m s : List ℕ} {f1 f2 : ℕ} {second : Bool} {k at place size p left 
       step none = rw (and-false (not (eqb (word s (p + place)) 0)))
       step (some n) = rw (and-true (not (eqb (word s (p + place)) 0)), side-there second f1 f2 k (u .spot) (u .there) (u .kept) s p n)
 
-  pub uses-found : 0 < left → {r : Bool} → r ≡ speaking m s p place → r ≡ true → true ≡ uses m s f1 f2 second k at
+  -- the next record settles it, or those after it do
+  pub uses-found : 0 < left → {r : Bool} → r ≡ speaking m s p place → r ≡ true → true ≡ setUses (mapEntries m) f1 f2 second k s at
   uses-found h e f = rw (asked (cuts m s (fieldCount f1) (fieldCount f2) (p + size) (left - 1)), ← e, f) at (walking-front (u .walk) h)
 
   pub uses-next : 0 < left → {r : Bool} → r ≡ speaking m s p place → r ≡ false → Using m s f1 f2 second k at place size (p + size) (left - 1)
   uses-next h e f =
       record { kept = u .kept; there = u .there; spot = u .spot; walk = walking-turn (u .walk) h (λ ps. sym (asked ps ∙ rw (← e, f))) }
 
-  pub uses-end : left ≤ 0 → false ≡ uses m s f1 f2 second k at
+  -- no record is left
+  pub uses-end : left ≤ 0 → false ≡ setUses (mapEntries m) f1 f2 second k s at
   unfolding usedIn
   uses-end h = walking-end (u .walk) h

@@ -72,6 +72,7 @@ module _ {X : Type 0} {m s : List ℕ} {a b : ℕ} {ask : List Pair → X} {whol
         unfolding bind push
         walking-one g t = walking-turn (λ ps. rw (← e, finds-new f g) (t ps))
 
+        -- the same, where what is asked is settled by it
         pub walking-found : {n : ℕ} → r ≡ New n → ask (pairAt s a b p n ∷ cuts m s a b (p + size) (left - 1)) ≡ whole
         unfolding bind push
         walking-found g = rw (← e, finds-new f g) at walking-front
@@ -88,6 +89,7 @@ unfolding cutPairs
 any-cut g ps = refl
 
 module _ {m s : List ℕ} {a b : ℕ} {whole : Bool} {size p left : ℕ} (k : Walking m s a b anyLeft whole size p left) where
+  -- a pair that survives settles it; past the last record there is none
   pub any-found : 0 < left → {x : ℕ} {r : Found} {n : ℕ} → x ≡ word s p → Answers m x r → r ≡ New n → true ≡ whole
   unfolding isSome unlessEmpty
   any-found h e f g = walking-found k h e f g

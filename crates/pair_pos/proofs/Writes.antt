@@ -37,7 +37,7 @@ module _ (f new : ℕ) (vs : List ℕ) where
   unfolding bit push mapSome pickFields
   pick-dropped k b = rw (ne-eqb (bit new k) 1 b)
 
-  -- field by field: the four that can be kept
+  -- field by field
   pick-front : (k : ℕ) (ks : List ℕ) → pickFields f new vs (k ∷ ks) ≡ pickFields f new vs (k ∷ []) ++ pickFields f new vs ks
   unfolding push mapSome pickFields
   pick-front k ks = step (eqb (bit new k) 1)
@@ -46,12 +46,18 @@ module _ (f new : ℕ) (vs : List ℕ) where
       step true = refl
       step false = refl
 
+  -- the four fields that can be kept, written one after the other
   pub values-wrote : {out₀ o1 o2 o3 out : List ℕ} {pos p1 p2 p3 p : ℕ} → Wrote out₀ pos (pickFields f new vs (1 ∷ [])) o1 p1
       → Wrote o1 p1 (pickFields f new vs (2 ∷ [])) o2 p2 → Wrote o2 p2 (pickFields f new vs (4 ∷ [])) o3 p3 → Wrote o3 p3 (pickFields f new vs (8 ∷ [])) out p
       → Wrote out₀ pos (pickFields f new vs (1 ∷ 2 ∷ 4 ∷ 8 ∷ [])) out p
   values-wrote a b c d =
       wrote-said (wrote-on a (wrote-on b (wrote-on c d)))
       (sym (pick-front 1 (2 ∷ 4 ∷ 8 ∷ []) ∙ ap (λ l. pickFields f new vs (1 ∷ []) ++ l) (pick-front 2 (4 ∷ 8 ∷ []) ∙ ap (λ l. pickFields f new vs (2 ∷ []) ++ l) (pick-front 4 (8 ∷ [])))))
+
+-- pairs one after the other
+pair-front : (p : Pair) (ps : List Pair) → pairWords (p ∷ ps) ≡ pairWords (p ∷ []) ++ pairWords ps
+unfolding pairWords
+pair-front p ps = simp (append-nil, append-assoc)
 
 module _ (f1 f2 n1 n2 : ℕ) where
   -- the record at p: its second glyph and its two value records
@@ -63,15 +69,11 @@ module _ (f1 f2 n1 n2 : ℕ) where
   unfolding pairWords thinPair
   pair-wrote s p glyph e a b c = wrote-said (wrote-on (wrote-one glyph wrote-none a) (wrote-on b (rw e at c))) (rw append-nil)
 
-  -- pairs one after the other
-  pair-front : (p : Pair) (ps : List Pair) → pairWords (p ∷ ps) ≡ pairWords (p ∷ []) ++ pairWords ps
-  unfolding pairWords
-  pair-front p ps = simp (append-nil, append-assoc)
-
   -- what is there once the pairs are written from q on, and the place after them
   unfoldable pub written : List ℕ → ℕ → List Pair → List ℕ × ℕ
   written out q ps = (sets out q (flat (pairWords (map (thinPair f1 f2 n1 n2) ps))), q + 2 * length (pairWords (map (thinPair f1 f2 n1 n2) ps)))
 
+  -- the first pair written before the others
   written-one : (p : Pair) (ps : List Pair) {out next : List ℕ} {q r : ℕ} → Wrote out q (pairWords (thinPair f1 f2 n1 n2 p ∷ [])) next r → written next r ps ≡ written out q (p ∷ ps)
   unfolding written
   written-one p ps {out} {q = q} w =
@@ -82,24 +84,28 @@ module _ (f1 f2 n1 n2 : ℕ) where
 
 -- What the loop of `write_pairs` keeps: what is written so far, and what is left to write, is all that is to be written.
 pub record Writing (m s : List ℕ) (f1 f2 n1 n2 at pos : ℕ) (out₀ out : List ℕ) (size q p left : ℕ) : Type 0 where
-  pub room : q + 18 * left < 0x1_0000_0000_0000
+  pub room : q + 18 * left ≤ pos + 0x12_0000
   pub walk : Walking m s (fieldCount f1) (fieldCount f2) (written f1 f2 n1 n2 out q) (written f1 f2 n1 n2 out₀ pos (pairsLeft (mapEntries m) f1 f2 s at)) size p left
 
+-- before the first record
 pub writing-all : {m s : List ℕ} {f1 f2 n1 n2 at pos size left : ℕ} {out₀ : List ℕ} → (size ≡ 2 + 2 * fieldCount f1 + 2 * fieldCount f2) × (size ≤ 34)
-    → at < 0x1_0000_0000 → pos < 0x101_0000_0000 → (left ≡ word s at) × (left < 65536) → Writing m s f1 f2 n1 n2 at pos out₀ out₀ size pos (at + 2) left
-writing-all z l h w = record { room = omega arith; walk = walking-all z l w refl }
+    → at < 0x1_0000_0000 → (left ≡ word s at) × (left < 65536) → Writing m s f1 f2 n1 n2 at pos out₀ out₀ size pos (at + 2) left
+writing-all z l w = record { room = omega arith; walk = walking-all z l w refl }
 
 module _ {m s : List ℕ} {f1 f2 n1 n2 at pos : ℕ} {out₀ out : List ℕ} {size q p left : ℕ} (c : Writing m s f1 f2 n1 n2 at pos out₀ out size q p left) where
   module _ (h : 0 < left) {x : ℕ} {r : Found} (e : x ≡ word s p) (f : Answers m x r) where
+    -- a pair goes, and nothing is written
     pub writing-gone : r ≡ Gone → Writing m s f1 f2 n1 n2 at pos out₀ out size q (p + size) (left - 1)
     writing-gone g = record { room = omega (arith, c .room); walk = walking-gone (c .walk) h e f g }
 
+    -- a pair survives, and is written
     pub writing-one : {glyph : ℕ} {next : List ℕ} {t : ℕ} → r ≡ New glyph
         → Wrote out q (pairWords (thinPair f1 f2 n1 n2 (pairAt s (fieldCount f1) (fieldCount f2) p glyph) ∷ [])) next t × (t ≤ q + 18)
         → Writing m s f1 f2 n1 n2 at pos out₀ next size t (p + size) (left - 1)
     writing-one {glyph} g w =
         record { room = omega (arith, c .room, w .1); walk = walking-one (c .walk) h e f g (λ ps. written-one f1 f2 n1 n2 (pairAt s (fieldCount f1) (fieldCount f2) p glyph) ps (w .0)) }
 
+  -- after the last
   pub writing-end : left ≤ 0 → Wrote out₀ pos (pairWords (map (thinPair f1 f2 n1 n2) (pairsLeft (mapEntries m) f1 f2 s at))) out q
   unfolding written pairWords flat
   writing-end h =

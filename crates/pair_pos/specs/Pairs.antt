@@ -1,7 +1,7 @@
 -- What survives of a pair set: the pairs, the fields that they use, and the new formats.
 use Prim.Native.Nat.{ℕ, _+_, _*_, _≤_, _<_}
 use mathlib.Core.Path.{_≡_, refl, sym}
-use mathlib.Core.Bool.{Bool, true, false, cond, _||_, not, true≢false}
+use mathlib.Core.Bool.{Bool, true, false, cond, _||_, not, or-assoc, true≢false}
 use mathlib.Core.Option.{none, some}
 use mathlib.Core.List.{List, [], _∷_, map}
 use native.Mathlib.Omega.{arith}
@@ -37,27 +37,28 @@ unfoldable pub usedIn : (Pair → List ℕ) → ℕ → ℕ → List Pair → Bo
 usedIn get f k [] = false
 usedIn get f k (p ∷ ps) = not (eqb (field f (get p) k) 0) || usedIn get f k ps
 
-or-assoc : (a b c : Bool) → a || (b || c) ≡ (a || b) || c
-or-assoc true b c = refl
-or-assoc false b c = refl
+-- some surviving pair of the set at `at` has the field k nonzero in the value record of its second glyph, or of its first
+abbrev pub setUses : List (ℕ × ℕ) → ℕ → ℕ → Bool → ℕ → List ℕ → ℕ → Bool
+setUses g f1 f2 second k s at = usedIn (valuesOf second) (cond second f2 f1) k (pairsLeft g f1 f2 s at)
 
 module _ (get : Pair → List ℕ) (f : ℕ) where
-  -- a field is used in kept sets if the first uses it or another one
+  -- a field is used in kept sets if the first of them uses it or another one does; where there is none, it is not used
   pub used-front : (k n : ℕ) (ps : List Pair) (r : List (ℕ × List Pair)) → used get f k ((n, ps) ∷ r) ≡ usedIn get f k ps || used get f k r
   unfolding used usedIn
   used-front k n [] r = refl
-  used-front k n (p ∷ ps) r = rw (used-front k n ps r) (or-assoc (not (eqb (field f (get p) k) 0)) (usedIn get f k ps) (used get f k r))
+  used-front k n (p ∷ ps) r = rw (used-front k n ps r) (sym (or-assoc (not (eqb (field f (get p) k) 0)) (usedIn get f k ps) (used get f k r)))
 
   pub used-none : (k : ℕ) → used get f k [] ≡ false
   unfolding used
   used-none k = refl
 
-  -- the new format, out of the answers for its four fields
+  -- the new format is the sum of what `keep_if` answers for its four fields
   pub new-format : (r : List (ℕ × List Pair)) {a b c d : Bool} → a ≡ used get f 1 r → b ≡ used get f 2 r → c ≡ used get f 4 r → d ≡ used get f 8 r
-      → newFormat get f r ≡ keepIf a 1 + keepIf b 2 + keepIf c 4 + keepIf d 8
+      → {p q t u : ℕ} → p ≡ keepIf a 1 → q ≡ keepIf b 2 → t ≡ keepIf c 4 → u ≡ keepIf d 8 → p + q + t + u ≡ newFormat get f r
   unfolding newFormat
-  new-format r a b c d = rw (a, b, c, d)
+  new-format r a b c d p q t u = rw (p, q, t, u, a, b, c, d)
 
+-- a field adds its bit at most
 keep-small : (b : Bool) (k : ℕ) → keepIf b k ≤ k
 unfolding keepIf
 keep-small true k = omega arith

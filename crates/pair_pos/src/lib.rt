@@ -8,7 +8,7 @@ use wire::put;
 use wire::word_at;
 ghost use mathlib.Core.Path.{_≡_};
 ghost use mathlib.Core.List.{[], _∷_};
-ghost use mathlib.Core.Bool.{true, cond, _&&_, not};
+ghost use mathlib.Core.Bool.{true, _&&_, not};
 ghost use Prim.Native.Nat.{_+_, _*_, _≤_, _<_};
 ghost use lib.Dec.{eqb};
 ghost use lib.ListN.{length};
@@ -16,12 +16,12 @@ ghost use Rattle.meaning.specs.Words.{word, words, find, isSome, ascends, keys}
 ghost use Rattle.meaning.specs.Maps.{mapEntries};
 ghost use Rattle.meaning.specs.Tables.{fieldCount, field};
 ghost use Rattle.meaning.specs.Fault.{pairSetFault};
-ghost use Rattle.meaning.specs.Cut.{cutPairs, pickFields, thinPair};
+ghost use Rattle.meaning.specs.Cut.{cutPairs, keepIf, pickFields, thinPair};
 ghost use Rattle.meaning.specs.Layout.{pairWords, pairSetWords};
 ghost use Rattle.laws.specs.Written.{Wrote};
 ghost use Rattle.wire.specs.Fault.{faultOf};
-ghost use Rattle.pair_pos.specs.Fields.{isField, fieldPlace};
-ghost use Rattle.pair_pos.specs.Pairs.{pairAt, pairsOf, pairsLeft, pairsThin, valuesOf, usedIn};
+ghost use Rattle.pair_pos.specs.Fields.{isField, fieldPlace, placeInPair};
+ghost use Rattle.pair_pos.specs.Pairs.{pairAt, pairsOf, pairsLeft, pairsThin, setUses};
 
 // How many fields a value record of the format `f` has: one for each set bit of the lower eight.
 pub fn field_count(f: usize) -> usize
@@ -99,7 +99,7 @@ fn field_place(start: usize, f: usize, k: usize) -> usize
 // How many bytes into a pair record the field `k` of the first or of the second value record stands; 0 where its format has no such field.
 fn place_in_pair(f1: usize, f2: usize, second: bool, k: usize) -> usize
     requires { ⌜ isField k ≡ true ⌝ }
-    ensures { λ r. ⌜ (r ≡ fieldPlace (cond second (2 + 2 * fieldCount f1) 2) (cond second f2 f1) k) × (r ≤ 34) ⌝ }
+    ensures { λ r. ⌜ (r ≡ placeInPair f1 f2 second k) × (r ≤ 34) ⌝ }
 {
     if second {
         return field_place(2 + 2 * field_count(f1), f2, k);
@@ -132,15 +132,15 @@ pub fn set_uses(
     glyphs: &[u8],
 ) -> bool
     requires { ⌜ (at < 0x1_0000_0000) × (isField k ≡ true) × (ascends (keys (mapEntries (now glyphs))) ≡ true) ⌝ }
-    ensures { λ r. ⌜ r ≡ usedIn (valuesOf second) (cond second f2 f1) k (pairsLeft (mapEntries (now (glyphs .entry))) f1 f2 (now (src .entry)) at) ⌝ }
+    ensures { λ r. ⌜ r ≡ setUses (mapEntries (now (glyphs .entry))) f1 f2 second k (now (src .entry)) at ⌝ }
 {
     let place = place_in_pair(f1, f2, second, k);
     if place == 0 {
         return false;
     }
     let size = pair_size(f1, f2);
-    let start = at + 2;
-    let mut p = start;
+    let first = at + 2;
+    let mut p = first;
     let mut left = word_at(src, at);
     'pairs: while 0 < left {
         if speaks(src, p, place, glyphs) {
@@ -150,6 +150,16 @@ pub fn set_uses(
         left -= 1;
     }
     false
+}
+
+// What the field `k` adds to a value format: its bit, if it is kept.
+pub fn keep_if(kept: bool, k: usize) -> usize
+    ensures { λ r. ⌜ (r ≡ keepIf kept k) × (r ≤ k) ⌝ }
+{
+    if kept {
+        return k;
+    }
+    0
 }
 
 // How many pairs of the set at `at` survive.
@@ -252,7 +262,7 @@ fn write_pairs(
     pos: usize,
 ) -> usize
     requires { ⌜ (at < 0x1_0000_0000) × (pos < 0x101_0000_0000) × (ascends (keys (mapEntries (now glyphs))) ≡ true) ⌝ }
-    ensures { λ r. ⌜ Wrote (now (out .entry)) pos (pairWords (pairsThin (mapEntries (now (glyphs .entry))) f1 f2 n1 n2 (now (src .entry)) at)) (now (out .exit)) r ⌝ }
+    ensures { λ r. ⌜ (Wrote (now (out .entry)) pos (pairWords (pairsThin (mapEntries (now (glyphs .entry))) f1 f2 n1 n2 (now (src .entry)) at)) (now (out .exit)) r) × (r ≤ pos + 0x12_0000) ⌝ }
 {
     let size = pair_size(f1, f2);
     let mut q = pos;
@@ -282,7 +292,7 @@ pub fn write_set(
     pos: usize,
 ) -> usize
     requires { ⌜ (at < 0x1_0000_0000) × (pos < 0x100_0000_0000) × (ascends (keys (mapEntries (now glyphs))) ≡ true) ⌝ }
-    ensures { λ r. ⌜ Wrote (now (out .entry)) pos (pairSetWords (pairsThin (mapEntries (now (glyphs .entry))) f1 f2 n1 n2 (now (src .entry)) at)) (now (out .exit)) r ⌝ }
+    ensures { λ r. ⌜ (Wrote (now (out .entry)) pos (pairSetWords (pairsThin (mapEntries (now (glyphs .entry))) f1 f2 n1 n2 (now (src .entry)) at)) (now (out .exit)) r) × (r < pos + 0x200_0000) ⌝ }
 {
     let end = write_pairs(src, at, f1, f2, n1, n2, glyphs, out, pos + 2);
     put(out, pos, (end - pos - 2) / pair_size(n1 % 16, n2 % 16));

@@ -1,6 +1,7 @@
 use Prim.Native.Nat.{_*_, _<_}
 use native.Mathlib.Omega.{arith}
-use Rattle.pair_pos.proofs.Checked.{records-small, no-count, cut-short, falls, sound}
+use Rattle.pair_pos.proofs.Sizes.{records-small}
+use Rattle.pair_pos.proofs.Checked.{no-count, cut-short, falls, sound}
 use borrow.Author.Tests.{not-true, not-false}
 use borrow.Author.Needs.{needs}
 use Rattle.pair_pos.proofs.check_set.Statement.{statement}

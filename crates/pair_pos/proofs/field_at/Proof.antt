@@ -1,5 +1,5 @@
 use native.Mathlib.Omega.{arith}
-use Rattle.pair_pos.specs.Fields.{field-positive, field-there, field-absent}
+use Rattle.pair_pos.proofs.Fields.{field-positive, field-there, field-absent}
 use borrow.Author.Needs.{needs}
 use Rattle.pair_pos.proofs.field_at.Statement.{statement}
 use Rattle.pair_pos.proofs.field_at.Tie as tie

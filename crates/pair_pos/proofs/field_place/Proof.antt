@@ -1,6 +1,6 @@
 use native.Mathlib.Omega.{arith}
 use borrow.Author.Needs.{needs}
-use Rattle.pair_pos.specs.Fields.{field-positive, place-is, place-none}
+use Rattle.pair_pos.proofs.Fields.{field-positive, place-is, place-none}
 use Rattle.pair_pos.proofs.field_place.Statement.{statement}
 use Rattle.pair_pos.proofs.field_place.Tie as tie
 

@@ -3,8 +3,7 @@ use native.Mathlib.Omega.{arith}
 use borrow.Author.Needs.{needs}
 use Rattle.meaning.specs.Maps.{mapEntries}
 use Rattle.pair_pos.specs.Pairs.{pairsLeft}
-use Rattle.pair_pos.proofs.Checked.{records-small}
-use Rattle.pair_pos.proofs.Sizes.{set-bytes}
+use Rattle.pair_pos.proofs.Sizes.{records-small, set-bytes}
 use Rattle.pair_pos.proofs.set_size.Statement.{statement}
 use Rattle.pair_pos.proofs.set_size.Tie as tie
 

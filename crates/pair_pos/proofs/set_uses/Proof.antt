@@ -7,10 +7,10 @@ use Rattle.pair_pos.proofs.set_uses.Statement.{statement}
 use Rattle.pair_pos.proofs.set_uses.Tie as tie
 
 abbrev Inv-pairs : tie.InvT-pairs
-Inv-pairs src at f1 f2 second k glyphs place size start p₀ left₀ p left = Using glyphs src f1 f2 second k at place size p left
+Inv-pairs src at f1 f2 second k glyphs place size first p₀ left₀ p left = Using glyphs src f1 f2 second k at place size p left
 
 abbrev μ-pairs : tie.MeasureT-pairs
-μ-pairs src at f1 f2 second k glyphs place size start p₀ left₀ p left = left
+μ-pairs src at f1 f2 second k glyphs place size first p₀ left₀ p left = left
 
 returns : tie.Need-returns Inv-pairs μ-pairs
 returns c =

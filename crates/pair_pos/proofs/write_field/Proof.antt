@@ -1,7 +1,7 @@
 use native.Mathlib.Omega.{arith}
 use borrow.Author.Needs.{needs}
 use Rattle.laws.specs.Written.{wrote-none, wrote-one, wrote-said}
-use Rattle.pair_pos.specs.Fields.{field-positive}
+use Rattle.pair_pos.proofs.Fields.{field-positive}
 use Rattle.pair_pos.proofs.Writes.{pick-kept, pick-dropped}
 use Rattle.pair_pos.proofs.write_field.Statement.{statement}
 use Rattle.pair_pos.proofs.write_field.Tie as tie

@@ -1,3 +1,4 @@
+use native.Mathlib.Omega.{arith}
 use mathlib.Core.Logic.{⊎-elim}
 use Rattle.laws.specs.Written.{wrote-length}
 use Rattle.pair_pos.proofs.Writes.{Writing, writing-all, writing-one, writing-gone, writing-end}
@@ -14,7 +15,7 @@ abbrev μ-loop : tie.MeasureT-loop
 loop-holds : tie.Need-loop-holds Inv-loop μ-loop
 loop-holds c =
     let o = c .before .before .before .before .before .pre in
-    writing-all (c .before .pair-size .ensures) (o .0) (o .1) (c .word-at .ensures)
+    writing-all (c .before .pair-size .ensures) (o .0) (c .word-at .ensures)
 
 loop-again : tie.Need-loop-again Inv-loop μ-loop
 loop-again c =
@@ -30,7 +31,7 @@ same-length : tie.Need-same-length Inv-loop μ-loop
 same-length c = wrote-length (writing-end (c .before .loop .inv) (c .loop-test .left))
 
 returns : tie.Need-returns Inv-loop μ-loop
-returns c = writing-end (c .before .loop .inv) (c .loop-test .left)
+returns c = (writing-end (c .before .loop .inv) (c .loop-test .left), omega arith)
 
 pub write-pairs-spec : {M : Type 1} → statement M
 write-pairs-spec =
