@@ -1,0 +1,67 @@
+// Format 1 of each kind: sets by coverage index. A set is kept exactly if it isn't null, the covered glyph that indexes it is retained and something in it survives; the coverage keeps just these glyphs.
+use coverage::count;
+use coverage::glyph_at;
+use maps::Found;
+use maps::find;
+use sets::Kind;
+use sets::set_survives;
+use wire::put;
+use wire::word_at;
+ghost use mathlib.Core.Path.{_≡_};
+ghost use mathlib.Core.Bool.{true};
+ghost use Prim.Native.Nat.{_+_, _*_, _≤_, _<_};
+ghost use lib.ListN.{length};
+ghost use Rattle.meaning.specs.Words.{ascends, keys};
+ghost use Rattle.meaning.specs.Maps.{mapEntries};
+ghost use Rattle.meaning.specs.Parts.{coverage, coverageSound};
+ghost use Rattle.laws.specs.KeptPlaces.{Kept};
+ghost use Rattle.by_index.specs.Kept.{stays, KeptFor};
+
+// The new number of a covered glyph, if the set at `at` is kept for it.
+fn kept_for(kind: Kind, src: &[u8], glyph: usize, at: usize, glyphs: &[u8]) -> Found
+    requires { ⌜ (at < 65536) × (ascends (keys (mapEntries (now glyphs))) ≡ true) ⌝ }
+    ensures { λ r. ⌜ KeptFor (stays kind (now (glyphs .entry)) (now (src .entry))) (mapEntries (now (glyphs .entry))) glyph at r ⌝ }
+{
+    let Found::New(new) = find(glyphs, glyph) else {
+        return Found::Gone;
+    };
+    if at == 0 {
+        return Found::Gone;
+    }
+    if !set_survives(kind, src, at, glyphs, glyphs, glyphs) {
+        return Found::Gone;
+    }
+    Found::New(new)
+}
+
+// For each kept set the new glyph, as a word in `to`, and the set's place in the source, as a word in `places`; the answer is how many there are.
+// The coverage stands at `cover`, and the `n` offsets of the sets from `slot` on.
+pub fn keep_sets(
+    kind: Kind,
+    src: &[u8],
+    cover: usize,
+    slot: usize,
+    n: usize,
+    glyphs: &[u8],
+    to: &mut [u8],
+    places: &mut [u8],
+) -> usize
+    requires { ⌜ (coverageSound (now src) cover ≡ true) × (length (coverage (now src) cover) ≤ n) × (slot < 65536) × (ascends (keys (mapEntries (now glyphs))) ≡ true) ⌝ }
+    ensures { λ r. ⌜ Kept (stays kind (now (glyphs .entry)) (now (src .entry))) (mapEntries (now (glyphs .entry))) (coverage (now (src .entry)) cover) (now (src .entry)) slot n (now (to .entry)) (now (places .entry)) (now (to .exit)) (now (places .exit)) r ⌝ }
+{
+    let m = count(src, cover);
+    let mut k = 0;
+    let mut i = 0;
+    while i < m {
+        let at = word_at(src, slot + 2 * i);
+        let glyph = glyph_at(src, cover, i);
+        i += 1;
+        let Found::New(new) = kept_for(kind, src, glyph, at, glyphs) else {
+            continue;
+        };
+        put(to, 2 * k, new);
+        put(places, 2 * k, at);
+        k += 1;
+    }
+    k
+}
