@@ -6,16 +6,21 @@ use maps::find;
 use sets::Kind;
 use sets::set_survives;
 use wire::put;
+use wire::put_entry;
+use wire::put_record;
 use wire::word_at;
 ghost use mathlib.Core.Path.{_≡_};
 ghost use mathlib.Core.Bool.{true};
 ghost use Prim.Native.Nat.{_+_, _*_, _≤_, _<_};
+ghost use mathlib.Core.List.{[], _∷_, _++_};
 ghost use lib.ListN.{length};
 ghost use Rattle.meaning.specs.Words.{ascends, keys};
 ghost use Rattle.meaning.specs.Maps.{mapEntries};
 ghost use Rattle.meaning.specs.Parts.{coverage, coverageSound};
 ghost use Rattle.laws.specs.KeptPlaces.{Kept};
+ghost use Rattle.laws.specs.Written.{Wrote};
 ghost use Rattle.by_index.specs.Kept.{stays, KeptFor};
+ghost use Rattle.by_index.specs.Tables.{moreOf};
 
 // The new number of a covered glyph, if the set at `at` is kept for it.
 fn kept_for(kind: Kind, src: &[u8], glyph: usize, at: usize, glyphs: &[u8]) -> Found
@@ -64,4 +69,31 @@ pub fn keep_sets(
         k += 1;
     }
     k
+}
+
+// How many bytes stand before the offsets of the sets: format, coverage's offset and count, and for pairs the two value formats.
+fn header_size(kind: Kind) -> usize
+    ensures { λ r. ⌜ (r ≡ 6 + 2 * length (moreOf kind)) × (r ≤ 10) ⌝ }
+{
+    match kind {
+        Kind::Rules => 6,
+        Kind::ChainedRules => 6,
+        Kind::Ligatures => 6,
+        Kind::Pairs(_) => 10,
+    }
+}
+
+// These bytes, where there is room; the place after them.
+fn write_header(kind: Kind, out: &mut [u8], cover: usize, n: usize) -> usize
+    ensures { λ r. ⌜ Wrote (now (out .entry)) 0 (1 ∷ cover ∷ (moreOf kind ++ (n ∷ []))) (now (out .exit)) r ⌝ }
+{
+    match kind {
+        Kind::Rules => put_record(out, 0, 1, cover, n),
+        Kind::ChainedRules => put_record(out, 0, 1, cover, n),
+        Kind::Ligatures => put_record(out, 0, 1, cover, n),
+        Kind::Pairs(f) => {
+            let p = put_record(out, 0, 1, cover, f.n1);
+            put_entry(out, p, f.n2, n)
+        }
+    }
 }
