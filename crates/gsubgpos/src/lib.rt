@@ -27,18 +27,18 @@ ghost use Rattle.gsubgpos.specs.Left.{Ascends, NumbersAscend, AllAscend,
 ghost use Rattle.gsubgpos.specs.Parts.{IsRule};
 
 // Numbers or records in a row: where the first stands, and how many there are.
-pub struct Row {
-    pub at: usize,
-    pub len: usize,
+struct Row {
+    at: usize,
+    len: usize,
 }
 
 // Where the parts of a rule stand: its backtrack, its input after the first glyph, its lookahead and its records; and its glyph count.
-pub struct RuleParts {
-    pub back: Row,
-    pub count: usize,
-    pub input: Row,
-    pub ahead: Row,
-    pub records: Row,
+struct RuleParts {
+    back: Row,
+    count: usize,
+    input: Row,
+    ahead: Row,
+    records: Row,
 }
 
 // Whether each of the `n` numbers from `at` on has a new one.
@@ -119,8 +119,9 @@ pub fn serialize_lookup_records(
     let mut p = pos;
     let mut i = 0;
     while i < n {
-        if let Found::New(lookup) = find(lookups, word_at(src, at + 4 * i + 2)) {
-            p = put_entry(out, p, word_at(src, at + 4 * i), lookup);
+        let old = word_at(src, at + 4 * i + 2);
+        if let Found::New(new) = find(lookups, old) {
+            p = put_entry(out, p, word_at(src, at + 4 * i), new);
         }
         i += 1;
     }
@@ -275,7 +276,7 @@ pub fn rule_size(
     counts_size(chained) + 2 * (r.back.len + r.input.len + r.ahead.len) + 4 * kept
 }
 
-// A count, and the new numbers of the `n` numbers from `at` on.
+// A count and the new numbers of the `n` numbers from `at` on, written from `pos` on; the place after them.
 fn write_counted(
     count: usize,
     src: &[u8],
@@ -292,7 +293,7 @@ fn write_counted(
     serialize_sequence(src, at, n, map, out, p)
 }
 
-// The number of those of the `n` records from `at` on whose lookup stays, and these, with its new number.
+// How many of the `n` records from `at` on have a lookup that stays, and these records with its new number, written from `pos` on; the place after them.
 fn write_records(
     src: &[u8],
     at: usize,
@@ -309,7 +310,7 @@ fn write_records(
     serialize_lookup_records(src, at, n, lookups, out, p)
 }
 
-// The plain rule at `at` with its new numbers, from `pos` on; the place after it.
+// The plain rule at `at` with its new numbers, written from `pos` on; the place after it.
 fn write_plain(
     src: &[u8],
     at: usize,
@@ -328,7 +329,7 @@ fn write_plain(
     serialize_lookup_records(src, r.records.at, r.records.len, lookups, out, q)
 }
 
-// The chained rule at `at` with its new numbers, from `pos` on; the place after it.
+// The chained rule at `at` with its new numbers, written from `pos` on; the place after it.
 fn write_chained(
     src: &[u8],
     at: usize,
@@ -349,7 +350,7 @@ fn write_chained(
     write_records(src, r.records.at, r.records.len, lookups, out, t)
 }
 
-// What is left of the rule at `at`, from `pos` on, where there is room; the place after it. A rule that goes writes nothing.
+// What is left of the rule at `at`, written from `pos` on, where there is room; the place after it. A rule that goes writes nothing.
 pub fn write_rule(
     chained: bool,
     src: &[u8],
@@ -537,7 +538,7 @@ pub fn set_size(
     2 + total
 }
 
-// What is left of the rule that the offset at `slot` reaches from `base`, from `pos` on, where there is room; the place after it.
+// What is left of the rule that the offset at `slot` reaches from `base`, written from `pos` on, where there is room; the place after it.
 fn write_at(
     chained: bool,
     src: &[u8],
@@ -570,7 +571,7 @@ fn write_at(
     )
 }
 
-// What is left of the set of rules at `at`, from `pos` on, where there is room; the place after it: the number of rules left, an offset for each, and the rules.
+// What is left of the set of rules at `at`, written from `pos` on, where there is room: the number of rules left, an offset for each, and the rules; the place after it.
 pub fn write_set(
     chained: bool,
     src: &[u8],
@@ -591,11 +592,12 @@ pub fn write_set(
     let mut p = 2 + 2 * k;
     let mut i = 0;
     while i < n {
+        let from = at + 2 + 2 * i;
         let q = write_at(
             chained,
             src,
             at,
-            at + 2 + 2 * i,
+            from,
             back,
             input,
             ahead,
