@@ -1,5 +1,3 @@
-pub mod Sequences
-pub mod Records
-pub mod Parts
-pub mod Rules
+pub mod Members
+pub mod Faults
 pub mod Sets

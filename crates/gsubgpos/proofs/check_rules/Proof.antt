@@ -1,6 +1,6 @@
 use borrow.Author.Needs.{needs}
 use Prim.Native.Nat.{_-_}
-use Rattle.gsubgpos.proofs.Sets.{CheckingRules, checking-rules, checking-turn, checking-over}
+use Rattle.gsubgpos.proofs.Faults.{CheckingRules, checking-rules, checking-turn, checking-over}
 use Rattle.gsubgpos.proofs.check_rules.Statement.{statement}
 use Rattle.gsubgpos.proofs.check_rules.Tie as tie
 

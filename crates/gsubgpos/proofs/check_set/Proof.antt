@@ -1,6 +1,6 @@
 use borrow.Author.Needs.{needs}
 use Rattle.meaning.specs.Fault.{ruleFault}
-use Rattle.gsubgpos.proofs.Sets.{set-broken, set-whole}
+use Rattle.gsubgpos.proofs.Faults.{set-broken, set-whole}
 use Rattle.gsubgpos.proofs.check_set.Statement.{statement}
 use Rattle.gsubgpos.proofs.check_set.Tie as tie
 

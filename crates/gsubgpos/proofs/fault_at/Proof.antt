@@ -1,6 +1,6 @@
 use borrow.Author.Needs.{needs}
 use Rattle.meaning.specs.Fault.{ruleFault}
-use Rattle.gsubgpos.proofs.Sets.{fault-null, fault-there}
+use Rattle.gsubgpos.proofs.Faults.{fault-null, fault-there}
 use Rattle.gsubgpos.proofs.fault_at.Statement.{statement}
 use Rattle.gsubgpos.proofs.fault_at.Tie as tie
 

@@ -8,7 +8,8 @@ use Rattle.meaning.specs.Cut.{cutRule}
 use Rattle.meaning.specs.Layout.{ruleWords}
 use Rattle.laws.specs.Members.{Counting}
 use Rattle.gsubgpos.specs.Left.{mapsOf}
-use Rattle.gsubgpos.proofs.Sets.{rule-some, counting-start, counting-on, counting-some, counting-over}
+use Rattle.gsubgpos.proofs.Members.{counting-start, counting-on, counting-some, counting-over}
+use Rattle.gsubgpos.proofs.Sets.{rule-some}
 use Rattle.gsubgpos.proofs.rules_left.Statement.{statement}
 use Rattle.gsubgpos.proofs.rules_left.Tie as tie
 

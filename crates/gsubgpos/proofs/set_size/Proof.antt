@@ -6,7 +6,8 @@ use Rattle.meaning.specs.Cut.{cutRule}
 use Rattle.meaning.specs.Layout.{ruleWords}
 use Rattle.laws.specs.Members.{Sizing}
 use Rattle.gsubgpos.specs.Left.{mapsOf}
-use Rattle.gsubgpos.proofs.Sets.{rule-some, sizing-start, sizing-turn, sizing-over, set-sized}
+use Rattle.gsubgpos.proofs.Members.{sizing-start, sizing-turn, sizing-over}
+use Rattle.gsubgpos.proofs.Sets.{rule-some, set-sized}
 use Rattle.gsubgpos.proofs.set_size.Statement.{statement}
 use Rattle.gsubgpos.proofs.set_size.Tie as tie
 

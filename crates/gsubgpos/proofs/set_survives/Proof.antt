@@ -8,7 +8,8 @@ use Rattle.meaning.specs.Cut.{cutRule}
 use Rattle.meaning.specs.Layout.{ruleWords}
 use Rattle.laws.specs.Members.{Seeking}
 use Rattle.gsubgpos.specs.Left.{mapsOf}
-use Rattle.gsubgpos.proofs.Sets.{rule-some, seeking-start, seeking-on, seeking-some, seeking-over, set-left}
+use Rattle.gsubgpos.proofs.Members.{seeking-start, seeking-on, seeking-some, seeking-over}
+use Rattle.gsubgpos.proofs.Sets.{rule-some, set-left}
 use Rattle.gsubgpos.proofs.set_survives.Statement.{statement}
 use Rattle.gsubgpos.proofs.set_survives.Tie as tie
 

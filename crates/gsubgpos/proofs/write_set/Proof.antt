@@ -8,7 +8,8 @@ use Rattle.meaning.specs.Layout.{ruleWords}
 use Rattle.laws.specs.Members.{Laying}
 use Rattle.laws.specs.Written.{wrote-length}
 use Rattle.gsubgpos.specs.Left.{mapsOf}
-use Rattle.gsubgpos.proofs.Sets.{rule-some, rules-counted, laying-start, laying-on, laying-some, laying-over, set-wrote}
+use Rattle.gsubgpos.proofs.Members.{laying-start, laying-on, laying-some, laying-over}
+use Rattle.gsubgpos.proofs.Sets.{rule-some, rules-counted, set-wrote}
 use Rattle.gsubgpos.proofs.write_set.Statement.{statement}
 use Rattle.gsubgpos.proofs.write_set.Tie as tie
 
