@@ -1,3 +1,4 @@
 pub mod Parts
 pub mod Sizing
 pub mod Laying
+pub mod Whole

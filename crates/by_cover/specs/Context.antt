@@ -1,5 +1,5 @@
 -- A context by coverages: where its parts stand, what is asked of it, and the words of what is left of it.
-use Prim.Native.Nat.{ℕ, _+_, _*_, _≤_}
+use Prim.Native.Nat.{ℕ, _+_, _*_, _≤_, _<_}
 use mathlib.Core.Path.{_≡_}
 use mathlib.Core.Bool.{Bool, true, false, cond, _&&_}
 use mathlib.Core.Option.{Option}
@@ -10,6 +10,7 @@ use Rattle.meaning.specs.Maps.{mapEntries}
 use Rattle.meaning.specs.Tables.{Table, coverContext}
 use Rattle.meaning.specs.Cut.{cutRecords}
 use Rattle.meaning.specs.Layout.{offsets, blocks, coversLayout}
+use Rattle.laws.specs.Grown.{Grown}
 use Rattle.gsubgpos.specs.Left.{Ascends}
 use Rattle.gsubgpos.specs.Parts.{Near}
 use Rattle.gsubgpos.specs.declared.Row.{Row}
@@ -67,9 +68,23 @@ contextWords chained g l s r = coversLayout chained (rowBlocks g s (r .back)) (r
 
 -- how many bytes the header takes with k records
 abbrev pub headerSize : Bool → CoverParts → ℕ → ℕ
-headerSize chained r k = cond chained 10 6 + 2 * r .back .len + 2 * r .input .len + 2 * r .ahead .len + 4 * k
+headerSize chained r k = cond chained 10 6 + (2 * r .back .len + 2 * r .input .len + 2 * r .ahead .len + 4 * k)
 
--- what the functions that write a context ask: its parts are sound, k records are left, the coverages begin at `first`, right after the header, and all has room below 4 GB
+-- each row of the context is short, and so are the records that stay
+pub record ShortParts (r : CoverParts) (k : ℕ) : Type 0 where
+  pub back : r .back .len < 65536
+  pub input : r .input .len < 65536
+  pub ahead : r .ahead .len < 65536
+  pub records : k < 65536
+
+-- what is asked where a context is laid: its parts are sound, the maps can be asked, scratch has room, and its coverages take `size` bytes
+pub record Lay (chained : Bool) (s : List ℕ) (r : CoverParts) (size : ℕ) (glyphs lookups : List ℕ) (room : ℕ) : Type 0 where
+  pub parts : IsContext chained s r
+  pub ready : Ready s glyphs lookups room
+  pub covers : size ≡ coversSize (mapEntries glyphs) s r
+  pub small : size ≤ 0x3_0000_0000_0000
+
+-- what the functions that write a context ask: its parts are sound, k records stay, the coverages begin at `first`, right after the header, and no place is over 4 GB
 pub record Writes (chained : Bool) (s : List ℕ) (r : CoverParts) (k first : ℕ) (glyphs lookups : List ℕ) (room : ℕ) : Type 0 where
   pub parts : IsContext chained s r
   pub ready : Ready s glyphs lookups room
@@ -77,14 +92,23 @@ pub record Writes (chained : Bool) (s : List ℕ) (r : CoverParts) (k first : �
   pub start : first ≡ headerSize chained r k
   pub ends : first + coversSize (mapEntries glyphs) s r ≤ 0x1_0000_0000
 
-module _ (first : ℕ) (b i a : List (Option (List ℕ))) where
-  -- where the input's coverages begin, and where the lookahead's
-  abbrev pub second : ℕ
-  second = first + 2 * length (blocks b)
+-- and of these the one that writes the arrays of a chained context
+pub record Arrays (s : List ℕ) (r : CoverParts) (glyphs : List ℕ) (room first : ℕ) : Type 0 where
+  pub covers : ContextCovers s r glyphs room
+  pub before : 8 + 2 * r .back .len + 2 * r .input .len + 2 * r .ahead .len ≤ first
+  pub ends : first + coversSize (mapEntries glyphs) s r ≤ 0x1_0000_0000
 
-  abbrev pub third : ℕ
-  third = second + 2 * length (blocks i)
+-- the header of a chained context up to its records, where its coverages begin at `first`
+unfoldable pub arrayWords : ℕ → List (Option (List ℕ)) → List (Option (List ℕ)) → List (Option (List ℕ)) → List ℕ
+arrayWords first b i a =
+    let second = first + 2 * length (blocks b) in
+    let third = second + 2 * length (blocks i) in
+    3 ∷ length b ∷ (offsets first b ++ (length i ∷ (offsets second i ++ (length a ∷ offsets third a))))
 
-  -- the header of a chained context up to its records
-  unfoldable pub arrayWords : List ℕ
-  arrayWords = 3 ∷ length b ∷ (offsets first b ++ (length i ∷ (offsets second i ++ (length a ∷ offsets third a))))
+-- that header stands from the start on, and what is left of the coverages from `first` on
+abbrev pub GrownArrays : List (ℕ × ℕ) → List ℕ → CoverParts → List ℕ → ℕ → List ℕ → Type 0
+GrownArrays g s r out first after =
+    let b = rowBlocks g s (r .back) in
+    let i = rowBlocks g s (r .input) in
+    let a = rowBlocks g s (r .ahead) in
+    Grown out first (arrayWords first b i a) (blocks b ++ (blocks i ++ blocks a)) after

@@ -52,9 +52,7 @@ same-length c = search needs
 
 -- src/lib.rt:114:13
 returns : tie.Need-returns Inv-loop μ-loop
-returns c = 
-    let l = c .before .before .before .before .before in
-    (row-sizing-null (l .loop .inv .0) (c .before .before .before .if1 .taken) (c .before .word-at .ensures .0) (c .if2 .taken), l .loop .inv .1)
+returns c = row-sizing-null (c .before .before .before .before .before .loop .inv .0) (c .before .before .before .if1 .taken) (c .before .word-at .ensures .0) (c .if2 .taken)
 
 -- src/lib.rt:116:13
 cover-size-requires : tie.Need-cover-size-requires Inv-loop μ-loop
@@ -72,7 +70,7 @@ returns-2 c =
     let s = c .before .before .before in
     let w = s .before .before .before in
     let l = w .before .before .before .before in
-    (row-sizing-gone (l .loop .inv .0) (w .before .before .if1 .taken) (w .word-at .ensures .0) (s .before .before .if2 .left) (s .cover-size .ensures .0) (c .if3 .taken), s .cover-size .ensures .1 ∙ l .loop .inv .1)
+    row-sizing-gone (l .loop .inv .0) (w .before .before .if1 .taken) (w .word-at .ensures .0) (s .before .before .if2 .left) (s .cover-size .ensures .0) (c .if3 .taken)
 
 -- src/lib.rt:120:9
 add-total : tie.Need-add-total Inv-loop μ-loop
@@ -96,9 +94,7 @@ same-length-3 c = search needs
 
 -- src/lib.rt:105:1
 returns-3 : tie.Need-returns-3 Inv-loop μ-loop
-returns-3 c = 
-    let l = c .before .before in
-    (row-sizing-end (l .loop .inv .0) (c .if1 .left), l .loop .inv .1)
+returns-3 c = row-sizing-end (c .before .before .loop .inv .0) (c .if1 .left)
 
 pub row-size-spec : {M : Type 1} → statement M
 row-size-spec =
