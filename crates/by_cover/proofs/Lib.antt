@@ -1,0 +1,4 @@
+pub mod Parts
+pub mod Sizing
+pub mod Laying
+pub mod Whole

@@ -1,0 +1,60 @@
+-- The parts of plain and of chained contexts, from what was read of them.
+use Prim.Native.Nat.{ℕ, _+_, _*_, _<_}
+use mathlib.Core.Path.{_≡_, refl, _∙_}
+use mathlib.Core.Bool.{true, false, _&&_}
+use mathlib.Core.Option.{none}
+use mathlib.Core.List.{List}
+use native.Mathlib.Omega.{arith}
+use Rattle.meaning.specs.Words.{word, inside}
+use Rattle.meaning.specs.Tables.{reaches, coverContext}
+use Rattle.meaning.specs.Fault.{faultThrough, coverageFault, coversFault}
+use Rattle.laws.specs.SoundGood.{part-sound, lowest-none}
+use Rattle.gsubgpos.specs.declared.Row.{Row}
+use Rattle.by_cover.specs.Rows.{SoundRow}
+use Rattle.by_cover.specs.Context.{IsContext}
+
+module _ (s : List ℕ) where
+  -- a row that reaches nothing
+  no-row : SoundRow s (record { at = 0; len = 0 })
+  unfolding faultThrough
+  no-row = record { near = record { close = omega arith; short = omega arith }; sound = refl }
+
+  pub plain-is : {n k : ℕ} → coversFault false s ≡ none → (n ≡ word s 2) × (n < 65536) → (k ≡ word s 4) × (k < 65536)
+      → IsContext false s (record { back = record { at = 0; len = 0 }; input = record { at = 6; len = n }; ahead = record { at = 0; len = 0 }; records = record { at = 6 + 2 * n; len = k } })
+  unfolding coverContext reaches coversFault
+  plain-is {n} {k} h e f =
+      let p = part-sound 0 (inside s 0 6 && inside s 6 (2 * word s 2 + 4 * word s 4)) _ h in
+      record {
+        table = rw (e .0, f .0);
+        back = no-row;
+        input = record { near = record { close = omega arith; short = omega arith }; sound = rw (e .0) (p .1) };
+        ahead = no-row;
+        records = record { close = omega arith; short = omega arith };
+        plain = λ q. (refl, refl);
+      }
+
+  pub chained-is : {b n a k : ℕ} → coversFault true s ≡ none → (b ≡ word s 2) × (b < 65536) → (n ≡ word s (4 + 2 * b)) × (n < 65536)
+      → (a ≡ word s (4 + 2 * b + 2 + 2 * n)) × (a < 65536) → (k ≡ word s (4 + 2 * b + 2 + 2 * n + 2 + 2 * a)) × (k < 65536)
+      → IsContext true s
+      (record {
+        back = record { at = 4; len = b };
+        input = record { at = 4 + 2 * b + 2; len = n };
+        ahead = record { at = 4 + 2 * b + 2 + 2 * n + 2; len = a };
+        records = record { at = 4 + 2 * b + 2 + 2 * n + 2 + 2 * a + 2; len = k };
+      })
+  unfolding coverContext coversFault
+  chained-is {b} {n} {a} {k} h e f g r =
+      let i = 4 + 2 * b in
+      let j = i + 2 + 2 * n in
+      let z = j + 2 + 2 * a in
+      let p = part-sound 0 (inside s 0 4 && (inside s i 2 && (inside s j 2 && (inside s z 2 && inside s (z + 2) (4 * k))))) _ (rw (← (e .0), ← (f .0), ← (g .0), ← (r .0)) at h) in
+      let q = lowest-none (faultThrough (coverageFault s) s 0 4 b) _ (p .1) in
+      let t = lowest-none (faultThrough (coverageFault s) s 0 (i + 2) n) (faultThrough (coverageFault s) s 0 (j + 2) a) (q .1) in
+      record {
+        table = rw (← (e .0), ← (f .0), ← (g .0), ← (r .0));
+        back = record { near = record { close = omega arith; short = omega arith }; sound = q .0 };
+        input = record { near = record { close = omega arith; short = omega arith }; sound = t .0 };
+        ahead = record { near = record { close = omega arith; short = omega arith }; sound = t .1 };
+        records = record { close = omega arith; short = omega arith };
+        plain = λ x. absurd (mathlib.Core.Bool.true≢false x);
+      }

@@ -1,0 +1,3 @@
+pub mod Roomy
+pub mod Rows
+pub mod Context
