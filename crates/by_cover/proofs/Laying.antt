@@ -14,7 +14,7 @@ use Rattle.meaning.specs.Layout.{offsets, blocks}
 use Rattle.laws.specs.Written.{Wrote, flat-one}
 use Rattle.laws.specs.Laid.{laid, laid-end, laid-null, laid-block}
 use Rattle.laws.specs.Slots.{slotBlock, slot-null, slot-there, SlotLaying, slot-laying-all, slot-laying-null, slot-laying-set, slot-laying-end}
-use Rattle.gsubgpos.specs.declared.Row.{Row}
+use Rattle.rules.specs.declared.Row.{Row}
 use Rattle.by_cover.specs.Rows.{leftAt, rowBlocks, rowSize, SlotCuts, Covers, Lays, Apart}
 use Rattle.by_cover.proofs.Sizing.{cuts-at}
 

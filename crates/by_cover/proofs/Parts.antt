@@ -9,7 +9,7 @@ use Rattle.meaning.specs.Words.{word, inside}
 use Rattle.meaning.specs.Tables.{reaches, coverContext}
 use Rattle.meaning.specs.Fault.{faultThrough, coverageFault, coversFault}
 use Rattle.laws.specs.SoundGood.{part-sound, lowest-none}
-use Rattle.gsubgpos.specs.declared.Row.{Row}
+use Rattle.rules.specs.declared.Row.{Row}
 use Rattle.by_cover.specs.Rows.{SoundRow}
 use Rattle.by_cover.specs.Context.{IsContext}
 

@@ -23,7 +23,7 @@ use Rattle.laws.specs.CutGood.{opt-bind}
 use Rattle.laws.specs.SoundGood.{part-sound, lowest-none}
 use Rattle.laws.specs.Slots.{slotBlock, slotBlocks, slot-there, SlotSizing, slot-sizing-all, slot-sizing-set, slot-sizing-end}
 use Rattle.retained.specs.Cover.{Cuts, coverWords}
-use Rattle.gsubgpos.specs.declared.Row.{Row}
+use Rattle.rules.specs.declared.Row.{Row}
 use Rattle.by_cover.specs.Roomy.{Roomy}
 use Rattle.by_cover.specs.Rows.{coversAt, rowLeft, leftAt, rowBlocks, rowSize, SoundRow, Covers, cutOf, bytesOf, RowCut}
 use Rattle.by_cover.specs.declared.Cut.{Cut}

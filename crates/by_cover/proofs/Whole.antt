@@ -24,7 +24,7 @@ use Rattle.laws.specs.Written.{Wrote}
 use Rattle.laws.specs.Laid.{laid}
 use Rattle.laws.specs.Grown.{Grown, grown-none, grown-word, grown-words, grown-laid, grown-end}
 use Rattle.laws.specs.Slots.{slotBlock}
-use Rattle.gsubgpos.specs.declared.Row.{Row}
+use Rattle.rules.specs.declared.Row.{Row}
 use Rattle.room.specs.Laid.{laidFor, outcomeOf, isKept, refused-room, kept-room, kept-small}
 use Rattle.room.specs.declared.Laid.{Laid}
 use Rattle.room.specs.declared.Laid.the-variants.{Nothing, TooBig, NoRoom, Kept}
@@ -299,7 +299,7 @@ chained-written {s} {r} {k} {first} {glyphs} {lookups} {out = out} w e x y =
     let li = row-length g s (r .input) in
     let la = row-length g s (r .ahead) in
     let f0 : Filled out first (arrayWords first b i a) (blocks b ++ (blocks i ++ blocks a)) _ (8 + 2 * r .back .len + 2 * r .input .len + 2 * r .ahead .len) _ =
-        record { grown = e; header = omega (arith, array-length b i a rs first, lb, li, la); place = refl }
+    record { grown = e; header = omega (arith, array-length b i a rs first, lb, li, la); place = refl }
     in
     let f1 = filled-word f0 k (omega (arith, w .start)) (x .1) in
     let f2 = filled-words f1 (twos rs) (omega (arith, w .start, w .count, twos-length rs)) (rw (x .0) at (y .bytes)) in

@@ -11,9 +11,9 @@ use Rattle.meaning.specs.Tables.{Table, coverContext}
 use Rattle.meaning.specs.Cut.{cutRecords}
 use Rattle.meaning.specs.Layout.{offsets, blocks, coversLayout}
 use Rattle.laws.specs.Grown.{Grown}
-use Rattle.gsubgpos.specs.Left.{Ascends}
-use Rattle.gsubgpos.specs.Parts.{Near}
-use Rattle.gsubgpos.specs.declared.Row.{Row}
+use Rattle.rules.specs.Left.{Ascends}
+use Rattle.rules.specs.Parts.{Near}
+use Rattle.rules.specs.declared.Row.{Row}
 use Rattle.by_cover.specs.Roomy.{Roomy}
 use Rattle.by_cover.specs.Rows.{coversAt, rowLeft, rowBlocks, rowSize, SoundRow, Covers, cutOf, bytesOf}
 use Rattle.by_cover.specs.declared.CoverParts.{CoverParts}

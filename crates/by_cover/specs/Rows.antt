@@ -15,9 +15,9 @@ use Rattle.meaning.specs.Layout.{blocks}
 use Rattle.laws.specs.Laid.{laid}
 use Rattle.laws.specs.Slots.{slotBlock, slotBlocks}
 use Rattle.retained.specs.Cover.{Cuts, coverLeft}
-use Rattle.gsubgpos.specs.Left.{Ascends}
-use Rattle.gsubgpos.specs.Parts.{Near}
-use Rattle.gsubgpos.specs.declared.Row.{Row}
+use Rattle.rules.specs.Left.{Ascends}
+use Rattle.rules.specs.Parts.{Near}
+use Rattle.rules.specs.declared.Row.{Row}
 use Rattle.by_cover.specs.Roomy.{Roomy}
 use Rattle.by_cover.specs.declared.Cut.{Cut}
 use Rattle.by_cover.specs.declared.Cut.the-variants.{Empty, Bytes}

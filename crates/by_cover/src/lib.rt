@@ -1,12 +1,12 @@
 // Format 3 of contexts and chained contexts: coverages for backtrack, input and lookahead, and records. From bytes to bytes.
 // `work` is scratch with room for the retained glyphs of each coverage, two bytes each.
-use gsubgpos::Row;
-use gsubgpos::records_left;
-use gsubgpos::serialize_lookup_records;
 use retained::cover_size;
 use retained::write_cover;
 use room::Laid;
 use room::room;
+use rules::Row;
+use rules::records_left;
+use rules::serialize_lookup_records;
 use wire::put;
 use wire::put_record;
 use wire::word_at;
@@ -255,7 +255,14 @@ fn write_plain(
     let n = parts.input.len;
     put_record(out, 0, 3, n, k);
     write_row(src, parts.input, glyphs, work, out, 6, first);
-    serialize_lookup_records(src, parts.records.at, parts.records.len, lookups, out, 6 + 2 * n);
+    serialize_lookup_records(
+        src,
+        parts.records.at,
+        parts.records.len,
+        lookups,
+        out,
+        6 + 2 * n,
+    );
 }
 
 // What is left of the context, written from the start on.

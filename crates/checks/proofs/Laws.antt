@@ -16,7 +16,7 @@ use Rattle.laws.specs.ReadsBack.{fault-is}
 use Rattle.wire.specs.declared.Fault.{Fault}
 use Rattle.wire.specs.declared.Fault.the-variants.{At, Sound}
 use Rattle.wire.specs.Fault.{faultOf, placeOf, is-at, is-sound}
-use Rattle.ligature_subst.proofs.Checks.{Lowest, lowest-part}
+use Rattle.wire.specs.Reached.{Lowest, lowest-part}
 use Rattle.checks.specs.Parts.{byGlyphFault, byClassFault, ligaturesFault, pairFields, pairsFault}
 
 -- a table whose header ends with a count at `slot` and as many offsets

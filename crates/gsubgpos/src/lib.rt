@@ -9,13 +9,10 @@ use wire::lowest;
 use wire::put;
 use wire::word_at;
 ghost use mathlib.Core.Path.{_≡_};
-ghost use mathlib.Core.Bool.{cond};
-ghost use mathlib.Core.Option.{none};
 ghost use mathlib.Core.List.{[]};
 ghost use Prim.Native.Nat.{_+_, _*_, _≤_, _<_};
 ghost use lib.ListN.{length};
-ghost use lib.Dec.{eqb};
-ghost use Rattle.meaning.specs.Words.{word, isSome, push};
+ghost use Rattle.meaning.specs.Words.{isSome, push};
 ghost use Rattle.meaning.specs.Tables.{ruleSet};
 ghost use Rattle.meaning.specs.Fault.{ruleFault, faultThrough, setFault};
 ghost use Rattle.meaning.specs.Cut.{cutSet};
@@ -25,18 +22,6 @@ ghost use Rattle.laws.specs.Members.{wordsLeft, sized};
 ghost use Rattle.wire.specs.Fault.{faultOf};
 ghost use Rattle.gsubgpos.specs.Left.{NumbersAscend, AllAscend, mapsOf, setLeft, ruleAt, rulesLeft};
 
-// The fault of the rule that the offset at `slot` reaches from `base`; a null offset reaches none.
-fn fault_at(chained: bool, src: &[u8], base: usize, slot: usize) -> Fault
-    requires { ⌜ base < 0x1000_0000_0000 ⌝ }
-    ensures { λ r. ⌜ r ≡ faultOf (cond (eqb (word (now (src .entry)) slot) 0) none (ruleFault chained (now (src .entry)) (base + word (now (src .entry)) slot))) ⌝ }
-{
-    let off = word_at(src, slot);
-    if off == 0 {
-        return Fault::Sound;
-    }
-    check_rule(chained, src, base + off)
-}
-
 // The lowest fault among the rules that the `n` offsets of the set at `at` reach.
 fn check_rules(chained: bool, src: &[u8], at: usize, n: usize) -> Fault
     requires { ⌜ (at < 0x100_0000_0000) × (n < 65536) ⌝ }
@@ -45,17 +30,24 @@ fn check_rules(chained: bool, src: &[u8], at: usize, n: usize) -> Fault
     let mut low = Fault::Sound;
     let mut i = 0;
     while i < n {
-        low = lowest(low, fault_at(chained, src, at, at + 2 + 2 * i));
+        let offset = word_at(src, at + 2 + 2 * i);
         i += 1;
+        if offset == 0 {
+            continue;
+        }
+        low = lowest(low, check_rule(chained, src, at + offset));
     }
     low
 }
 
-// The fault of the set of rules at `at`: its own place if its offsets do not lie inside the source, else the lowest among its rules.
+// The fault of the set of rules at `at`: its own place if its count or its offsets do not lie inside the source, else the lowest among its rules.
 pub fn check_set(chained: bool, src: &[u8], at: usize) -> Fault
     requires { ⌜ at < 0x100_0000_0000 ⌝ }
     ensures { λ r. ⌜ r ≡ faultOf (setFault (ruleFault chained (now (src .entry))) (now (src .entry)) at) ⌝ }
 {
+    if !inside(src, at, 2) {
+        return Fault::At(at);
+    }
     let n = word_at(src, at);
     if !inside(src, at + 2, 2 * n) {
         return Fault::At(at);

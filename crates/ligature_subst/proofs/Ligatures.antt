@@ -19,7 +19,7 @@ use Rattle.laws.specs.Written.{Wrote, wrote-none, wrote-two, wrote-more, wrote-
 use Rattle.wire.specs.Fault.{faultOf}
 use Rattle.wire.specs.declared.Fault.the-variants.{At, Sound}
 use Rattle.sequences.specs.Renumbered.{renumbered, renumbered-length, renumbered-all, is-none}
-use Rattle.ligature_subst.proofs.Checks.{refused, passed}
+use Rattle.wire.specs.Reached.{refused, passed}
 use Rattle.ligature_subst.specs.Left.{ligatureLeft}
 
 module _ (s : List ℕ) (at : ℕ) where

@@ -1,4 +1,3 @@
-pub mod Sequences
 pub mod Records
 pub mod Parts
 pub mod Rules

@@ -16,11 +16,11 @@ use Rattle.laws.specs.Stands.{twos-length}
 use Rattle.laws.specs.Left.{words-length, entries-length}
 use Rattle.laws.specs.Written.{Wrote, wrote-more}
 use Rattle.laws.specs.Members.{wordsLeft}
-use Rattle.rules.specs.Left.{mapsOf, ruleLeft, renumbered, countStays, renumberedRule, stays, cut-rule, rule-stays}
+use Rattle.rules.specs.Left.{mapsOf, ruleLeft, countStays, renumberedRule, stays, cut-rule, rule-stays}
 use Rattle.rules.specs.Parts.{IsRule}
 use Rattle.rules.specs.declared.Row.{Row}
 use Rattle.rules.specs.declared.RuleParts.{RuleParts}
-use Rattle.rules.proofs.Sequences.{renumbered-length}
+use Rattle.sequences.specs.Renumbered.{renumbered, renumbered-length}
 
 -- whether each number of a row has a new one
 abbrev pub rowSurvives : List ℕ → List ℕ → Row → Bool

@@ -5,16 +5,15 @@ use mathlib.Core.Bool.{Bool, true, false, cond, _&&_, not}
 use mathlib.Core.Option.{Option, none, some}
 use mathlib.Core.List.{List, [], _∷_}
 use lib.Dec.{eqb}
-use Rattle.meaning.specs.Words.{ascends, keys, find, isSome, bind, mapAll}
+use Rattle.meaning.specs.Words.{find, isSome, bind, mapAll}
 use Rattle.meaning.specs.Maps.{mapEntries}
 use Rattle.meaning.specs.Tables.{Rule, rule}
 use Rattle.meaning.specs.Cut.{RuleMaps, cutRecords, cutRule}
 use Rattle.meaning.specs.Layout.{ruleWords}
 use Rattle.laws.specs.Members.{wordsLeft}
-
--- the old column of a map ascends: what `find` asks of it
-abbrev pub Ascends : List ℕ → Type 0
-Ascends m = ascends (keys (mapEntries m)) ≡ true
+use Rattle.sequences.specs.Renumbered.{newOf, renumbered}
+-- what contracts on rules say of a map, for the crates above
+pub use Rattle.sequences.specs.Renumbered.{Ascends}
 
 -- each of the three maps that a rule's numbers go through can be asked
 pub record NumbersAscend (b i a : List ℕ) : Type 0 where
@@ -34,16 +33,6 @@ mapsOf b i a l = record { back = mapEntries b; input = mapEntries i; ahead = map
 -- the words of what is left of the rule at `at`; a rule that goes has none
 unfoldable pub ruleLeft : Bool → RuleMaps → List ℕ → ℕ → List ℕ
 ruleLeft chained m s at = wordsLeft (ruleWords chained) (cutRule chained m (rule chained s at))
-
--- a new number, and 0 where there is none
-abbrev pub newOf : Option ℕ → ℕ
-newOf (some n) = n
-newOf none = 0
-
--- the new numbers of a sequence, with 0 for each that has none
-unfoldable pub renumbered : List (ℕ × ℕ) → List ℕ → List ℕ
-renumbered m [] = []
-renumbered m (w ∷ ws) = newOf (find m w) ∷ renumbered m ws
 
 -- a sequence that survives is its new numbers
 pub survivors : (m : List (ℕ × ℕ)) (ws : List ℕ) → mapAll (find m) ws ≡ cond (isSome (mapAll (find m) ws)) (some (renumbered m ws)) none

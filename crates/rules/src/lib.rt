@@ -1,6 +1,8 @@
 // Rules of contexts, plain and chained, with their sequences and lookup records: checked, sized and written.
 use maps::Found;
 use maps::find;
+use sequences::mapped;
+use sequences::write_mapped;
 use wire::Fault;
 use wire::inside;
 use wire::put;
@@ -19,13 +21,14 @@ ghost use Rattle.meaning.specs.Cut.{cutRecords, cutRule};
 ghost use Rattle.meaning.specs.Layout.{ruleWords};
 ghost use Rattle.laws.specs.Written.{Wrote};
 ghost use Rattle.wire.specs.Fault.{faultOf};
-ghost use Rattle.rules.specs.Left.{Ascends, NumbersAscend, AllAscend, mapsOf, ruleLeft, newOf, renumbered, countStays, renumberedRule};
+ghost use Rattle.sequences.specs.Renumbered.{Ascends, renumbered};
+ghost use Rattle.rules.specs.Left.{NumbersAscend, AllAscend, mapsOf, ruleLeft, countStays, renumberedRule};
 ghost use Rattle.rules.specs.Parts.{IsRule};
 
 // Numbers or records in a row: where the first stands, and how many there are.
-struct Row {
-    at: usize,
-    len: usize,
+pub struct Row {
+    pub at: usize,
+    pub len: usize,
 }
 
 // Where the parts of a rule stand: its backtrack, its input after the first glyph, its lookahead and its records; and its glyph count.
@@ -35,53 +38,6 @@ struct RuleParts {
     input: Row,
     ahead: Row,
     records: Row,
-}
-
-// Whether each of the `n` numbers from `at` on has a new one.
-pub fn sequence_survives(src: &[u8], at: usize, n: usize, map: &[u8]) -> bool
-    requires { ⌜ (at + 2 * n < 0x1_0000_0000_0000) × Ascends (now map) ⌝ }
-    ensures { λ r. ⌜ r ≡ isSome (mapAll (find (mapEntries (now (map .entry)))) (words (now (src .entry)) at n)) ⌝ }
-{
-    let mut i = 0;
-    while i < n {
-        let Found::New(_) = find(map, word_at(src, at + 2 * i)) else {
-            return false;
-        };
-        i += 1;
-    }
-    true
-}
-
-// The new number of `old`, and 0 where there is none.
-fn new_of(map: &[u8], old: usize) -> usize
-    requires { ⌜ Ascends (now map) ⌝ }
-    ensures { λ r. ⌜ r ≡ newOf (find (mapEntries (now (map .entry))) old) ⌝ }
-{
-    let Found::New(new) = find(map, old) else {
-        return 0;
-    };
-    new
-}
-
-// The new numbers of the `n` numbers from `at` on, written from `pos` on, where there is room; the place after them.
-pub fn serialize_sequence(
-    src: &[u8],
-    at: usize,
-    n: usize,
-    map: &[u8],
-    out: &mut [u8],
-    pos: usize,
-) -> usize
-    requires { ⌜ (at + 2 * n < 0x1_0000_0000_0000) × (pos + 2 * n < 0x1_0000_0000_0000) × Ascends (now map) ⌝ }
-    ensures { λ r. ⌜ Wrote (now (out .entry)) pos (renumbered (mapEntries (now (map .entry))) (words (now (src .entry)) at n)) (now (out .exit)) r ⌝ }
-{
-    let mut i = 0;
-    while i < n {
-        let w = new_of(map, word_at(src, at + 2 * i));
-        put(out, pos + 2 * i, w);
-        i += 1;
-    }
-    pos + 2 * n
 }
 
 // How many of the `n` records from `at` on, a place and a lookup each, have a lookup that stays.
@@ -232,13 +188,13 @@ pub fn rule_survives(
     if !count_stays(chained, r.count) {
         return false;
     }
-    if !sequence_survives(src, r.back.at, r.back.len, back) {
+    if !mapped(src, r.back.at, r.back.len, back) {
         return false;
     }
-    if !sequence_survives(src, r.input.at, r.input.len, input) {
+    if !mapped(src, r.input.at, r.input.len, input) {
         return false;
     }
-    sequence_survives(src, r.ahead.at, r.ahead.len, ahead)
+    mapped(src, r.ahead.at, r.ahead.len, ahead)
 }
 
 // The bytes of a rule's counts: a chained rule has four, a plain one two.
@@ -286,7 +242,7 @@ fn write_counted(
     ensures { λ r. ⌜ Wrote (now (out .entry)) pos (count ∷ renumbered (mapEntries (now (map .entry))) (words (now (src .entry)) at n)) (now (out .exit)) r ⌝ }
 {
     let p = put(out, pos, count);
-    serialize_sequence(src, at, n, map, out, p)
+    write_mapped(src, at, n, map, out, p)
 }
 
 // How many of the `n` records from `at` on have a lookup that stays, and these records with its new number, written from `pos` on; the place after them.
@@ -321,7 +277,7 @@ fn write_plain(
     let r = plain_parts(src, at);
     let k = records_left(src, r.records.at, r.records.len, lookups);
     let p = put_entry(out, pos, r.count, k);
-    let q = serialize_sequence(src, r.input.at, r.input.len, input, out, p);
+    let q = write_mapped(src, r.input.at, r.input.len, input, out, p);
     serialize_lookup_records(src, r.records.at, r.records.len, lookups, out, q)
 }
 

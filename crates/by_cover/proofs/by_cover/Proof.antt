@@ -41,7 +41,7 @@ returns c = nothing-left (c .before .before .before .before .before .before .cov
 
 -- src/lib.rt:337:5
 lay-requires : tie.Need-lay-requires
-lay-requires c κs = 
+lay-requires c κs =
     let k = c .before .before .before .before .before .before .before .covers-size in
     let e = c .before .before .before .size .given .1 in
     record { parts = c .before .before .before .before .before .before .before .before .before .cover-parts .ensures; ready = rw (k .kept .1 .1 .1 .0) (c .before .before .before .before .before .before .before .before .before .before .before .before .before .before .before .pre .1); covers = context-kept (k .ensures) e .1; small = rw e at (k .ensures .small) }

@@ -75,7 +75,7 @@ word-at-requires-4 c κs = search needs
 
 -- src/lib.rt:66:1
 returns : tie.Need-returns
-returns c = 
+returns c =
     let a = c .before in
     let i = a .before in
     let b = i .before in

@@ -31,7 +31,7 @@ word-at-requires-2 c κs = search needs
 
 -- src/lib.rt:49:1
 returns : tie.Need-returns
-returns c = 
+returns c =
     let n = c .before in
     let start = n .before .before in
     plain-is (start .args .src .now) (start .pre) (n .word-at .ensures) (c .word-at2 .ensures)

@@ -56,7 +56,7 @@ returns c = row-sizing-null (c .before .before .before .before .before .loop .in
 
 -- src/lib.rt:116:13
 cover-size-requires : tie.Need-cover-size-requires Inv-loop μ-loop
-cover-size-requires c κs = 
+cover-size-requires c κs =
     let l = c .before .before .before .before .before .before in
     cuts-at (l .before .before .before .before .pre) (c .before .before .before .before .if1 .taken) (c .before .before .word-at .ensures .0) (c .before .if2 .left) (l .loop .inv .1)
 
@@ -66,7 +66,7 @@ same-length-2 c = search needs
 
 -- src/lib.rt:118:13
 returns-2 : tie.Need-returns-2 Inv-loop μ-loop
-returns-2 c = 
+returns-2 c =
     let s = c .before .before .before in
     let w = s .before .before .before in
     let l = w .before .before .before .before in

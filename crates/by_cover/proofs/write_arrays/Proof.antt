@@ -32,7 +32,7 @@ write-counted-requires c κs = search needs
 
 -- src/lib.rt:216:9
 write-counted-requires-2 : tie.Need-write-counted-requires-2
-write-counted-requires-2 c κs = 
+write-counted-requires-2 c κs =
     let w = c .before .before .before .before .before .before .write-counted in
     let p = c .before .before .before .before .before .before .before .before .before .before .before .before .before .before .before .before .before .before .pre in
     (rw (w .kept .1 .1 .1 .0) (p .covers .input), record { before = omega (arith, w .ensures .place, p .before); ends = omega (arith, w .ensures .place, p .ends) })
@@ -51,11 +51,10 @@ add-last-2 c = omega (arith, c .before .before .before .before .before .before .
 
 -- src/lib.rt:218:5
 write-counted-requires-3 : tie.Need-write-counted-requires-3
-write-counted-requires-3 c κs = 
+write-counted-requires-3 c κs =
     let w = c .before .before .before .before .before .before .before in
     let v = w .before .before .before .before .before .before .before .write-counted in
-    let p = c .before .before .before .before .before .before .before .before .before .before .before .before .before .before .before .before .before .before .before .before .before .before .before .before .before .before .pre in
-    (
+    let p = c .before .before .before .before .before .before .before .before .before .before .before .before .before .before .before .before .before .before .before .before .before .before .before .before .before .before .pre in (
       rw (w .write-counted2 .kept .1 .1 .1 .0, v .kept .1 .1 .1 .0) (p .covers .ahead),
       record { before = omega (arith, w .write-counted2 .ensures .place, v .ensures .place, p .before); ends = omega (arith, w .write-counted2 .ensures .place, v .ensures .place, p .ends) },
     )
@@ -70,7 +69,7 @@ same-length-2 c = search needs
 
 -- src/lib.rt:202:1
 returns : tie.Need-returns
-returns c = 
+returns c =
     let z = c .before .before .before .before in
     let y = z .before .before .before .before .before .before .before .before in
     let x = y .before .before .before .before .before .before .before in

@@ -12,7 +12,7 @@ use Rattle.by_cover.proofs.write_chained.Tie as tie
 use Rattle.by_cover.proofs.write_chained.Reads as reads
 use Rattle.by_cover.proofs.write_chained.Lts as lts
 use Rattle.by_cover.proofs.write_arrays.Reads as write-arrays-reads
-use Rattle.gsubgpos.proofs.serialize_lookup_records.Reads as serialize-lookup-records-reads
+use Rattle.rules.proofs.serialize_lookup_records.Reads as serialize-lookup-records-reads
 use Rattle.wire.proofs.put.Reads as put-reads
 
 -- src/lib.rt:236:5
@@ -49,10 +49,9 @@ put-requires c κs = search needs
 
 -- src/lib.rt:239:5
 serialize-lookup-records-requires : tie.Need-serialize-lookup-records-requires
-serialize-lookup-records-requires c κs = 
+serialize-lookup-records-requires c κs =
     let p = c .before .before .before .before .before .before .before .before .before .before .before .before .before .before .before .before .before .before .before .before .pre in
-    let k = p .parts in
-    (
+    let k = p .parts in (
       omega (arith, k .records .close, k .records .short),
       omega (arith, c .before .before .before .put .ensures .0, k .records .short, k .back .near .short, k .input .near .short, k .ahead .near .short),
       p .ready .old-lookups,
@@ -68,7 +67,7 @@ same-length-2 c = search needs
 
 -- src/lib.rt:223:1
 returns : tie.Need-returns
-returns c = 
+returns c =
     let t = c .before .before in
     let p = t .before .before .before .before in
     let a = p .before .before .before .before .before .before .before .before .before in

@@ -12,7 +12,7 @@ use Rattle.by_cover.proofs.write_plain.Tie as tie
 use Rattle.by_cover.proofs.write_plain.Reads as reads
 use Rattle.by_cover.proofs.write_plain.Lts as lts
 use Rattle.by_cover.proofs.write_row.Reads as write-row-reads
-use Rattle.gsubgpos.proofs.serialize_lookup_records.Reads as serialize-lookup-records-reads
+use Rattle.rules.proofs.serialize_lookup_records.Reads as serialize-lookup-records-reads
 use Rattle.wire.proofs.put_record.Reads as put-record-reads
 
 -- src/lib.rt:257:5
@@ -45,7 +45,7 @@ same-length-2 c = search needs
 
 -- src/lib.rt:243:1
 returns : tie.Need-returns
-returns c = 
+returns c =
     let t = c .before .before in
     let w = t .before .before .before .before .before .before in
     let o = w .before .before .before .before .before in

@@ -46,7 +46,7 @@ add-write-slot c = search needs
 
 -- src/lib.rt:180:9
 write-slot-requires : tie.Need-write-slot-requires Inv-loop μ-loop
-write-slot-requires c κs = 
+write-slot-requires c κs =
     let l = c .before .before .before .before .before .before in
     let p = l .before .before .before .before .before .pre in
     row-laying-asks (l .loop .inv .0) (c .before .before .before .before .if1 .taken) (c .before .before .word-at .ensures .0) (p .0) (p .1) (l .loop .inv .1)
@@ -61,7 +61,7 @@ loop-less c = search needs
 
 -- src/lib.rt:178:5
 loop-again : tie.Need-loop-again Inv-loop μ-loop
-loop-again c = 
+loop-again c =
     let w = c .before .before .before .before in
     let l = w .before .before .before .before .before .before .before in
     (row-laying-turn (l .loop .inv .0) (w .before .before .before .before .before .if1 .taken) (w .before .before .before .word-at .ensures .0) (w .write-slot .ensures), w .write-slot .kept .1 .1 .1 .0 ∙ l .loop .inv .1)

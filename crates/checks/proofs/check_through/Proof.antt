@@ -1,6 +1,6 @@
 use borrow.Author.Needs.{needs}
 use Prim.Native.Nat.{_-_}
-use Rattle.ligature_subst.proofs.Checks.{Lowest, lowest-all, lowest-null, lowest-end}
+use Rattle.wire.specs.Reached.{Lowest, lowest-all, lowest-null, lowest-end}
 use Rattle.checks.specs.Parts.{faultOfPart}
 use Rattle.checks.proofs.Laws.{lowest-reached}
 use Rattle.checks.proofs.check_through.Statement.{statement}

@@ -1,26 +1,35 @@
 use borrow.Author.Needs.{needs}
-use Prim.Native.Nat.{_-_}
-use Rattle.gsubgpos.proofs.Faults.{CheckingRules, checking-rules, checking-turn, checking-over}
+use Prim.Native.Nat.{_+_, _-_}
+use Rattle.meaning.specs.Fault.{ruleFault}
+use Rattle.wire.specs.Reached.{Lowest, lowest-all, lowest-null, lowest-part, lowest-end}
 use Rattle.gsubgpos.proofs.check_rules.Statement.{statement}
 use Rattle.gsubgpos.proofs.check_rules.Tie as tie
 
 abbrev Inv-loop : tie.InvT-loop
-Inv-loop chained src at n low₀ i₀ low i = CheckingRules chained src at n low i
+Inv-loop chained src at n low₀ i₀ low i = Lowest (ruleFault chained src) src at (at + 2) n low i
 
 abbrev μ-loop : tie.MeasureT-loop
 μ-loop chained src at n low₀ i₀ low i = n - i
 
 loop-holds : tie.Need-loop-holds Inv-loop μ-loop
-loop-holds c = checking-rules
+loop-holds c = lowest-all
 
 loop-again : tie.Need-loop-again Inv-loop μ-loop
 loop-again c =
+    let w = c .before in
+    let t = w .before in
+    lowest-null (t .before .loop .inv) (t .loop-test .taken) (w .word-at .ensures .0) (c .if1 .taken)
+
+loop-again-2 : tie.Need-loop-again-2 Inv-loop μ-loop
+loop-again-2 c =
     let f = c .before in
-    let l = f .before in
-    checking-turn (l .before .loop .inv) (l .loop-test .taken) (f .fault-at .ensures) (c .lowest .ensures)
+    let z = f .before in
+    let w = z .before in
+    let t = w .before in
+    lowest-part (t .before .loop .inv) (t .loop-test .taken) (w .word-at .ensures .0) (z .if1 .left) (f .check-rule .ensures) (c .lowest .ensures)
 
 returns : tie.Need-returns Inv-loop μ-loop
-returns c = checking-over (c .before .loop .inv) (c .loop-test .left)
+returns c = lowest-end (c .before .loop .inv) (c .loop-test .left)
 
 pub check-rules-spec : {M : Type 1} → statement M
 check-rules-spec =
@@ -33,8 +42,12 @@ check-rules-spec =
     (λ c. search needs)
     (λ c. search needs)
     (λ c κs. search needs)
-    (λ c κs. search needs)
     (λ c. search needs)
     (λ c. search needs)
     loop-again
+    (λ c. search needs)
+    (λ c κs. search needs)
+    (λ c κs. search needs)
+    (λ c. search needs)
+    loop-again-2
     returns)

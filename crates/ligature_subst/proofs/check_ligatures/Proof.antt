@@ -1,7 +1,7 @@
 use borrow.Author.Needs.{needs}
 use Prim.Native.Nat.{_+_, _-_}
 use Rattle.meaning.specs.Fault.{ligatureFault}
-use Rattle.ligature_subst.proofs.Checks.{Lowest, lowest-all, lowest-null, lowest-part, lowest-end}
+use Rattle.wire.specs.Reached.{Lowest, lowest-all, lowest-null, lowest-part, lowest-end}
 use Rattle.ligature_subst.proofs.check_ligatures.Statement.{statement}
 use Rattle.ligature_subst.proofs.check_ligatures.Tie as tie
 

@@ -1,6 +1,6 @@
 use borrow.Author.Needs.{needs}
 use Rattle.meaning.specs.Fault.{ligatureFault}
-use Rattle.ligature_subst.proofs.Checks.{set-head, set-offsets, set-parts}
+use Rattle.wire.specs.Reached.{set-head, set-offsets, set-parts}
 use Rattle.ligature_subst.proofs.check_set.Statement.{statement}
 use Rattle.ligature_subst.proofs.check_set.Tie as tie
 

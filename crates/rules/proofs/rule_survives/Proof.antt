@@ -16,7 +16,7 @@ returns-2 c =
     let w = x .before .before in
     let p = w .before in
     let a = p .before .before .before .before .before .args in
-    goes-by-back (a .back .now) (a .input .now) (a .ahead .now) (p .rule-parts .ensures) (w .count-stays .ensures) (x .before .if1 .left) (x .sequence-survives .ensures) (c .if2 .taken)
+    goes-by-back (a .back .now) (a .input .now) (a .ahead .now) (p .rule-parts .ensures) (w .count-stays .ensures) (x .before .if1 .left) (x .mapped .ensures) (c .if2 .taken)
 
 returns-3 : tie.Need-returns-3
 returns-3 c =
@@ -25,7 +25,7 @@ returns-3 c =
     let w = x .before .before in
     let p = w .before in
     let a = p .before .before .before .before .before .args in
-    goes-by-input (a .back .now) (a .input .now) (a .ahead .now) (p .rule-parts .ensures) (w .count-stays .ensures) (x .before .if1 .left) (x .sequence-survives .ensures) (y .before .if2 .left) (y .sequence-survives2 .ensures) (c .if3 .taken)
+    goes-by-input (a .back .now) (a .input .now) (a .ahead .now) (p .rule-parts .ensures) (w .count-stays .ensures) (x .before .if1 .left) (x .mapped .ensures) (y .before .if2 .left) (y .mapped2 .ensures) (c .if3 .taken)
 
 returns-4 : tie.Need-returns-4
 returns-4 c =
@@ -34,7 +34,7 @@ returns-4 c =
     let w = x .before .before in
     let p = w .before in
     let a = p .before .before .before .before .before .args in
-    stays-by-ahead (a .back .now) (a .input .now) (a .ahead .now) (p .rule-parts .ensures) (w .count-stays .ensures) (x .before .if1 .left) (x .sequence-survives .ensures) (y .before .if2 .left) (y .sequence-survives2 .ensures) (c .before .if3 .left) (c .sequence-survives3 .ensures)
+    stays-by-ahead (a .back .now) (a .input .now) (a .ahead .now) (p .rule-parts .ensures) (w .count-stays .ensures) (x .before .if1 .left) (x .mapped .ensures) (y .before .if2 .left) (y .mapped2 .ensures) (c .before .if3 .left) (c .mapped3 .ensures)
 
 pub rule-survives-spec : {M : Type 1} → statement M
 rule-survives-spec =

@@ -8,7 +8,7 @@ returns : tie.Need-returns
 returns c =
     let q = c .before .before in
     let p = q .before .before .before .before in
-    wrote-on (wrote-one (p .before .before .before .before .before .args .count) wrote-none (p .put .ensures)) (q .serialize-sequence .ensures)
+    wrote-on (wrote-one (p .before .before .before .before .before .args .count) wrote-none (p .put .ensures)) (q .write-mapped .ensures)
 
 pub write-counted-spec : {M : Type 1} → statement M
 write-counted-spec =

@@ -13,7 +13,7 @@ serialize-lookup-records-requires c κs =
     let q = c .before .before .before in
     let r = q .before .before .before .before .before .before .before in
     let a = r .before .before .before .before .before in
-    (omega arith, omega (arith, q .serialize-sequence .ensures .place, row-length (a .args .src .now) (a .args .input .now) (r .plain-parts .result .input)), a .pre .3)
+    (omega arith, omega (arith, q .write-mapped .ensures .place, row-length (a .args .src .now) (a .args .input .now) (r .plain-parts .result .input)), a .pre .3)
 
 returns : tie.Need-returns
 returns c =
@@ -25,7 +25,7 @@ returns c =
     let a = r .before .before .before .before .before .args in
     wrote-short
     (wrote-said
-    (wrote-on (wrote-on (wrote-two (r .plain-parts .result .count) (k .records-left .result) wrote-none (p .put-entry .ensures)) (q .serialize-sequence .ensures)) (t .serialize-lookup-records .ensures))
+    (wrote-on (wrote-on (wrote-two (r .plain-parts .result .count) (k .records-left .result) wrote-none (p .put-entry .ensures)) (q .write-mapped .ensures)) (t .serialize-lookup-records .ensures))
     (plain-words [] (a .input .now) [] (a .lookups .now) (r .plain-parts .ensures) (k .records-left .ensures .0)))
     (rule-short [] (a .input .now) [] (a .lookups .now) false (r .plain-parts .ensures))
 

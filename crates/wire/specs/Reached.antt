@@ -1,4 +1,4 @@
--- The ways through the checks of a part that reaches others through offsets.
+-- The ways through the check of a part that reaches others through offsets, for each crate that has such a check.
 use Prim.Native.Nat.{ℕ, _+_, _*_, _≤_, _<_}
 use mathlib.Core.Path.{_≡_, refl, sym, ap, _∙_}
 use mathlib.Core.Bool.{Bool, true, false, not}
