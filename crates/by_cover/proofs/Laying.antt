@@ -1,21 +1,21 @@
 -- What the loop keeps that lays down a row: its offsets, and what is left of its coverages.
-use Prim.Native.Nat.{ℕ, _+_, _-_, _*_, _≤_, _<_}
+use Prim.Native.Nat.{ℕ, _+_, _*_, _≤_, _<_}
 use mathlib.Core.Path.{_≡_, refl, sym, ap, _∙_}
 use mathlib.Core.Option.{Option, none, some}
-use mathlib.Core.List.{List, [], _∷_, _++_, append-nil}
+use mathlib.Core.List.{List, [], _∷_, append-nil}
 use native.Mathlib.Nat.{zero-add}
 use native.Mathlib.Omega.{arith}
 use native.Mathlib.Decide.{ℕ-discrete}
 use lib.ListN.{length}
 use lib.Seq.{sets, length-sets}
-use Rattle.meaning.specs.Words.{word, words, bytes2, flat}
+use Rattle.meaning.specs.Words.{word, bytes2, flat}
 use Rattle.meaning.specs.Maps.{mapEntries}
 use Rattle.meaning.specs.Layout.{offsets, blocks}
 use Rattle.laws.specs.Written.{Wrote, flat-one}
-use Rattle.laws.specs.Laid.{laid, laid-end, laid-null, laid-block}
+use Rattle.laws.specs.Laid.{laid, laid-end, laid-null}
 use Rattle.laws.specs.Slots.{slotBlock, slot-null, slot-there, SlotLaying, slot-laying-all, slot-laying-null, slot-laying-set, slot-laying-end}
 use Rattle.rules.specs.declared.Row.{Row}
-use Rattle.by_cover.specs.Rows.{leftAt, rowBlocks, rowSize, SlotCuts, Covers, Lays, Apart}
+use Rattle.by_cover.specs.Rows.{leftAt, rowBlocks, SlotCuts, RowWrites, Lays}
 use Rattle.by_cover.proofs.Sizing.{cuts-at}
 
 -- one slot alone: null, or an offset and then its block
@@ -51,8 +51,8 @@ module _ {glyphs s : List ℕ} {row : Row} {slot place : ℕ} {out₀ : List ℕ
 
   module _ {out : List ℕ} {p i at : ℕ} (c : RowLaying glyphs s row slot place out₀ out p i) (h : i < row .len) (e : at ≡ word s (row .at + 2 * i)) where
     -- before a turn: the slot can be written
-    pub row-laying-asks : {room : ℕ} {work : List ℕ} → Covers s row glyphs room → Apart slot place (row .len) (rowSize (mapEntries glyphs) s row) → length work ≡ room → SlotCuts s at glyphs work (slot + 2 * i) p
-    row-laying-asks k a w = record { cuts = λ z. cuts-at k h e z w; before = omega (arith, a .before, a .ends); place = omega (arith, a .ends, c .slots .place) }
+    pub row-laying-asks : {room : ℕ} {work : List ℕ} → RowWrites s row glyphs room slot place → length work ≡ room → SlotCuts s at glyphs work (slot + 2 * i) p
+    row-laying-asks a w = record { cuts = λ z. cuts-at (a .covers) h e z w; before = omega (arith, a .before, a .ends); place = omega (arith, a .ends, c .slots .place) }
 
     pub row-laying-turn : {next : List ℕ} {r : ℕ} → Lays out (slot + 2 * i) p (slotBlock (leftAt (mapEntries glyphs) s) at ∷ []) r next → RowLaying glyphs s row slot place out₀ next r (i + 1)
     unfolding blocks

@@ -1,4 +1,7 @@
 pub mod Parts
 pub mod Sizing
 pub mod Laying
-pub mod Whole
+pub mod Remaining
+pub mod Lengths
+pub mod Writing
+pub mod Laid

@@ -1,6 +1,6 @@
 -- The parts of plain and of chained contexts, from what was read of them.
 use Prim.Native.Nat.{ℕ, _+_, _*_, _<_}
-use mathlib.Core.Path.{_≡_, refl, _∙_}
+use mathlib.Core.Path.{_≡_, refl}
 use mathlib.Core.Bool.{true, false, _&&_}
 use mathlib.Core.Option.{none}
 use mathlib.Core.List.{List}
@@ -9,7 +9,6 @@ use Rattle.meaning.specs.Words.{word, inside}
 use Rattle.meaning.specs.Tables.{reaches, coverContext}
 use Rattle.meaning.specs.Fault.{faultThrough, coverageFault, coversFault}
 use Rattle.laws.specs.SoundGood.{part-sound, lowest-none}
-use Rattle.rules.specs.declared.Row.{Row}
 use Rattle.by_cover.specs.Rows.{SoundRow}
 use Rattle.by_cover.specs.Context.{IsContext}
 

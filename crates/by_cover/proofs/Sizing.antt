@@ -6,14 +6,14 @@ use mathlib.Core.Option.{Option, none, some}
 use mathlib.Core.List.{List, [], _∷_, map}
 use native.Mathlib.Nat.{zero-add}
 use native.Mathlib.Omega.{arith}
-use lib.ListN.{length, length-map}
+use lib.ListN.{length}
 use lib.Dec.{leb, eqb}
 use borrow.Author.Tests.{leb-false, eq-eqb, ne-eqb}
 use Rattle.meaning.specs.Words.{word, words, bind, mapAll, isSome, threes}
 use Rattle.meaning.specs.Maps.{mapEntries}
 use Rattle.meaning.specs.Parts.{coverage, coverageSound}
 use Rattle.meaning.specs.Tables.{reach, reaches}
-use Rattle.meaning.specs.Fault.{faultThrough, coverageFault, partFault}
+use Rattle.meaning.specs.Fault.{faultThrough, coverageFault}
 use Rattle.meaning.specs.Cut.{unlessEmpty, newCoverage, coversLeft}
 use Rattle.meaning.specs.Layout.{block, blocks, runs, indexed, coverageWords}
 use Rattle.laws.specs.Stands.{threes-length}
@@ -24,10 +24,8 @@ use Rattle.laws.specs.SoundGood.{part-sound, lowest-none}
 use Rattle.laws.specs.Slots.{slotBlock, slotBlocks, slot-there, SlotSizing, slot-sizing-all, slot-sizing-set, slot-sizing-end}
 use Rattle.retained.specs.Cover.{Cuts, coverWords}
 use Rattle.rules.specs.declared.Row.{Row}
-use Rattle.by_cover.specs.Roomy.{Roomy}
-use Rattle.by_cover.specs.Rows.{coversAt, rowLeft, leftAt, rowBlocks, rowSize, SoundRow, Covers, cutOf, bytesOf, RowCut}
-use Rattle.by_cover.specs.declared.Cut.{Cut}
-use Rattle.by_cover.specs.declared.Cut.the-variants.{Empty, Bytes}
+use Rattle.by_cover.specs.Rows.{rowLeft, leftAt, Covers, RowRemains}
+use Rattle.by_cover.specs.declared.Remains.the-variants.{Empty, Bytes}
 
 -- a part that an offset of a row reaches has no fault if the row's parts have none
 through-none : (faultAt : ℕ → Option ℕ) (s : List ℕ) (slot n i : ℕ) → faultThrough faultAt s 0 slot n ≡ none → i < n → (word s (slot + 2 * i) ≡ 0 → ⊥) → faultAt (word s (slot + 2 * i)) ≡ none
@@ -168,18 +166,18 @@ module _ {g : List (ℕ × ℕ)} {s : List ℕ} {row : Row} where
       record { slots = slot-sizing-all (leftAt g s) s (row .at) (row .len); left = rw (e, f); near = omega arith }
 
   -- one that is null or left with none settles it
-  row-empty : rowLeft g s row ≡ false → RowCut g s row Empty
+  row-empty : rowLeft g s row ≡ false → RowRemains g s row Empty
   row-empty h = record { answer = rw h; small = omega arith }
 
   module _ {total i at : ℕ} (c : RowSizing g s row total i) (h : i < row .len) (e : at ≡ word s (row .at + 2 * i)) where
-    pub row-sizing-null : at ≡ 0 → RowCut g s row Empty
+    pub row-sizing-null : at ≡ 0 → RowRemains g s row Empty
     row-sizing-null z = row-empty (sym (c .left) ∙ left-null g s row i h e z)
 
     module _ (z : at ≡ 0 → ⊥) {w : ℕ} (f : w ≡ 2 * length (leftAt g s at)) where
-      pub row-sizing-gone : w ≡ 0 → RowCut g s row Empty
+      pub row-sizing-gone : w ≡ 0 → RowRemains g s row Empty
       row-sizing-gone v = row-empty (sym (c .left) ∙ left-there g s row i h e z ∙ rw (cover-gone (newCoverage g (coverage s at)) f v))
 
-  pub row-sizing-end : {total i : ℕ} → RowSizing g s row total i → row .len ≤ i → RowCut g s row (Bytes total)
+  pub row-sizing-end : {total i : ℕ} → RowSizing g s row total i → row .len ≤ i → RowRemains g s row (Bytes total)
   unfolding leftFrom coversLeft mapAll reaches isSome
   row-sizing-end {total} {i} c h =
       let l : row .len - i ≡ 0 = omega arith in

@@ -2,12 +2,13 @@
 use Prim.Native.Nat.{ℕ, _+_, _*_, _≤_, _<_}
 use mathlib.Core.Path.{_≡_}
 use mathlib.Core.Bool.{Bool, true, false, cond, _&&_}
-use mathlib.Core.Option.{Option}
+use mathlib.Core.Option.{Option, none}
 use mathlib.Core.List.{List, _∷_, _++_}
 use lib.ListN.{length}
 use Rattle.meaning.specs.Words.{entries}
 use Rattle.meaning.specs.Maps.{mapEntries}
 use Rattle.meaning.specs.Tables.{Table, coverContext}
+use Rattle.meaning.specs.Fault.{coversFault}
 use Rattle.meaning.specs.Cut.{cutRecords}
 use Rattle.meaning.specs.Layout.{offsets, blocks, coversLayout}
 use Rattle.laws.specs.Grown.{Grown}
@@ -15,15 +16,20 @@ use Rattle.rules.specs.Left.{Ascends}
 use Rattle.rules.specs.Parts.{Near}
 use Rattle.rules.specs.declared.Row.{Row}
 use Rattle.by_cover.specs.Roomy.{Roomy}
-use Rattle.by_cover.specs.Rows.{coversAt, rowLeft, rowBlocks, rowSize, SoundRow, Covers, cutOf, bytesOf}
+use Rattle.by_cover.specs.Rows.{coversAt, rowLeft, rowBlocks, rowSize, SoundRow, Covers, remainsOf, bytesOf}
 use Rattle.by_cover.specs.declared.CoverParts.{CoverParts}
-use Rattle.by_cover.specs.declared.Cut.{Cut}
+use Rattle.by_cover.specs.declared.Remains.{Remains}
 
 -- both maps can be asked, and scratch has room
 pub record Ready (s glyphs lookups : List ℕ) (room : ℕ) : Type 0 where
   pub old-glyphs : Ascends glyphs
   pub old-lookups : Ascends lookups
   pub roomy : Roomy s glyphs room
+
+-- what `by_cover` asks: the source has no fault, both maps can be asked, and scratch has room
+pub record Asks (chained : Bool) (s glyphs lookups : List ℕ) (room : ℕ) : Type 0 where
+  pub sound : coversFault chained s ≡ none
+  pub ready : Ready s glyphs lookups room
 
 -- the records of a row
 abbrev pub recordsAt : List ℕ → Row → List (ℕ × ℕ)
@@ -54,8 +60,8 @@ pub record ContextCovers (s : List ℕ) (r : CoverParts) (glyphs : List ℕ) (ro
   pub ahead : Covers s (r .ahead) glyphs room
 
 -- c says what is left of the coverages of a context
-pub record ContextCut (g : List (ℕ × ℕ)) (s : List ℕ) (r : CoverParts) (c : Cut) : Type 0 where
-  pub answer : c ≡ cutOf (allLeft g s r) (coversSize g s r)
+pub record ContextRemains (g : List (ℕ × ℕ)) (s : List ℕ) (r : CoverParts) (c : Remains) : Type 0 where
+  pub answer : c ≡ remainsOf (allLeft g s r) (coversSize g s r)
   pub small : bytesOf c ≤ 0x3_0000_0000_0000
 
 -- the records whose lookup stays
@@ -78,7 +84,7 @@ pub record ShortParts (r : CoverParts) (k : ℕ) : Type 0 where
   pub records : k < 65536
 
 -- what is asked where a context is laid: its parts are sound, the maps can be asked, scratch has room, and its coverages take `size` bytes
-pub record Lay (chained : Bool) (s : List ℕ) (r : CoverParts) (size : ℕ) (glyphs lookups : List ℕ) (room : ℕ) : Type 0 where
+pub record SizedContext (chained : Bool) (s : List ℕ) (r : CoverParts) (size : ℕ) (glyphs lookups : List ℕ) (room : ℕ) : Type 0 where
   pub parts : IsContext chained s r
   pub ready : Ready s glyphs lookups room
   pub covers : size ≡ coversSize (mapEntries glyphs) s r

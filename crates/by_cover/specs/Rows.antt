@@ -19,8 +19,8 @@ use Rattle.rules.specs.Left.{Ascends}
 use Rattle.rules.specs.Parts.{Near}
 use Rattle.rules.specs.declared.Row.{Row}
 use Rattle.by_cover.specs.Roomy.{Roomy}
-use Rattle.by_cover.specs.declared.Cut.{Cut}
-use Rattle.by_cover.specs.declared.Cut.the-variants.{Empty, Bytes}
+use Rattle.by_cover.specs.declared.Remains.{Remains}
+use Rattle.by_cover.specs.declared.Remains.the-variants.{Empty, Bytes}
 
 -- the coverages that a row of offsets reaches
 abbrev pub coversAt : List ℕ → Row → List (Option (List ℕ))
@@ -54,23 +54,23 @@ pub record Covers (s : List ℕ) (r : Row) (glyphs : List ℕ) (room : ℕ) : Ty
   pub roomy : Roomy s glyphs room
 
 -- the answer to whether all are left, and to how many bytes they take
-abbrev pub cutOf : Bool → ℕ → Cut
-cutOf true n = Bytes n
-cutOf false n = Empty
+abbrev pub remainsOf : Bool → ℕ → Remains
+remainsOf true n = Bytes n
+remainsOf false n = Empty
 
 -- the bytes of an answer, and 0 where there are none
-abbrev pub bytesOf : Cut → ℕ
+abbrev pub bytesOf : Remains → ℕ
 bytesOf (Bytes n) = n
 bytesOf Empty = 0
 
--- r says what is left of a row's coverages: each takes at most two words more than scratch has
-pub record RowCut (g : List (ℕ × ℕ)) (s : List ℕ) (row : Row) (r : Cut) : Type 0 where
-  pub answer : r ≡ cutOf (rowLeft g s row) (rowSize g s row)
+-- r says what is left of a row's coverages; each takes at most two words more than scratch has
+pub record RowRemains (g : List (ℕ × ℕ)) (s : List ℕ) (row : Row) (r : Remains) : Type 0 where
+  pub answer : r ≡ remainsOf (rowLeft g s row) (rowSize g s row)
   pub small : bytesOf r ≤ 0x1_0000_0004 * row .len
 
--- what the writing of one slot asks: if its offset is not null, the coverage at `at` can be cut, and the slot and the place of the coverage are numbers
-pub record SlotCuts (s : List ℕ) (at : ℕ) (glyphs work : List ℕ) (slot p : ℕ) : Type 0 where
-  pub cuts : (at ≡ 0 → ⊥) → Cuts s at glyphs work
+-- what the writing of one slot asks: if its offset is not null, the coverage at `cover` can be cut; and no place is over 4 GB
+pub record SlotCuts (s : List ℕ) (cover : ℕ) (glyphs work : List ℕ) (slot p : ℕ) : Type 0 where
+  pub cuts : (cover ≡ 0 → ⊥) → Cuts s cover glyphs work
   pub before : slot ≤ 0x1_0000_0000
   pub place : p ≤ 0x1_0000_0000
 
@@ -79,7 +79,8 @@ pub record Lays (out : List ℕ) (slot p : ℕ) (bs : List (Option (List ℕ))) 
   pub place : r ≡ p + 2 * length (blocks bs)
   pub bytes : after ≡ laid out slot 0 p bs
 
--- a row of n blocks has room: its offsets, from `slot` on, end before its blocks, from p on, and these end at a place that is a number
-pub record Apart (slot p n size : ℕ) : Type 0 where
-  pub before : slot + 2 * n ≤ p
-  pub ends : p + size ≤ 0x1_0000_0000
+-- what the writing of a row asks: its coverages can be cut, its offsets, from `slot` on, end before the blocks, which begin at `place`, and these end below 4 GB
+pub record RowWrites (s : List ℕ) (r : Row) (glyphs : List ℕ) (room slot place : ℕ) : Type 0 where
+  pub covers : Covers s r glyphs room
+  pub before : slot + 2 * r .len ≤ place
+  pub ends : place + rowSize (mapEntries glyphs) s r ≤ 0x1_0000_0000

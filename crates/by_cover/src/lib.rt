@@ -25,19 +25,19 @@ ghost use Rattle.meaning.specs.Cut.{cut};
 ghost use Rattle.meaning.specs.Subset.{laidInto, written};
 ghost use Rattle.laws.specs.Slots.{slotBlock};
 ghost use Rattle.room.specs.Laid.{outcomeOf};
-ghost use Rattle.by_cover.specs.Rows.{leftAt, rowBlocks, rowSize, Covers, RowCut, SlotCuts, Lays, Apart};
-ghost use Rattle.by_cover.specs.Context.{Ready, IsContext, ContextCovers, ContextCut, contextWords, Arrays, GrownArrays, Writes, ShortParts, headerSize, Lay};
+ghost use Rattle.by_cover.specs.Rows.{leftAt, rowBlocks, Covers, RowRemains, SlotCuts, Lays, RowWrites};
+ghost use Rattle.by_cover.specs.Context.{Asks, IsContext, ContextCovers, ContextRemains, contextWords, Arrays, GrownArrays, Writes, ShortParts, headerSize, SizedContext};
 
 // Where the parts of a context stand: the offsets of its coverages, and its records.
-pub struct CoverParts {
-    pub back: Row,
-    pub input: Row,
-    pub ahead: Row,
-    pub records: Row,
+struct CoverParts {
+    back: Row,
+    input: Row,
+    ahead: Row,
+    records: Row,
 }
 
 // What is left of coverages: nothing if one of them is null or left with no glyph, else how many bytes they take.
-pub enum Cut {
+enum Remains {
     Empty,
     Bytes(usize),
 }
@@ -99,63 +99,63 @@ fn cover_parts(chained: bool, src: &[u8]) -> CoverParts
 }
 
 // What is left of the coverages that a row of offsets reaches.
-fn row_size(src: &[u8], row: Row, glyphs: &[u8], work: &mut [u8]) -> Cut
+fn row_size(src: &[u8], row: Row, glyphs: &[u8], work: &mut [u8]) -> Remains
     requires { ⌜ Covers (now src) row (now glyphs) (length (now work)) ⌝ }
-    ensures { λ r. ⌜ RowCut (mapEntries (now (glyphs .entry))) (now (src .entry)) row r ⌝ }
+    ensures { λ r. ⌜ RowRemains (mapEntries (now (glyphs .entry))) (now (src .entry)) row r ⌝ }
 {
     let mut total = 0;
     let mut i = 0;
     while i < row.len {
         let at = word_at(src, row.at + 2 * i);
         if at == 0 {
-            return Cut::Empty;
+            return Remains::Empty;
         }
         let size = cover_size(src, at, glyphs, work);
         if size == 0 {
-            return Cut::Empty;
+            return Remains::Empty;
         }
         total += size;
         i += 1;
     }
-    Cut::Bytes(total)
+    Remains::Bytes(total)
 }
 
 // What is left of the coverages of a context.
-fn covers_size(src: &[u8], parts: CoverParts, glyphs: &[u8], work: &mut [u8]) -> Cut
+fn covers_size(src: &[u8], parts: CoverParts, glyphs: &[u8], work: &mut [u8]) -> Remains
     requires { ⌜ ContextCovers (now src) parts (now glyphs) (length (now work)) ⌝ }
-    ensures { λ r. ⌜ ContextCut (mapEntries (now (glyphs .entry))) (now (src .entry)) parts r ⌝ }
+    ensures { λ r. ⌜ ContextRemains (mapEntries (now (glyphs .entry))) (now (src .entry)) parts r ⌝ }
 {
-    let Cut::Bytes(back) = row_size(src, parts.back, glyphs, work) else {
-        return Cut::Empty;
+    let Remains::Bytes(back) = row_size(src, parts.back, glyphs, work) else {
+        return Remains::Empty;
     };
-    let Cut::Bytes(input) = row_size(src, parts.input, glyphs, work) else {
-        return Cut::Empty;
+    let Remains::Bytes(input) = row_size(src, parts.input, glyphs, work) else {
+        return Remains::Empty;
     };
-    let Cut::Bytes(ahead) = row_size(src, parts.ahead, glyphs, work) else {
-        return Cut::Empty;
+    let Remains::Bytes(ahead) = row_size(src, parts.ahead, glyphs, work) else {
+        return Remains::Empty;
     };
-    Cut::Bytes(back + input + ahead)
+    Remains::Bytes(back + input + ahead)
 }
 
-// An offset at `slot`, and at `p` what is left of the coverage at `at`, which it reaches; the place after that. Where `at` is 0 the offset is null, and nothing more is written.
+// An offset at `slot`, and at `p`, which it leads to, what is left of the coverage at `cover`; the place after that. Where `cover` is 0 the offset is null, and nothing more is written.
 fn write_slot(
     src: &[u8],
-    at: usize,
+    cover: usize,
     glyphs: &[u8],
     work: &mut [u8],
     out: &mut [u8],
     slot: usize,
     p: usize,
 ) -> usize
-    requires { ⌜ SlotCuts (now src) at (now glyphs) (now work) slot p ⌝ }
-    ensures { λ r. ⌜ Lays (now (out .entry)) slot p (slotBlock (leftAt (mapEntries (now (glyphs .entry))) (now (src .entry))) at ∷ []) r (now (out .exit)) ⌝ }
+    requires { ⌜ SlotCuts (now src) cover (now glyphs) (now work) slot p ⌝ }
+    ensures { λ r. ⌜ Lays (now (out .entry)) slot p (slotBlock (leftAt (mapEntries (now (glyphs .entry))) (now (src .entry))) cover ∷ []) r (now (out .exit)) ⌝ }
 {
-    if at == 0 {
+    if cover == 0 {
         put(out, slot, 0);
         return p;
     }
     put(out, slot, p);
-    write_cover(src, at, glyphs, work, out, p)
+    write_cover(src, cover, glyphs, work, out, p)
 }
 
 // The offsets of a row from `slot` on, and what is left of its coverages from `place` on; the place after them.
@@ -168,14 +168,14 @@ fn write_row(
     slot: usize,
     place: usize,
 ) -> usize
-    requires { ⌜ Covers (now src) row (now glyphs) (length (now work)) × Apart slot place (row .len) (rowSize (mapEntries (now glyphs)) (now src) row) ⌝ }
+    requires { ⌜ RowWrites (now src) row (now glyphs) (length (now work)) slot place ⌝ }
     ensures { λ r. ⌜ Lays (now (out .entry)) slot place (rowBlocks (mapEntries (now (glyphs .entry))) (now (src .entry)) row) r (now (out .exit)) ⌝ }
 {
     let mut p = place;
     let mut i = 0;
     while i < row.len {
-        let at = word_at(src, row.at + 2 * i);
-        p = write_slot(src, at, glyphs, work, out, slot + 2 * i, p);
+        let cover = word_at(src, row.at + 2 * i);
+        p = write_slot(src, cover, glyphs, work, out, slot + 2 * i, p);
         i += 1;
     }
     p
@@ -191,7 +191,7 @@ fn write_counted(
     at: usize,
     place: usize,
 ) -> usize
-    requires { ⌜ Covers (now src) row (now glyphs) (length (now work)) × Apart (at + 2) place (row .len) (rowSize (mapEntries (now glyphs)) (now src) row) ⌝ }
+    requires { ⌜ RowWrites (now src) row (now glyphs) (length (now work)) (at + 2) place ⌝ }
     ensures { λ r. ⌜ Lays (sets (now (out .entry)) at (bytes2 (row .len))) (at + 2) place (rowBlocks (mapEntries (now (glyphs .entry))) (now (src .entry)) row) r (now (out .exit)) ⌝ }
 {
     let slot = put(out, at, row.len);
@@ -310,7 +310,7 @@ fn lay(
     work: &mut [u8],
     out: &mut [u8],
 ) -> Laid
-    requires { ⌜ Lay chained (now src) parts size (now glyphs) (now lookups) (length (now work)) ⌝ }
+    requires { ⌜ SizedContext chained (now src) parts size (now glyphs) (now lookups) (length (now work)) ⌝ }
     ensures { λ r. ⌜ outcomeOf r (now (out .exit)) ≡ laidInto (now (out .entry)) (flat (contextWords chained (mapEntries (now (glyphs .entry))) (mapEntries (now (lookups .entry))) (now (src .entry)) parts)) ⌝ }
 {
     let k = records_left(src, parts.records.at, parts.records.len, lookups);
@@ -333,11 +333,11 @@ pub fn by_cover(
     work: &mut [u8],
     out: &mut [u8],
 ) -> Laid
-    requires { ⌜ (coversFault chained (now src) ≡ none) × Ready (now src) (now glyphs) (now lookups) (length (now work)) ⌝ }
+    requires { ⌜ Asks chained (now src) (now glyphs) (now lookups) (length (now work)) ⌝ }
     ensures { λ r. ⌜ outcomeOf r (now (out .exit)) ≡ written (now (out .entry)) (cut (mapEntries (now (glyphs .entry))) (mapEntries (now (lookups .entry))) (coverContext chained (now (src .entry)))) ⌝ }
 {
     let parts = cover_parts(chained, src);
-    let Cut::Bytes(size) = covers_size(src, parts, glyphs, work) else {
+    let Remains::Bytes(size) = covers_size(src, parts, glyphs, work) else {
         return Laid::Nothing;
     };
     lay(chained, src, parts, size, glyphs, lookups, work, out)
