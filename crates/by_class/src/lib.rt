@@ -1,5 +1,9 @@
 // Format 2 of contexts, plain and chained: sets of rules by class.
 // `back`, `input` and `ahead` are the class maps of the three class tables, and `covered` has the classes that retained covered glyphs hold.
+use classes::list_new;
+use classes::rank;
+use classes::size;
+use classes::write;
 use maps::Found;
 use maps::find;
 use sets::Kind;
@@ -7,13 +11,16 @@ use sets::set_survives;
 use wire::put;
 use wire::word_at;
 ghost use mathlib.Core.Path.{_≡_};
+ghost use mathlib.Core.List.{[], _∷_};
 ghost use Prim.Native.Nat.{_+_, _*_, _/_, _≤_, _<_};
 ghost use lib.ListN.{length};
 ghost use Rattle.meaning.specs.Words.{words, keys};
 ghost use Rattle.meaning.specs.Maps.{mapEntries};
 ghost use Rattle.laws.specs.SlotPlaces.{slotPlace};
-ghost use Rattle.sets.specs.Sets.{setStays};
+ghost use Rattle.sets.specs.Sets.{setStays, LaidDown};
 ghost use Rattle.gsubgpos.specs.Left.{Ascends, NumbersAscend};
+ghost use Rattle.classes.specs.Filled.{Filled};
+ghost use Rattle.by_class.specs.Tables.{mapAt, newTable, SoundAt, Remakes, TableSize};
 ghost use Rattle.by_class.specs.Places.{placesOf, Placed};
 
 // The place of the set of a class, by the `n` offsets from `slot` on, if a retained covered glyph holds the class and something of the set is left; else 0.
@@ -74,4 +81,50 @@ pub fn fill_slots(
         }
     }
     end
+}
+
+// The class map of the class table at `at`, at the front of `map`, and how many bytes it takes. Place 0 is a null table, whose class map is empty.
+fn rank_at(src: &[u8], at: usize, glyphs: &[u8], map: &mut [u8]) -> usize
+    requires { ⌜ SoundAt (now src) at ⌝ }
+    ensures { λ r. ⌜ Filled (mapAt (mapEntries (now (glyphs .entry))) (now (src .entry)) at) (now (map .entry)) r (now (map .exit)) ⌝ }
+{
+    if at == 0 {
+        return 0;
+    }
+    rank(src, at, glyphs, map)
+}
+
+// How many bytes the new class table for the one at `at` takes; a null one takes none.
+fn table_size(src: &[u8], at: usize, glyphs: &[u8], map: &[u8], work: &mut [u8]) -> usize
+    requires { ⌜ Remakes (now src) at (now glyphs) (now map) (now work) ⌝ }
+    ensures { λ r. ⌜ TableSize (newTable (mapEntries (now (glyphs .entry))) (now (src .entry)) at) r × (length (now (work .exit)) ≡ length (now (work .entry))) ⌝ }
+{
+    if at == 0 {
+        return 0;
+    }
+    let n = list_new(src, at, glyphs, map, work);
+    size(&work[..n])
+}
+
+// The offset of that new class table at `slot`, and the table at `p`, where there is room; the place after it.
+fn lay_table(
+    src: &[u8],
+    at: usize,
+    glyphs: &[u8],
+    map: &[u8],
+    work: &mut [u8],
+    out: &mut [u8],
+    slot: usize,
+    p: usize,
+) -> usize
+    requires { ⌜ Remakes (now src) at (now glyphs) (now map) (now work) × (slot + 2 ≤ p) × (p < 0x8000_0000_0000) ⌝ }
+    ensures { λ r. ⌜ LaidDown (newTable (mapEntries (now (glyphs .entry))) (now (src .entry)) at ∷ []) (now (out .entry)) slot p (now (out .exit)) r × (length (now (work .exit)) ≡ length (now (work .entry))) ⌝ }
+{
+    if at == 0 {
+        put(out, slot, 0);
+        return p;
+    }
+    put(out, slot, p);
+    let n = list_new(src, at, glyphs, map, work);
+    write(&work[..n], out, p)
 }
