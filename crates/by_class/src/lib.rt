@@ -6,6 +6,7 @@ use classes::size;
 use classes::write;
 use maps::Found;
 use maps::find;
+use retained::retain_entries;
 use sets::Kind;
 use sets::set_survives;
 use wire::put;
@@ -21,6 +22,10 @@ ghost use Rattle.sets.specs.Sets.{setStays, LaidDown};
 ghost use Rattle.gsubgpos.specs.Left.{Ascends, NumbersAscend};
 ghost use Rattle.classes.specs.Filled.{Filled};
 ghost use Rattle.by_class.specs.Tables.{mapAt, newTable, SoundAt, Remakes, TableSize};
+ghost use mathlib.Core.Bool.{true};
+ghost use Rattle.meaning.specs.Parts.{coverage, coverageSound, classes, classesSound};
+ghost use Rattle.meaning.specs.Cut.{classMap};
+ghost use Rattle.retained.specs.Retained.{retainedEntries, retainedWords};
 ghost use Rattle.by_class.specs.Places.{placesOf, Placed};
 
 // The place of the set of a class, by the `n` offsets from `slot` on, if a retained covered glyph holds the class and something of the set is left; else 0.
@@ -127,4 +132,20 @@ fn lay_table(
     put(out, slot, p);
     let n = list_new(src, at, glyphs, map, work);
     write(&work[..n], out, p)
+}
+
+// The classes that retained covered glyphs hold, each with its rank from 0, at the front of `covered`, and how many bytes they take.
+fn rank_covered(
+    src: &[u8],
+    cover: usize,
+    at: usize,
+    glyphs: &[u8],
+    work: &mut [u8],
+    covered: &mut [u8],
+) -> usize
+    requires { ⌜ (coverageSound (now src) cover ≡ true) × (classesSound (now src) at ≡ true) × Ascends (now glyphs) × (2 * length (retainedWords (mapEntries (now glyphs)) (coverage (now src) cover)) ≤ length (now work)) ⌝ }
+    ensures { λ r. ⌜ Filled (classMap (retainedEntries (mapEntries (now (glyphs .entry))) (coverage (now (src .entry)) cover)) (classes (now (src .entry)) at)) (now (covered .entry)) r (now (covered .exit)) × (length (now (work .exit)) ≡ length (now (work .entry))) ⌝ }
+{
+    let n = retain_entries(src, cover, glyphs, work);
+    rank(src, at, &work[..n], covered)
 }
