@@ -1,0 +1,50 @@
+-- Format 2 as its source says it, by places: a plain context has no backtrack and lookahead tables, which is as if they were null.
+use Prim.Native.Nat.{ℕ, _+_}
+use mathlib.Core.Path.{_≡_, refl, ap, _∙_}
+use mathlib.Core.Bool.{Bool, true, false}
+use mathlib.Core.List.{List, [], _∷_}
+use native.Mathlib.Nat.{zero-add}
+use Rattle.meaning.specs.Words.{word, keys}
+use Rattle.meaning.specs.Parts.{coverage}
+use Rattle.meaning.specs.Tables.{Table, reach, reaches, ruleSet, classContext}
+use Rattle.meaning.specs.Cut.{numbered, heldBy, classMap, retained}
+use Rattle.retained.specs.Retained.{retainedEntries, entries-keys}
+use Rattle.by_class.specs.Tables.{tableAt}
+
+-- where the class tables of backtrack, input and lookahead stand; 0 is none
+abbrev pub backAt : Bool → List ℕ → ℕ
+backAt false s = 0
+backAt true s = word s 4
+
+abbrev pub inputAt : Bool → List ℕ → ℕ
+inputAt false s = word s 4
+inputAt true s = word s 6
+
+abbrev pub aheadAt : Bool → List ℕ → ℕ
+aheadAt false s = 0
+aheadAt true s = word s 8
+
+-- where the count of the sets stands; their offsets follow
+abbrev pub countSlot : Bool → ℕ
+countSlot false = 6
+countSlot true = 10
+
+abbrev pub firstSlot : Bool → ℕ
+firstSlot false = 8
+firstSlot true = 12
+
+pub context-is : (chained : Bool) (s : List ℕ) → classContext chained s
+    ≡ Table.by-class chained (reach (coverage s) s 0 2) (tableAt s (backAt chained s)) (tableAt s (inputAt chained s)) (tableAt s (aheadAt chained s)) (reaches (ruleSet chained s) s 0 (firstSlot chained) (word s (countSlot chained)))
+unfolding classContext reach tableAt
+context-is false s = rw (zero-add (word s 4)) refl
+context-is true s = rw (zero-add (word s 4), zero-add (word s 6), zero-add (word s 8)) refl
+
+numbered-keys : (k : ℕ) (r : List ℕ) → keys (numbered k r) ≡ r
+unfolding keys numbered
+numbered-keys k [] = refl
+numbered-keys k (c ∷ r) = ap (λ (q : List ℕ). c ∷ q) (numbered-keys (k + 1) r)
+
+-- the classes that `rank_covered` ranks are those that retained covered glyphs hold
+pub covered-held : (g cs : List (ℕ × ℕ)) (cov : List ℕ) → keys (classMap (retainedEntries g cov) cs) ≡ heldBy cs (retained g cov)
+unfolding classMap
+covered-held g cs cov = numbered-keys 0 (heldBy cs (keys (retainedEntries g cov))) ∙ ap (heldBy cs) (entries-keys g cov)

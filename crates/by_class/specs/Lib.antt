@@ -1,0 +1,5 @@
+pub mod Places
+pub mod Tables
+pub mod Tail
+pub mod InOrder
+pub mod Context

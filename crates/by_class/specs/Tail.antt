@@ -1,0 +1,63 @@
+-- The coverage and the class tables of format 2: what stands after the sets.
+use Prim.Native.Nat.{ℕ, _+_, _*_, _/_, _≤_, _<_}
+use mathlib.Core.Path.{_≡_, refl, sym, ap, _∙_, subst}
+use mathlib.Core.Bool.{Bool, true, false}
+use mathlib.Core.Option.{Option, none, some}
+use mathlib.Core.List.{List, [], _∷_, _++_}
+use native.Mathlib.Nat.{zero-add}
+use native.Mathlib.Omega.{arith}
+use lib.ListN.{length, take, length-append}
+use lib.Seq.{sets}
+use Rattle.meaning.specs.Words.{word, bytes2, flat, twos}
+use Rattle.meaning.specs.Parts.{coverage}
+use Rattle.meaning.specs.Maps.{mapEntries}
+use Rattle.meaning.specs.Layout.{blocks}
+use Rattle.laws.specs.Stands.{flat-length, twos-length, stands-all, entries-back}
+use Rattle.laws.specs.Pieces.{Gathered}
+use Rattle.laws.specs.Laid.{laid, laid-end, laid-null, laid-block}
+use Rattle.retained.specs.Retained.{retainedEntries, retainedWords}
+use Rattle.retained.specs.Cover.{gathered-front}
+use Rattle.sets.specs.Sets.{LaidDown}
+use Rattle.by_class.specs.Tables.{newTable, Remakes}
+
+-- the retained covered glyphs, as their entries are read back from scratch
+pub gathered-entries : {es : List (ℕ × ℕ)} {before after : List ℕ} {r : ℕ} → Gathered (twos es) before r after → 2 * length (twos es) ≤ length before → mapEntries (take r after) ≡ es
+unfolding mapEntries
+gathered-entries {es} g h =
+    let front = gathered-front g h in
+    let count : length (flat (twos es)) / 4 ≡ length es = omega (arith, flat-length (twos es), twos-length es) in
+    rw (front, count) (entries-back es (stands-all (twos es) (g .small)))
+
+-- the blocks of the class tables, those of backtrack, input and lookahead, or of the input alone
+abbrev pub classTables : Bool → List (ℕ × ℕ) → List ℕ → List (Option (List ℕ))
+classTables false g s = newTable g s (word s 4) ∷ []
+classTables true g s = newTable g s (word s 4) ∷ newTable g s (word s 6) ∷ newTable g s (word s 8) ∷ []
+
+-- what making them asks
+abbrev pub Remaking : Bool → List ℕ → List ℕ → List ℕ → List ℕ → List ℕ → List ℕ → Type 0
+Remaking false s glyphs back input ahead work = Remakes s (word s 4) glyphs input work
+Remaking true s glyphs back input ahead work = Remakes s (word s 4) glyphs back work × Remakes s (word s 6) glyphs input work × Remakes s (word s 8) glyphs ahead work
+
+-- scratch may have other content
+pub remakes-on : {s : List ℕ} {at : ℕ} {glyphs map work next : List ℕ} → Remakes s at glyphs map work → length next ≡ length work → Remakes s at glyphs map next
+remakes-on r e = record { sound = r .sound; good = r .good; ranks = r .ranks; room = omega (arith, r .room, e) }
+
+-- blocks take what the first takes, and the others
+pub blocks-more : (o : Option (List ℕ)) (bs : List (Option (List ℕ))) → length (blocks (o ∷ bs)) ≡ length (blocks (o ∷ [])) + length (blocks bs)
+unfolding blocks
+blocks-more none bs = omega arith
+blocks-more (some b) bs = omega (arith, length-append b (blocks bs), length-append b [])
+
+-- a block is laid down, and then the others
+pub laid-down-more : {o : Option (List ℕ)} {bs : List (Option (List ℕ))} {out mid after : List ℕ} {slot p q r : ℕ} → LaidDown (o ∷ []) out slot p mid q → LaidDown bs mid (slot + 2) q after r
+    → slot + 2 + 2 * length bs ≤ p → LaidDown (o ∷ bs) out slot p after r
+unfolding blocks
+laid-down-more {o} {bs} {out} {mid} {after} {slot} {p} {q} {r} a b h = record { place = omega (arith, a .place, b .place, blocks-more o bs); bytes = b .bytes ∙ step o (a .place) (a .bytes) }
+  where
+    step : (o : Option (List ℕ)) → q ≡ p + 2 * length (blocks (o ∷ [])) → mid ≡ laid out slot 0 p (o ∷ []) → laid mid (slot + 2) 0 q bs ≡ laid out slot 0 p (o ∷ bs)
+    step none e f =
+        let k : q ≡ p = omega arith in
+        rw (k, f ∙ sym (laid-null out slot 0 p []) ∙ laid-end (sets out slot (bytes2 0)) (slot + 2) 0 p) (laid-null out slot 0 p bs)
+    step (some b) e f =
+        let k : q ≡ p + 2 * length b = omega (arith, length-append b []) in
+        rw (k, f ∙ sym (laid-block out slot 0 p b [] (omega arith)) ∙ laid-end (sets (sets out slot (bytes2 p)) (0 + p) (flat b)) (slot + 2) 0 (p + 2 * length b)) (laid-block out slot 0 p b bs (omega arith))

@@ -1,0 +1,151 @@
+// Format 2 of contexts, plain and chained: sets of rules by class.
+// `back`, `input` and `ahead` are the class maps of the three class tables, and `covered` has the classes that retained covered glyphs hold.
+use classes::list_new;
+use classes::rank;
+use classes::size;
+use classes::write;
+use maps::Found;
+use maps::find;
+use retained::retain_entries;
+use sets::Kind;
+use sets::set_survives;
+use wire::put;
+use wire::word_at;
+ghost use mathlib.Core.Path.{_≡_};
+ghost use mathlib.Core.List.{[], _∷_};
+ghost use Prim.Native.Nat.{_+_, _*_, _/_, _≤_, _<_};
+ghost use lib.ListN.{length};
+ghost use Rattle.meaning.specs.Words.{words, keys};
+ghost use Rattle.meaning.specs.Maps.{mapEntries};
+ghost use Rattle.laws.specs.SlotPlaces.{slotPlace};
+ghost use Rattle.sets.specs.Sets.{setStays, LaidDown};
+ghost use Rattle.gsubgpos.specs.Left.{Ascends, NumbersAscend};
+ghost use Rattle.classes.specs.Filled.{Filled};
+ghost use Rattle.by_class.specs.Tables.{mapAt, newTable, SoundAt, Remakes, TableSize};
+ghost use mathlib.Core.Bool.{true};
+ghost use Rattle.meaning.specs.Parts.{coverage, coverageSound, classes, classesSound};
+ghost use Rattle.meaning.specs.Cut.{classMap};
+ghost use Rattle.retained.specs.Retained.{retainedEntries, retainedWords};
+ghost use Rattle.by_class.specs.Places.{placesOf, Placed};
+
+// The place of the set of a class, by the `n` offsets from `slot` on, if a retained covered glyph holds the class and something of the set is left; else 0.
+fn slot_place(
+    kind: Kind,
+    src: &[u8],
+    slot: usize,
+    n: usize,
+    covered: &[u8],
+    class: usize,
+    back: &[u8],
+    input: &[u8],
+    ahead: &[u8],
+) -> usize
+    requires { ⌜ (slot < 65536) × (n < 65536) × Ascends (now covered) × NumbersAscend (now back) (now input) (now ahead) ⌝ }
+    ensures { λ r. ⌜ (r ≡ slotPlace (setStays kind (now (back .entry)) (now (input .entry)) (now (ahead .entry)) (now (src .entry))) (keys (mapEntries (now (covered .entry)))) (words (now (src .entry)) slot n) class) × (r < 65536) ⌝ }
+{
+    let Found::New(_) = find(covered, class) else {
+        return 0;
+    };
+    if n <= class {
+        return 0;
+    }
+    let at = word_at(src, slot + 2 * class);
+    if at == 0 {
+        return 0;
+    }
+    if set_survives(kind, src, at, back, input, ahead) {
+        return at;
+    }
+    0
+}
+
+// The places of the sets of all surviving classes, in the order of `input`, as words at the front of `slots`. The answer is one past the last that is not 0.
+pub fn fill_slots(
+    kind: Kind,
+    src: &[u8],
+    slot: usize,
+    n: usize,
+    covered: &[u8],
+    back: &[u8],
+    input: &[u8],
+    ahead: &[u8],
+    slots: &mut [u8],
+) -> usize
+    requires { ⌜ (slot < 65536) × (n < 65536) × Ascends (now covered) × NumbersAscend (now back) (now input) (now ahead) × (length (now input) < 0x1_0000_0000) ⌝ }
+    ensures { λ r. ⌜ Placed (placesOf kind (now (back .entry)) (now (input .entry)) (now (ahead .entry)) (now (covered .entry)) (now (src .entry)) slot n) (now (slots .entry)) r (now (slots .exit)) ⌝ }
+{
+    let mut end = 0;
+    let mut i = 0;
+    while i < input.len() / 4 {
+        let class = word_at(input, 4 * i);
+        let at = slot_place(kind, src, slot, n, covered, class, back, input, ahead);
+        put(slots, 2 * i, at);
+        i += 1;
+        if at != 0 {
+            end = i;
+        }
+    }
+    end
+}
+
+// The class map of the class table at `at`, at the front of `map`, and how many bytes it takes. Place 0 is a null table, whose class map is empty.
+fn rank_at(src: &[u8], at: usize, glyphs: &[u8], map: &mut [u8]) -> usize
+    requires { ⌜ SoundAt (now src) at ⌝ }
+    ensures { λ r. ⌜ Filled (mapAt (mapEntries (now (glyphs .entry))) (now (src .entry)) at) (now (map .entry)) r (now (map .exit)) ⌝ }
+{
+    if at == 0 {
+        return 0;
+    }
+    rank(src, at, glyphs, map)
+}
+
+// How many bytes the new class table for the one at `at` takes; a null one takes none.
+fn table_size(src: &[u8], at: usize, glyphs: &[u8], map: &[u8], work: &mut [u8]) -> usize
+    requires { ⌜ Remakes (now src) at (now glyphs) (now map) (now work) ⌝ }
+    ensures { λ r. ⌜ TableSize (newTable (mapEntries (now (glyphs .entry))) (now (src .entry)) at) r × (length (now (work .exit)) ≡ length (now (work .entry))) ⌝ }
+{
+    if at == 0 {
+        return 0;
+    }
+    let n = list_new(src, at, glyphs, map, work);
+    size(&work[..n])
+}
+
+// The offset of that new class table at `slot`, and the table at `p`, where there is room; the place after it.
+fn lay_table(
+    src: &[u8],
+    at: usize,
+    glyphs: &[u8],
+    map: &[u8],
+    work: &mut [u8],
+    out: &mut [u8],
+    slot: usize,
+    p: usize,
+) -> usize
+    requires { ⌜ Remakes (now src) at (now glyphs) (now map) (now work) × (slot + 2 ≤ p) × (p < 0x8000_0000_0000) ⌝ }
+    ensures { λ r. ⌜ LaidDown (newTable (mapEntries (now (glyphs .entry))) (now (src .entry)) at ∷ []) (now (out .entry)) slot p (now (out .exit)) r × (length (now (work .exit)) ≡ length (now (work .entry))) ⌝ }
+{
+    if at == 0 {
+        put(out, slot, 0);
+        return p;
+    }
+    put(out, slot, p);
+    let n = list_new(src, at, glyphs, map, work);
+    write(&work[..n], out, p)
+}
+
+// The classes that retained covered glyphs hold, each with its rank from 0, at the front of `covered`, and how many bytes they take.
+fn rank_covered(
+    src: &[u8],
+    cover: usize,
+    at: usize,
+    glyphs: &[u8],
+    work: &mut [u8],
+    covered: &mut [u8],
+) -> usize
+    requires { ⌜ (coverageSound (now src) cover ≡ true) × (classesSound (now src) at ≡ true) × Ascends (now glyphs) × (2 * length (retainedWords (mapEntries (now glyphs)) (coverage (now src) cover)) ≤ length (now work)) ⌝ }
+    ensures { λ r. ⌜ Filled (classMap (retainedEntries (mapEntries (now (glyphs .entry))) (coverage (now (src .entry)) cover)) (classes (now (src .entry)) at)) (now (covered .entry)) r (now (covered .exit)) × (length (now (work .exit)) ≡ length (now (work .entry))) ⌝ }
+{
+    let n = retain_entries(src, cover, glyphs, work);
+    rank(src, at, &work[..n], covered)
+}
