@@ -9,10 +9,9 @@ use lib.ListN.{length}
 use lib.Seq.{sets}
 use types.Run.{OneOf}
 use denote.Enum.Declared.{tagOf}
-use Rattle.meaning.specs.Words.{words, flat}
+use Rattle.meaning.specs.Words.{flat}
 use Rattle.meaning.specs.Maps.{mapEntries}
-use Rattle.meaning.specs.Layout.{layout}
-use Rattle.meaning.specs.Subset.{limit, laidInto, written}
+use Rattle.meaning.specs.Subset.{limit, laidInto}
 use Rattle.room.specs.Laid.{laidFor, outcomeOf, isKept, refused-room, kept-room, kept-small}
 use Rattle.room.specs.declared.Laid.{Laid}
 use Rattle.room.specs.declared.Laid.the-variants.{Nothing, TooBig, NoRoom, Kept}
@@ -21,7 +20,7 @@ use Rattle.by_cover.specs.Context.{recordsLeft, contextWords, headerSize
 use Rattle.by_cover.specs.declared.CoverParts.{CoverParts}
 use Rattle.by_cover.proofs.Lengths.{context-length}
 
--- the header's own words take ten bytes at most
+-- the words of the header that stand in every context take ten bytes at most
 pub header-most : (chained : Bool) → cond chained 10 6 ≤ 10
 header-most true = omega arith
 header-most false = omega arith

@@ -27,6 +27,7 @@ module _ (out : List ℕ) (slot p : ℕ) where
   unfolding laid offsets blocks
   alone-block b = rw (append-nil, zero-add, flat-one)
 
+-- what was written of one slot
 module _ (W : ℕ → List ℕ) {out : List ℕ} {slot p at : ℕ} where
   pub lays-null : {next : List ℕ} → at ≡ 0 → next ≡ sets out slot (bytes2 0) → Lays out slot p (slotBlock W at ∷ []) p next
   unfolding blocks
@@ -46,6 +47,7 @@ pub record RowLaying (glyphs s : List ℕ) (row : Row) (slot place : ℕ) (out�
   pub slots : SlotLaying (leftAt (mapEntries glyphs) s) s (row .at) (row .len) slot place out₀ out p i
 
 module _ {glyphs s : List ℕ} {row : Row} {slot place : ℕ} {out₀ : List ℕ} where
+  -- before the first turn
   pub row-laying-all : slot + 2 * row .len ≤ place → RowLaying glyphs s row slot place out₀ out₀ place 0
   row-laying-all h = record { slots = slot-laying-all (leftAt (mapEntries glyphs) s) s (row .at) (row .len) h }
 
@@ -54,6 +56,7 @@ module _ {glyphs s : List ℕ} {row : Row} {slot place : ℕ} {out₀ : List ℕ
     pub row-laying-asks : {room : ℕ} {work : List ℕ} → RowWrites s row glyphs room slot place → length work ≡ room → SlotCuts s at glyphs work (slot + 2 * i) p
     row-laying-asks a w = record { cuts = λ z. cuts-at (a .covers) h e z w; before = omega (arith, a .before, a .ends); place = omega (arith, a .ends, c .slots .place) }
 
+    -- the turn: one slot more is written
     pub row-laying-turn : {next : List ℕ} {r : ℕ} → Lays out (slot + 2 * i) p (slotBlock (leftAt (mapEntries glyphs) s) at ∷ []) r next → RowLaying glyphs s row slot place out₀ next r (i + 1)
     unfolding blocks
     row-laying-turn {next} {r} l = record { slots = step (ℕ-discrete at 0) }
@@ -70,6 +73,7 @@ module _ {glyphs s : List ℕ} {row : Row} {slot place : ℕ} {out₀ : List ℕ
             let k = rw (slot-there W at z) at l in
             slot-laying-set W s (row .at) (row .len) (c .slots) h e z refl (rw append-nil at (k .place)) (k .bytes ∙ alone-block out (slot + 2 * i) p (W at))
 
+  -- after the last turn
   pub row-laying-end : {out : List ℕ} {p i : ℕ} → RowLaying glyphs s row slot place out₀ out p i → row .len ≤ i → Lays out₀ slot place (rowBlocks (mapEntries glyphs) s row) p out
   row-laying-end c h =
       let k = slot-laying-end (leftAt (mapEntries glyphs) s) s (row .at) (row .len) (c .slots) h in

@@ -7,8 +7,7 @@ use mathlib.Core.List.{List, [], _∷_, _++_, append-assoc}
 use native.Mathlib.Omega.{arith}
 use lib.ListN.{length, length-append, length-map}
 use Rattle.meaning.specs.Words.{words, flat, twos}
-use Rattle.meaning.specs.Layout.{offsets, block, blocks, coversLayout}
-use Rattle.meaning.specs.Subset.{written}
+use Rattle.meaning.specs.Layout.{offsets, blocks, coversLayout}
 use Rattle.laws.specs.Stands.{flat-length, twos-length}
 use Rattle.laws.specs.Through.{offsets-length}
 use Rattle.laws.specs.Left.{words-length}

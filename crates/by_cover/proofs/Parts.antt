@@ -1,7 +1,7 @@
 -- The parts of plain and of chained contexts, from what was read of them.
 use Prim.Native.Nat.{ℕ, _+_, _*_, _<_}
 use mathlib.Core.Path.{_≡_, refl}
-use mathlib.Core.Bool.{true, false, _&&_}
+use mathlib.Core.Bool.{true, false, _&&_, true≢false}
 use mathlib.Core.Option.{none}
 use mathlib.Core.List.{List}
 use native.Mathlib.Omega.{arith}
@@ -18,6 +18,7 @@ module _ (s : List ℕ) where
   unfolding faultThrough
   no-row = record { near = record { close = omega arith; short = omega arith }; sound = refl }
 
+  -- a plain context: counts, offsets, records
   pub plain-is : {n k : ℕ} → coversFault false s ≡ none → (n ≡ word s 2) × (n < 65536) → (k ≡ word s 4) × (k < 65536)
       → IsContext false s (record { back = record { at = 0; len = 0 }; input = record { at = 6; len = n }; ahead = record { at = 0; len = 0 }; records = record { at = 6 + 2 * n; len = k } })
   unfolding coverContext reaches coversFault
@@ -32,6 +33,7 @@ module _ (s : List ℕ) where
         plain = λ q. (refl, refl);
       }
 
+  -- a chained context: three arrays and the records, each with its count before it
   pub chained-is : {b n a k : ℕ} → coversFault true s ≡ none → (b ≡ word s 2) × (b < 65536) → (n ≡ word s (4 + 2 * b)) × (n < 65536)
       → (a ≡ word s (4 + 2 * b + 2 + 2 * n)) × (a < 65536) → (k ≡ word s (4 + 2 * b + 2 + 2 * n + 2 + 2 * a)) × (k < 65536)
       → IsContext true s
@@ -55,5 +57,5 @@ module _ (s : List ℕ) where
         input = record { near = record { close = omega arith; short = omega arith }; sound = t .0 };
         ahead = record { near = record { close = omega arith; short = omega arith }; sound = t .1 };
         records = record { close = omega arith; short = omega arith };
-        plain = λ x. absurd (mathlib.Core.Bool.true≢false x);
+        plain = λ x. absurd (true≢false x);
       }

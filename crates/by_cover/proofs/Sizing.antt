@@ -8,14 +8,14 @@ use native.Mathlib.Nat.{zero-add}
 use native.Mathlib.Omega.{arith}
 use lib.ListN.{length}
 use lib.Dec.{leb, eqb}
-use borrow.Author.Tests.{leb-false, eq-eqb, ne-eqb}
+use borrow.Author.Tests.{leb-false, eqb-false, eq-eqb, ne-eqb}
 use Rattle.meaning.specs.Words.{word, words, bind, mapAll, isSome, threes}
 use Rattle.meaning.specs.Maps.{mapEntries}
 use Rattle.meaning.specs.Parts.{coverage, coverageSound}
 use Rattle.meaning.specs.Tables.{reach, reaches}
 use Rattle.meaning.specs.Fault.{faultThrough, coverageFault}
 use Rattle.meaning.specs.Cut.{unlessEmpty, newCoverage, coversLeft}
-use Rattle.meaning.specs.Layout.{block, blocks, runs, indexed, coverageWords}
+use Rattle.meaning.specs.Layout.{block, runs, indexed, coverageWords}
 use Rattle.laws.specs.Stands.{threes-length}
 use Rattle.laws.specs.Through.{Opt}
 use Rattle.laws.specs.Runs.{indexed-length}
@@ -47,35 +47,24 @@ module _ {s : List ℕ} {row : Row} {glyphs : List ℕ} {room : ℕ} (k : Covers
   pub cuts-at : {work : List ℕ} → length work ≡ room → Cuts s at glyphs work
   cuts-at w = record { sound = sound-at; ascend = k .ascend; room = omega (arith, w, k .roomy .enough at sound-at); short = omega (arith, k .roomy .short) }
 
--- A coverage's words: some, and at most two more than its glyphs.
-
-coverage-some : (gs : List ℕ) → 0 < length (coverageWords gs)
+-- a coverage has words, and at most two more than its glyphs
+coverage-size : (gs : List ℕ) → (0 < length (coverageWords gs)) × (length (coverageWords gs) ≤ 2 + length gs)
 unfolding coverageWords
-coverage-some gs = step (leb (4 + 2 * length gs) (4 + 6 * length (runs (map (λ g. (g, 0)) gs))))
+coverage-size gs = step (leb (4 + 2 * length gs) (4 + 6 * length rs)) refl
   where
     rs : List (ℕ × ℕ × ℕ)
     rs = runs (map (λ g. (g, 0)) gs)
 
-    step : (b : Bool) → 0 < length (cond b (1 ∷ length gs ∷ gs) (2 ∷ length rs ∷ threes (indexed 0 rs)))
-    step true = omega arith
-    step false = omega arith
-
-coverage-most : (gs : List ℕ) → length (coverageWords gs) ≤ 2 + length gs
-unfolding coverageWords
-coverage-most gs = step (leb (4 + 2 * length gs) (4 + 6 * length rs)) refl
-  where
-    rs : List (ℕ × ℕ × ℕ)
-    rs = runs (map (λ g. (g, 0)) gs)
-
-    step : (b : Bool) → leb (4 + 2 * length gs) (4 + 6 * length rs) ≡ b → length (cond b (1 ∷ length gs ∷ gs) (2 ∷ length rs ∷ threes (indexed 0 rs))) ≤ 2 + length gs
-    step true q = omega arith
-    step false q = omega (arith, leb-false (4 + 2 * length gs) (4 + 6 * length rs) q, threes-length (indexed 0 rs), indexed-length 0 rs)
+    step : (b : Bool) → leb (4 + 2 * length gs) (4 + 6 * length rs) ≡ b
+        → (0 < length (cond b (1 ∷ length gs ∷ gs) (2 ∷ length rs ∷ threes (indexed 0 rs)))) × (length (cond b (1 ∷ length gs ∷ gs) (2 ∷ length rs ∷ threes (indexed 0 rs))) ≤ 2 + length gs)
+    step true q = (omega arith, omega arith)
+    step false q = (omega arith, omega (arith, leb-false (4 + 2 * length gs) (4 + 6 * length rs) q, threes-length (indexed 0 rs), indexed-length 0 rs))
 
 -- glyphs that are left, by the size of their coverage: none, or some
 cover-gone : (ns : List ℕ) {w : ℕ} → w ≡ 2 * length (coverWords ns) → w ≡ 0 → isSome (unlessEmpty ns) ≡ false
 unfolding coverWords unlessEmpty isSome
 cover-gone [] e z = refl
-cover-gone (n ∷ ns) e z = absurd (omega (arith, coverage-some (n ∷ ns)))
+cover-gone (n ∷ ns) e z = absurd (omega (arith, coverage-size (n ∷ ns) .0))
 
 cover-kept : (ns : List ℕ) {w : ℕ} → w ≡ 2 * length (coverWords ns) → (w ≡ 0 → ⊥) → isSome (unlessEmpty ns) ≡ true
 unfolding coverWords unlessEmpty isSome
@@ -85,13 +74,14 @@ cover-kept (n ∷ ns) e z = refl
 cover-most : (ns : List ℕ) → length (coverWords ns) ≤ 2 + length ns
 unfolding coverWords
 cover-most [] = omega arith
-cover-most (n ∷ ns) = coverage-most (n ∷ ns)
+cover-most (n ∷ ns) = coverage-size (n ∷ ns) .1
 
 module _ (g : List (ℕ × ℕ)) (s : List ℕ) where
   -- what is left of one coverage of a row
   abbrev one : Option (List ℕ) → Option (Option (List ℕ))
   one c = bind c (λ cov. bind (unlessEmpty (newCoverage g cov)) (λ k. some (some k)))
 
+  -- it is left if it has a glyph
   one-some : (cov : List ℕ) → isSome (one (some cov)) ≡ isSome (unlessEmpty (newCoverage g cov))
   unfolding bind isSome
   one-some cov = step (unlessEmpty (newCoverage g cov))
@@ -100,7 +90,7 @@ module _ (g : List (ℕ × ℕ)) (s : List ℕ) where
       step none = refl
       step (some ns) = refl
 
-  -- the blocks of what is left are those of the row's offsets
+  -- where a coverage is left, its block is that of its offset
   cover-is : (slot : ℕ) → Opt (λ c. block coverageWords c ≡ slotBlock (leftAt g s) (word s slot)) (one (reach (coverage s) s 0 slot))
   unfolding reach bind block unlessEmpty coverWords
   cover-is slot = step (eqb (word s slot) 0) refl
@@ -114,8 +104,9 @@ module _ (g : List (ℕ × ℕ)) (s : List ℕ) where
 
       step : (t : Bool) → eqb (word s slot) 0 ≡ t → Opt (λ c. block coverageWords c ≡ B) (one (cond t none (some (coverage s (0 + word s slot)))))
       step true q = tt
-      step false q = rw zero-add (cover (newCoverage g (coverage s (word s slot))) (sym (slot-there (leftAt g s) (word s slot) (borrow.Author.Tests.eqb-false (word s slot) 0 q))))
+      step false q = rw zero-add (cover (newCoverage g (coverage s (word s slot))) (sym (slot-there (leftAt g s) (word s slot) (eqb-false (word s slot) 0 q))))
 
+  -- where the coverages are left, their blocks are those of the row
   pub covers-are : (slot n : ℕ) → Opt (λ cs. map (block coverageWords) cs ≡ slotBlocks (leftAt g s) (words s slot n)) (coversLeft g (reaches (coverage s) s 0 slot n))
   unfolding coversLeft mapAll reaches words
   covers-are slot zero = refl
@@ -132,6 +123,7 @@ module _ (g : List (ℕ × ℕ)) (s : List ℕ) where
     pub leftFrom : ℕ → Bool
     leftFrom i = isSome (coversLeft g (reaches (coverage s) s 0 (row .at + 2 * i) (row .len - i)))
 
+    -- the i-th coverage, and those after it
     left-is : (i : ℕ) {at : ℕ} → i < row .len → at ≡ word s (row .at + 2 * i) → leftFrom i ≡ isSome (one (cond (eqb at 0) none (some (coverage s at)))) && leftFrom (i + 1)
     unfolding leftFrom coversLeft mapAll reaches reach bind isSome
     left-is i h e =
@@ -144,6 +136,7 @@ module _ (g : List (ℕ × ℕ)) (s : List ℕ) where
         front (some c) none = refl
         front (some c) (some cs) = refl
 
+    -- by its offset: a null one empties the row
     left-null : (i : ℕ) {at : ℕ} → i < row .len → at ≡ word s (row .at + 2 * i) → at ≡ 0 → leftFrom i ≡ false
     unfolding bind isSome
     left-null i {at} h e z = left-is i h e ∙ rw (eq-eqb at 0 z)
@@ -158,6 +151,7 @@ pub record RowSizing (g : List (ℕ × ℕ)) (s : List ℕ) (row : Row) (total i
   pub near : total ≤ 0x1_0000_0004 * i
 
 module _ {g : List (ℕ × ℕ)} {s : List ℕ} {row : Row} where
+  -- before the first turn
   pub row-sizing-all : RowSizing g s row 0 0
   unfolding leftFrom rowLeft
   row-sizing-all =
@@ -170,13 +164,16 @@ module _ {g : List (ℕ × ℕ)} {s : List ℕ} {row : Row} where
   row-empty h = record { answer = rw h; small = omega arith }
 
   module _ {total i at : ℕ} (c : RowSizing g s row total i) (h : i < row .len) (e : at ≡ word s (row .at + 2 * i)) where
+    -- the i-th offset is null
     pub row-sizing-null : at ≡ 0 → RowRemains g s row Empty
     row-sizing-null z = row-empty (sym (c .left) ∙ left-null g s row i h e z)
 
     module _ (z : at ≡ 0 → ⊥) {w : ℕ} (f : w ≡ 2 * length (leftAt g s at)) where
+      -- the i-th coverage is left with none
       pub row-sizing-gone : w ≡ 0 → RowRemains g s row Empty
       row-sizing-gone v = row-empty (sym (c .left) ∙ left-there g s row i h e z ∙ rw (cover-gone (newCoverage g (coverage s at)) f v))
 
+  -- after the last turn
   pub row-sizing-end : {total i : ℕ} → RowSizing g s row total i → row .len ≤ i → RowRemains g s row (Bytes total)
   unfolding leftFrom coversLeft mapAll reaches isSome
   row-sizing-end {total} {i} c h =
@@ -187,7 +184,7 @@ module _ {g : List (ℕ × ℕ)} {s : List ℕ} {row : Row} where
         small = omega (arith, c .near);
       }
 
--- the i-th coverage is left
+-- the i-th coverage is left: the turn goes on
 pub row-sizing-kept : {s : List ℕ} {row : Row} {glyphs : List ℕ} {room total i at w : ℕ} → Covers s row glyphs room → RowSizing (mapEntries glyphs) s row total i → i < row .len
     → at ≡ word s (row .at + 2 * i) → (at ≡ 0 → ⊥) → w ≡ 2 * length (leftAt (mapEntries glyphs) s at) → (w ≡ 0 → ⊥) → RowSizing (mapEntries glyphs) s row (total + w) (i + 1)
 row-sizing-kept {s} {row} {glyphs} {i = i} {at} k c h e z f v =

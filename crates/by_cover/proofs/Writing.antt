@@ -2,20 +2,19 @@
 use Prim.Native.Nat.{ℕ, _+_, _*_, _≤_}
 use mathlib.Core.Path.{_≡_, refl, sym, ap, _∙_}
 use mathlib.Core.Bool.{true, false}
-use mathlib.Core.Option.{Option, none}
+use mathlib.Core.Option.{Option}
 use mathlib.Core.List.{List, [], _∷_, _++_, append-assoc}
 use native.Mathlib.Omega.{arith}
 use lib.ListN.{length, length-append}
 use lib.Seq.{sets}
-use Rattle.meaning.specs.Words.{words, bytes2, flat, twos}
+use Rattle.meaning.specs.Words.{bytes2, flat, twos}
 use Rattle.meaning.specs.Maps.{mapEntries}
 use Rattle.meaning.specs.Layout.{offsets, blocks}
-use Rattle.meaning.specs.Subset.{written}
 use Rattle.laws.specs.Stands.{twos-length}
 use Rattle.laws.specs.Through.{offsets-length}
 use Rattle.laws.specs.Written.{Wrote}
 use Rattle.laws.specs.Grown.{Grown, grown-none, grown-word, grown-words, grown-laid, grown-end}
-use Rattle.by_cover.specs.Rows.{rowBlocks, RowWrites, Lays}
+use Rattle.by_cover.specs.Rows.{rowBlocks, rowSize, RowWrites, Lays}
 use Rattle.by_cover.specs.Context.{recordsLeft, contextWords, Writes, Arrays, arrayWords, GrownArrays}
 use Rattle.by_cover.specs.declared.CoverParts.{CoverParts}
 use Rattle.by_cover.proofs.Lengths.{row-length, array-length, plain-said, chained-said}
@@ -71,13 +70,12 @@ array-said : (xs ys zs : List ℕ) (i a : ℕ) → (((xs ++ (i ∷ [])) ++ ys) +
 array-said xs ys zs i a = simp append-assoc
 
 -- the rows after the first can be written, each from the place on where the one before it ends
-module _ {s : List ℕ} {r : CoverParts} {glyphs : List ℕ} {room first : ℕ} (k : Arrays s r glyphs room first) {out two : List ℕ} {slot second : ℕ} (x : Lays out slot first (rowBlocks (mapEntries glyphs) s (r .back)) second two) where
+module _ {s : List ℕ} {r : CoverParts} {glyphs : List ℕ} {room first : ℕ} (k : Arrays s r glyphs room first) {second : ℕ} (x : second ≡ first + rowSize (mapEntries glyphs) s (r .back)) where
   pub input-writes : {now : ℕ} → now ≡ room → RowWrites s (r .input) glyphs now (4 + 2 * r .back .len + 2) second
-  input-writes e = record { covers = rw e (k .covers .input); before = omega (arith, k .before, x .place); ends = omega (arith, k .ends, x .place) }
+  input-writes e = record { covers = rw e (k .covers .input); before = omega (arith, k .before); ends = omega (arith, k .ends) }
 
-  pub ahead-writes : {other three : List ℕ} {at third now : ℕ} → Lays other at second (rowBlocks (mapEntries glyphs) s (r .input)) third three → now ≡ room
-      → RowWrites s (r .ahead) glyphs now (4 + 2 * r .back .len + 2 + 2 * r .input .len + 2) third
-  ahead-writes y e = record { covers = rw e (k .covers .ahead); before = omega (arith, k .before, x .place, y .place); ends = omega (arith, k .ends, x .place, y .place) }
+  pub ahead-writes : {third now : ℕ} → third ≡ second + rowSize (mapEntries glyphs) s (r .input) → now ≡ room → RowWrites s (r .ahead) glyphs now (4 + 2 * r .back .len + 2 + 2 * r .input .len + 2) third
+  ahead-writes y e = record { covers = rw e (k .covers .ahead); before = omega (arith, k .before); ends = omega (arith, k .ends) }
 
 -- the arrays of a chained context
 pub arrays-written : {s : List ℕ} {r : CoverParts} {glyphs : List ℕ} {room first : ℕ} {out one two three four : List ℕ} {second third last : ℕ} → Arrays s r glyphs room first
@@ -134,10 +132,10 @@ plain-written {s} {r} {k} {first} {glyphs} {lookups} out w e x y =
     let i = rowBlocks g s (r .input) in
     let rs = recordsLeft (mapEntries lookups) s r in
     let li = row-length g s (r .input) in
-    let none = w .parts .plain refl in
+    let alone = w .parts .plain refl in
     let f1 = filled-words (filled-none {first = first}) (3 ∷ r .input .len ∷ k ∷ []) (omega (arith, w .start)) e in
     let f2 = filled-at (filled-row f1 i (omega (arith, w .start, li)) x) {to = 6 + 2 * r .input .len} (omega (arith, li)) in
     let f3 = filled-words f2 (twos rs) (omega (arith, w .start, w .count, twos-length rs)) (y .bytes) in
-    filled-end f3 (omega (arith, w .start, w .count, none .0, none .1, twos-length rs))
+    filled-end f3 (omega (arith, w .start, w .count, alone .0, alone .1, twos-length rs))
     ∙ ap (λ (ws : List ℕ). sets out 0 (flat ws))
-    (plain-said (rowBlocks g s (r .back)) i (rowBlocks g s (r .ahead)) rs first (r .input .len) k (sym li) (w .count) (omega (arith, w .start, w .count, none .0, none .1, li)))
+    (plain-said (rowBlocks g s (r .back)) i (rowBlocks g s (r .ahead)) rs first (r .input .len) k (sym li) (w .count) (omega (arith, w .start, w .count, alone .0, alone .1, li)))

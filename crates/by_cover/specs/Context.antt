@@ -1,7 +1,7 @@
 -- A context by coverages: where its parts stand, what is asked of it, and the words of what is left of it.
 use Prim.Native.Nat.{ℕ, _+_, _*_, _≤_, _<_}
 use mathlib.Core.Path.{_≡_}
-use mathlib.Core.Bool.{Bool, true, false, cond, _&&_}
+use mathlib.Core.Bool.{Bool, false, cond, _&&_}
 use mathlib.Core.Option.{Option, none}
 use mathlib.Core.List.{List, _∷_, _++_}
 use lib.ListN.{length}

@@ -1,11 +1,11 @@
 -- Scratch that has room for the retained glyphs of any coverage of a source.
-use Prim.Native.Nat.{ℕ, _+_, _*_, _≤_}
+use Prim.Native.Nat.{ℕ, suc, _+_, _*_, _≤_, _<_}
 use mathlib.Core.Path.{_≡_}
 use mathlib.Core.Bool.{true}
 use mathlib.Core.Option.{Option, none, some}
 use mathlib.Core.List.{List, [], _∷_}
 use native.Mathlib.Omega.{arith}
-use lib.ListN.{length}
+use lib.ListN.{length, getD}
 use Rattle.meaning.specs.Words.{find, push, mapSome}
 use Rattle.meaning.specs.Maps.{mapEntries}
 use Rattle.meaning.specs.Parts.{coverage, coverageSound}
@@ -18,6 +18,11 @@ use Rattle.laws.specs.SoundGood.{Bytes, coverage-good}
 pub record Roomy (s glyphs : List ℕ) (room : ℕ) : Type 0 where
   pub enough : (p : ℕ) → coverageSound s p ≡ true → 2 * length (newCoverage (mapEntries glyphs) (coverage s p)) ≤ room
   pub short : room ≤ 0x1_0000_0000
+
+-- what a proof about a call knows of each element of a slice of bytes, as one fact of the list
+pub all-bytes : (s : List ℕ) → ((i : ℕ) → getD s i 0 < 256) → Bytes s
+all-bytes [] h = tt
+all-bytes (b ∷ s) h = (h 0, all-bytes s (λ i. h (suc i)))
 
 -- ascending words are at most 65,536
 up-length : (low : ℕ) (gs : List ℕ) → low ≤ 65536 → Up low gs → All Word gs → low + length gs ≤ 65536
@@ -34,7 +39,7 @@ new-length g (c ∷ cov) = step (find g c) (new-length g cov)
     step none h = omega arith
     step (some n) h = omega arith
 
--- 131,072 bytes are always enough
+-- 131,072 bytes are always enough: a coverage has at most 65,536 glyphs
 pub always-roomy : (s glyphs : List ℕ) (room : ℕ) → Bytes s → 131072 ≤ room → room ≤ 0x1_0000_0000 → Roomy s glyphs room
 always-roomy s glyphs room bytes h k = record { enough = λ p sound. fits p sound; short = k }
   where

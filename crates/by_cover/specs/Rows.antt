@@ -1,5 +1,5 @@
 -- Rows of offsets that reach coverages: what is left of the coverages, how many bytes that takes, and how it is laid down.
-use Prim.Native.Nat.{ℕ, _+_, _*_, _≤_, _<_}
+use Prim.Native.Nat.{ℕ, _+_, _*_, _≤_}
 use mathlib.Core.Path.{_≡_}
 use mathlib.Core.Bool.{Bool, true, false}
 use mathlib.Core.Option.{Option, none}
@@ -13,7 +13,7 @@ use Rattle.meaning.specs.Fault.{faultThrough, coverageFault}
 use Rattle.meaning.specs.Cut.{coversLeft}
 use Rattle.meaning.specs.Layout.{blocks}
 use Rattle.laws.specs.Laid.{laid}
-use Rattle.laws.specs.Slots.{slotBlock, slotBlocks}
+use Rattle.laws.specs.Slots.{slotBlocks}
 use Rattle.retained.specs.Cover.{Cuts, coverLeft}
 use Rattle.rules.specs.Left.{Ascends}
 use Rattle.rules.specs.Parts.{Near}

@@ -9,7 +9,7 @@ use Rattle.by_cover.proofs.write_arrays.Tie as tie
 write-counted-requires-2 : tie.Need-write-counted-requires-2
 write-counted-requires-2 c κs =
     let b = c .before .before .before .before .before .before in
-    input-writes (b .before .before .before .before .before .before .before .before .before .before .before .before .pre) (b .write-counted .ensures) (b .write-counted .kept .1 .1 .1 .0)
+    input-writes (b .before .before .before .before .before .before .before .before .before .before .before .before .pre) (b .write-counted .ensures .place) (b .write-counted .kept .1 .1 .1 .0)
 
 mul-last : tie.Need-mul-last
 mul-last c =
@@ -25,7 +25,7 @@ write-counted-requires-3 : tie.Need-write-counted-requires-3
 write-counted-requires-3 c κs =
     let i = c .before .before .before .before .before .before .before in
     let b = i .before .before .before .before .before .before .before in
-    ahead-writes (b .before .before .before .before .before .before .before .before .before .before .before .before .pre) (b .write-counted .ensures) (i .write-counted2 .ensures) (i .write-counted2 .kept .1 .1 .1 .0 ∙ b .write-counted .kept .1 .1 .1 .0)
+    ahead-writes (b .before .before .before .before .before .before .before .before .before .before .before .before .pre) (b .write-counted .ensures .place) (i .write-counted2 .ensures .place) (i .write-counted2 .kept .1 .1 .1 .0 ∙ b .write-counted .kept .1 .1 .1 .0)
 
 returns : tie.Need-returns
 returns c =
