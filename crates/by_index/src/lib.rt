@@ -1,10 +1,16 @@
 // Format 1 of each kind: sets by coverage index. A set is kept exactly if it isn't null, the covered glyph that indexes it is retained and something in it survives; the coverage keeps just these glyphs.
 use coverage::count;
 use coverage::glyph_at;
+use coverage::size;
+use coverage::write;
 use maps::Found;
 use maps::find;
+use room::Laid;
+use room::room;
 use sets::Kind;
 use sets::set_survives;
+use sets::sets_size;
+use sets::write_sets;
 use wire::put;
 use wire::put_entry;
 use wire::put_record;
@@ -20,7 +26,11 @@ ghost use Rattle.meaning.specs.Parts.{coverage, coverageSound};
 ghost use Rattle.laws.specs.KeptPlaces.{Kept};
 ghost use Rattle.laws.specs.Written.{Wrote};
 ghost use Rattle.by_index.specs.Kept.{stays, KeptFor};
-ghost use Rattle.by_index.specs.Tables.{moreOf};
+ghost use Rattle.meaning.specs.Words.{words, flat};
+ghost use Rattle.meaning.specs.Subset.{laidInto};
+ghost use Rattle.room.specs.Laid.{outcomeOf};
+ghost use Rattle.coverage.specs.Glyphs.{glyphsOf};
+ghost use Rattle.by_index.specs.Tables.{moreOf, setBlocks, tableOf, Lays};
 
 // The new number of a covered glyph, if the set at `at` is kept for it.
 fn kept_for(kind: Kind, src: &[u8], glyph: usize, at: usize, glyphs: &[u8]) -> Found
@@ -96,4 +106,31 @@ fn write_header(kind: Kind, out: &mut [u8], cover: usize, n: usize) -> usize
             put_entry(out, p, f.n2, n)
         }
     }
+}
+
+// What is left of a table, laid into the buffer if its plain layout has room: the `n` kept sets stand in the source at the places that `places` has as words, and the new glyphs that index them are lent as the words of `to`.
+fn lay(
+    kind: Kind,
+    src: &[u8],
+    glyphs: &[u8],
+    lookups: &[u8],
+    to: &[u8],
+    places: &[u8],
+    n: usize,
+    out: &mut [u8],
+) -> Laid
+    requires { ⌜ Lays (now glyphs) (now lookups) (now to) n ⌝ }
+    ensures { λ r. ⌜ outcomeOf r (now (out .exit)) ≡ laidInto (now (out .entry)) (flat (tableOf kind (glyphsOf (now (to .entry))) (setBlocks kind (now (glyphs .entry)) (now (lookups .entry)) (now (src .entry)) (words (now (places .entry)) 0 n)))) ⌝ }
+{
+    let slot = header_size(kind);
+    let first = slot + 2 * n;
+    let cover = first + sets_size(kind, src, places, n, glyphs, glyphs, glyphs, lookups);
+    let r = room(cover + size(to), out.len());
+    let Laid::Kept(_) = r else {
+        return r;
+    };
+    write_header(kind, out, cover, n);
+    let p = write_sets(kind, src, places, n, glyphs, glyphs, glyphs, lookups, out, slot, first);
+    write(to, out, p);
+    r
 }
