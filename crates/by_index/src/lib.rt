@@ -26,11 +26,13 @@ ghost use Rattle.meaning.specs.Parts.{coverage, coverageSound};
 ghost use Rattle.laws.specs.KeptPlaces.{Kept};
 ghost use Rattle.laws.specs.Written.{Wrote};
 ghost use Rattle.by_index.specs.Kept.{stays, KeptFor};
-ghost use Rattle.meaning.specs.Words.{words, flat};
-ghost use Rattle.meaning.specs.Subset.{laidInto};
+ghost use Rattle.meaning.specs.Words.{word, words, flat};
+ghost use Rattle.meaning.specs.Subset.{laidInto, written};
 ghost use Rattle.room.specs.Laid.{outcomeOf};
 ghost use Rattle.coverage.specs.Glyphs.{glyphsOf};
+ghost use Rattle.meaning.specs.Cut.{cut};
 ghost use Rattle.by_index.specs.Tables.{moreOf, setBlocks, tableOf, Lays};
+ghost use Rattle.by_index.specs.Whole.{Asks, keptFrom, wordsOf, laidWords, glyphContext, ligatureTable};
 
 // The new number of a covered glyph, if the set at `at` is kept for it.
 fn kept_for(kind: Kind, src: &[u8], glyph: usize, at: usize, glyphs: &[u8]) -> Found
@@ -130,7 +132,78 @@ fn lay(
         return r;
     };
     write_header(kind, out, cover, n);
-    let p = write_sets(kind, src, places, n, glyphs, glyphs, glyphs, lookups, out, slot, first);
+    let p = write_sets(
+        kind,
+        src,
+        places,
+        n,
+        glyphs,
+        glyphs,
+        glyphs,
+        lookups,
+        out,
+        slot,
+        first,
+    );
     write(to, out, p);
     r
+}
+
+// What is left of a table of sets of rules or of ligatures, laid into the buffer if its plain layout has room. The count of the sets stands at 4.
+fn lay_kept(
+    kind: Kind,
+    src: &[u8],
+    glyphs: &[u8],
+    lookups: &[u8],
+    to: &mut [u8],
+    places: &mut [u8],
+    out: &mut [u8],
+) -> Laid
+    requires { ⌜ Asks (now src) (now glyphs) (now lookups) (word (now src) 4) (now to) (now places) ⌝ }
+    ensures { λ r. ⌜ outcomeOf r (now (out .exit)) ≡ laidWords (now (out .entry)) (wordsOf kind (now (glyphs .entry)) (now (src .entry)) (now (lookups .entry)) (keptFrom kind (now (glyphs .entry)) (now (src .entry)) 6 (word (now (src .entry)) 4))) ⌝ }
+{
+    let cover = word_at(src, 2);
+    if cover == 0 {
+        return Laid::Nothing;
+    }
+    let k = keep_sets(kind, src, cover, 6, word_at(src, 4), glyphs, to, places);
+    if k == 0 {
+        return Laid::Nothing;
+    }
+    lay(kind, src, glyphs, lookups, &to[..2 * k], places, k, out)
+}
+
+// What is left of a context by glyph, plain or chained, under a glyph map and a lookup map, laid into the buffer if it is not over the limit and the buffer is not shorter.
+// Nothing is left if the coverage is null or no set is kept; then, and if there is no room, the buffer is untouched.
+pub fn rules(
+    chained: bool,
+    src: &[u8],
+    glyphs: &[u8],
+    lookups: &[u8],
+    to: &mut [u8],
+    places: &mut [u8],
+    out: &mut [u8],
+) -> Laid
+    requires { ⌜ Asks (now src) (now glyphs) (now lookups) (word (now src) 4) (now to) (now places) ⌝ }
+    ensures { λ r. ⌜ outcomeOf r (now (out .exit)) ≡ written (now (out .entry)) (cut (mapEntries (now (glyphs .entry))) (mapEntries (now (lookups .entry))) (glyphContext chained (now (src .entry)))) ⌝ }
+{
+    if chained {
+        return lay_kept(Kind::ChainedRules, src, glyphs, lookups, to, places, out);
+    }
+    lay_kept(Kind::Rules, src, glyphs, lookups, to, places, out)
+}
+
+// The same for a table of ligatures; it has no lookups.
+pub fn ligatures(
+    src: &[u8],
+    glyphs: &[u8],
+    lookups: &[u8],
+    to: &mut [u8],
+    places: &mut [u8],
+    out: &mut [u8],
+) -> Laid
+    requires { ⌜ Asks (now src) (now glyphs) (now lookups) (word (now src) 4) (now to) (now places) ⌝ }
+    ensures { λ r. ⌜ outcomeOf r (now (out .exit)) ≡ written (now (out .entry)) (cut (mapEntries (now (glyphs .entry))) (mapEntries (now (lookups .entry))) (ligatureTable (now (src .entry)))) ⌝ }
+{
+    lay_kept(Kind::Ligatures, src, glyphs, lookups, to, places, out)
 }
