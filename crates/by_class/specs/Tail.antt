@@ -18,7 +18,7 @@ use Rattle.laws.specs.Laid.{laid, laid-end, laid-null, laid-block}
 use Rattle.retained.specs.Retained.{retainedEntries, retainedWords}
 use Rattle.retained.specs.Cover.{gathered-front}
 use Rattle.sets.specs.Sets.{LaidDown}
-use Rattle.by_class.specs.Tables.{newTable, Remakes}
+use Rattle.by_class.specs.Tables.{newTable}
 
 -- the retained covered glyphs, as their entries are read back from scratch
 pub gathered-entries : {es : List (ℕ × ℕ)} {before after : List ℕ} {r : ℕ} → Gathered (twos es) before r after → 2 * length (twos es) ≤ length before → mapEntries (take r after) ≡ es
@@ -32,15 +32,6 @@ gathered-entries {es} g h =
 abbrev pub classTables : Bool → List (ℕ × ℕ) → List ℕ → List (Option (List ℕ))
 classTables false g s = newTable g s (word s 4) ∷ []
 classTables true g s = newTable g s (word s 4) ∷ newTable g s (word s 6) ∷ newTable g s (word s 8) ∷ []
-
--- what making them asks
-abbrev pub Remaking : Bool → List ℕ → List ℕ → List ℕ → List ℕ → List ℕ → List ℕ → Type 0
-Remaking false s glyphs back input ahead work = Remakes s (word s 4) glyphs input work
-Remaking true s glyphs back input ahead work = Remakes s (word s 4) glyphs back work × Remakes s (word s 6) glyphs input work × Remakes s (word s 8) glyphs ahead work
-
--- scratch may have other content
-pub remakes-on : {s : List ℕ} {at : ℕ} {glyphs map work next : List ℕ} → Remakes s at glyphs map work → length next ≡ length work → Remakes s at glyphs map next
-remakes-on r e = record { sound = r .sound; good = r .good; ranks = r .ranks; room = omega (arith, r .room, e) }
 
 -- blocks take what the first takes, and the others
 pub blocks-more : (o : Option (List ℕ)) (bs : List (Option (List ℕ))) → length (blocks (o ∷ bs)) ≡ length (blocks (o ∷ [])) + length (blocks bs)

@@ -101,7 +101,7 @@ fn rank_at(src: &[u8], at: usize, glyphs: &[u8], map: &mut [u8]) -> usize
 
 // How many bytes the new class table for the one at `at` takes; a null one takes none.
 fn table_size(src: &[u8], at: usize, glyphs: &[u8], map: &[u8], work: &mut [u8]) -> usize
-    requires { ⌜ Remakes (now src) at (now glyphs) (now map) (now work) ⌝ }
+    requires { ⌜ Remakes (now src) at (now glyphs) (now map) (length (now work)) ⌝ }
     ensures { λ r. ⌜ TableSize (newTable (mapEntries (now (glyphs .entry))) (now (src .entry)) at) r × (length (now (work .exit)) ≡ length (now (work .entry))) ⌝ }
 {
     if at == 0 {
@@ -122,7 +122,7 @@ fn lay_table(
     slot: usize,
     p: usize,
 ) -> usize
-    requires { ⌜ Remakes (now src) at (now glyphs) (now map) (now work) × (slot + 2 ≤ p) × (p < 0x8000_0000_0000) ⌝ }
+    requires { ⌜ Remakes (now src) at (now glyphs) (now map) (length (now work)) × (slot + 2 ≤ p) × (p < 0x8000_0000_0000) ⌝ }
     ensures { λ r. ⌜ LaidDown (newTable (mapEntries (now (glyphs .entry))) (now (src .entry)) at ∷ []) (now (out .entry)) slot p (now (out .exit)) r × (length (now (work .exit)) ≡ length (now (work .entry))) ⌝ }
 {
     if at == 0 {
