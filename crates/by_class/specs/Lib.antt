@@ -1,5 +1,5 @@
 pub mod Places
 pub mod Tables
+pub mod Context
 pub mod Tail
 pub mod InOrder
-pub mod Context

@@ -6,7 +6,9 @@ use classes::size;
 use classes::write;
 use maps::Found;
 use maps::find;
+use retained::cover_size;
 use retained::retain_entries;
+use retained::write_cover;
 use sets::Kind;
 use sets::set_survives;
 use wire::put;
@@ -22,6 +24,7 @@ ghost use Rattle.sets.specs.Sets.{setStays, LaidDown};
 ghost use Rattle.gsubgpos.specs.Left.{Ascends, NumbersAscend};
 ghost use Rattle.classes.specs.Filled.{Filled};
 ghost use Rattle.by_class.specs.Tables.{mapAt, newTable, SoundAt, Remakes, TableSize};
+ghost use Rattle.by_class.specs.Tail.{classTables, tailOf, Remaking, Ready, Sized, Apart};
 ghost use mathlib.Core.Bool.{true};
 ghost use Rattle.meaning.specs.Parts.{coverage, coverageSound, classes, classesSound};
 ghost use Rattle.meaning.specs.Cut.{classMap};
@@ -148,4 +151,86 @@ fn rank_covered(
 {
     let n = retain_entries(src, cover, glyphs, work);
     rank(src, at, &work[..n], covered)
+}
+
+// How many bytes the new class tables take.
+fn tables_size(
+    chained: bool,
+    src: &[u8],
+    glyphs: &[u8],
+    back: &[u8],
+    input: &[u8],
+    ahead: &[u8],
+    work: &mut [u8],
+) -> usize
+    requires { ⌜ Remaking chained (now src) (now glyphs) (now back) (now input) (now ahead) (length (now work)) ⌝ }
+    ensures { λ r. ⌜ Sized (classTables chained (mapEntries (now (glyphs .entry))) (now (src .entry))) r × (r ≤ 0x20_0000) ⌝ }
+{
+    if chained {
+        let b = table_size(src, word_at(src, 4), glyphs, back, work);
+        let i = table_size(src, word_at(src, 6), glyphs, input, work);
+        let a = table_size(src, word_at(src, 8), glyphs, ahead, work);
+        return b + i + a;
+    }
+    table_size(src, word_at(src, 4), glyphs, input, work)
+}
+
+// How many bytes the coverage of the retained glyphs and the new class tables take.
+fn tail_size(
+    chained: bool,
+    src: &[u8],
+    glyphs: &[u8],
+    back: &[u8],
+    input: &[u8],
+    ahead: &[u8],
+    work: &mut [u8],
+) -> usize
+    requires { ⌜ Ready chained (now src) (now glyphs) (now back) (now input) (now ahead) (length (now work)) ⌝ }
+    ensures { λ r. ⌜ Sized (tailOf chained (mapEntries (now (glyphs .entry))) (now (src .entry))) r ⌝ }
+{
+    let cover = cover_size(src, word_at(src, 2), glyphs, work);
+    cover + tables_size(chained, src, glyphs, back, input, ahead, work)
+}
+
+// The offsets of the new class tables, from the fifth byte on, and the tables, from `p` on, where there is room; the place after them.
+fn lay_tables(
+    chained: bool,
+    src: &[u8],
+    glyphs: &[u8],
+    back: &[u8],
+    input: &[u8],
+    ahead: &[u8],
+    work: &mut [u8],
+    out: &mut [u8],
+    p: usize,
+) -> usize
+    requires { ⌜ Remaking chained (now src) (now glyphs) (now back) (now input) (now ahead) (length (now work)) × Apart (classTables chained (mapEntries (now glyphs)) (now src)) 4 p ⌝ }
+    ensures { λ r. ⌜ LaidDown (classTables chained (mapEntries (now (glyphs .entry))) (now (src .entry))) (now (out .entry)) 4 p (now (out .exit)) r ⌝ }
+{
+    if chained {
+        let q = lay_table(src, word_at(src, 4), glyphs, back, work, out, 4, p);
+        let r = lay_table(src, word_at(src, 6), glyphs, input, work, out, 6, q);
+        return lay_table(src, word_at(src, 8), glyphs, ahead, work, out, 8, r);
+    }
+    lay_table(src, word_at(src, 4), glyphs, input, work, out, 4, p)
+}
+
+// The offsets of the coverage and of the class tables, from the third byte on, and these, from `p` on, where there is room; the place after them.
+fn lay_tail(
+    chained: bool,
+    src: &[u8],
+    glyphs: &[u8],
+    back: &[u8],
+    input: &[u8],
+    ahead: &[u8],
+    work: &mut [u8],
+    out: &mut [u8],
+    p: usize,
+) -> usize
+    requires { ⌜ Ready chained (now src) (now glyphs) (now back) (now input) (now ahead) (length (now work)) × Apart (tailOf chained (mapEntries (now glyphs)) (now src)) 2 p ⌝ }
+    ensures { λ r. ⌜ LaidDown (tailOf chained (mapEntries (now (glyphs .entry))) (now (src .entry))) (now (out .entry)) 2 p (now (out .exit)) r ⌝ }
+{
+    put(out, 2, p);
+    let q = write_cover(src, word_at(src, 2), glyphs, work, out, p);
+    lay_tables(chained, src, glyphs, back, input, ahead, work, out, q)
 }
