@@ -3,3 +3,4 @@ pub mod Tables
 pub mod Context
 pub mod Tail
 pub mod InOrder
+pub mod Whole

@@ -9,15 +9,20 @@ use maps::find;
 use retained::cover_size;
 use retained::retain_entries;
 use retained::write_cover;
+use room::Laid;
+use room::room;
 use sets::Kind;
 use sets::set_survives;
+use sets::sets_size;
+use sets::write_sets;
 use wire::put;
 use wire::word_at;
 ghost use mathlib.Core.Path.{_≡_};
 ghost use mathlib.Core.List.{[], _∷_};
 ghost use Prim.Native.Nat.{_+_, _*_, _/_, _≤_, _<_};
 ghost use lib.ListN.{length};
-ghost use Rattle.meaning.specs.Words.{words, keys};
+ghost use lib.Seq.{sets};
+ghost use Rattle.meaning.specs.Words.{words, flat, keys};
 ghost use Rattle.meaning.specs.Maps.{mapEntries};
 ghost use Rattle.laws.specs.SlotPlaces.{slotPlace};
 ghost use Rattle.sets.specs.Sets.{setStays, LaidDown};
@@ -29,6 +34,10 @@ ghost use mathlib.Core.Bool.{true};
 ghost use Rattle.meaning.specs.Parts.{coverage, coverageSound, classes, classesSound};
 ghost use Rattle.meaning.specs.Cut.{classMap};
 ghost use Rattle.retained.specs.Retained.{retainedEntries, retainedWords};
+ghost use Rattle.meaning.specs.Subset.{laidInto};
+ghost use Rattle.room.specs.Laid.{outcomeOf};
+ghost use Rattle.by_class.specs.Context.{countSlot, kindOf};
+ghost use Rattle.by_class.specs.Whole.{contextWords, Lays, Writes};
 ghost use Rattle.by_class.specs.Places.{placesOf, Placed};
 
 // The place of the set of a class, by the `n` offsets from `slot` on, if a retained covered glyph holds the class and something of the set is left; else 0.
@@ -233,4 +242,88 @@ fn lay_tail(
     put(out, 2, p);
     let q = write_cover(src, word_at(src, 2), glyphs, work, out, p);
     lay_tables(chained, src, glyphs, back, input, ahead, work, out, q)
+}
+
+// The sort of the sets of a context.
+fn kind_of(chained: bool) -> Kind
+    ensures { λ r. ⌜ r ≡ kindOf chained ⌝ }
+{
+    if chained {
+        return Kind::ChainedRules;
+    }
+    Kind::Rules
+}
+
+// Where the count of the sets stands; their offsets follow.
+fn count_slot(chained: bool) -> usize
+    ensures { λ r. ⌜ (r ≡ countSlot chained) × (r ≤ 10) ⌝ }
+{
+    if chained {
+        return 10;
+    }
+    6
+}
+
+// What is left of the context, written from the start on: format, coverage and class tables from `start` on with their offsets, and the sets of the first `n` slots with their count and their offsets.
+fn write_context(
+    chained: bool,
+    src: &[u8],
+    glyphs: &[u8],
+    lookups: &[u8],
+    back: &[u8],
+    input: &[u8],
+    ahead: &[u8],
+    slots: &[u8],
+    n: usize,
+    start: usize,
+    work: &mut [u8],
+    out: &mut [u8],
+)
+    requires { ⌜ Writes chained (now src) (now glyphs) (now lookups) (now back) (now input) (now ahead) (now slots) n start (length (now work)) ⌝ }
+    ensures { λ _. ⌜ now (out .exit) ≡ sets (now (out .entry)) 0 (flat (contextWords chained (now (src .entry)) (now (back .entry)) (now (input .entry)) (now (ahead .entry)) (now (lookups .entry)) (now (slots .entry)) n (mapEntries (now (glyphs .entry))))) ⌝ }
+{
+    put(out, 0, 2);
+    lay_tail(chained, src, glyphs, back, input, ahead, work, out, start);
+    let slot = put(out, count_slot(chained), n);
+    write_sets(
+        kind_of(chained),
+        src,
+        slots,
+        n,
+        back,
+        input,
+        ahead,
+        lookups,
+        out,
+        slot,
+        slot + 2 * n,
+    );
+}
+
+// What is left of the context, laid into the buffer if its plain layout has room.
+fn lay(
+    chained: bool,
+    src: &[u8],
+    glyphs: &[u8],
+    lookups: &[u8],
+    back: &[u8],
+    input: &[u8],
+    ahead: &[u8],
+    slots: &[u8],
+    n: usize,
+    work: &mut [u8],
+    out: &mut [u8],
+) -> Laid
+    requires { ⌜ Lays chained (now src) (now glyphs) (now lookups) (now back) (now input) (now ahead) n (length (now work)) ⌝ }
+    ensures { λ r. ⌜ outcomeOf r (now (out .exit)) ≡ laidInto (now (out .entry)) (flat (contextWords chained (now (src .entry)) (now (back .entry)) (now (input .entry)) (now (ahead .entry)) (now (lookups .entry)) (now (slots .entry)) n (mapEntries (now (glyphs .entry))))) ⌝ }
+{
+    let first = count_slot(chained) + 2 + 2 * n;
+    let size = sets_size(kind_of(chained), src, slots, n, back, input, ahead, lookups);
+    let tail = tail_size(chained, src, glyphs, back, input, ahead, work);
+    let r = room(first + size + tail, out.len());
+    let Laid::Kept(_) = r else {
+        return r;
+    };
+    write_context(chained, src, glyphs, lookups, back, input, ahead, slots, n, first + size, work, out);
+    r
 }

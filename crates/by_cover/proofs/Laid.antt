@@ -1,21 +1,16 @@
 -- What is left of a context, laid into the buffer.
 use Prim.Native.Nat.{ℕ, _+_, _≤_}
-use mathlib.Core.Path.{_≡_, refl}
+use mathlib.Core.Path.{_≡_}
 use mathlib.Core.Bool.{Bool, true, false, cond}
-use mathlib.Core.List.{List, [], _∷_}
-use mathlib.Core.Logic.{⊎-elim}
+use mathlib.Core.List.{List}
 use native.Mathlib.Omega.{arith}
 use lib.ListN.{length}
 use lib.Seq.{sets}
-use types.Run.{OneOf}
-use denote.Enum.Declared.{tagOf}
 use Rattle.meaning.specs.Words.{flat}
 use Rattle.meaning.specs.Maps.{mapEntries}
 use Rattle.meaning.specs.Subset.{limit, laidInto}
 use Rattle.room.specs.Laid.{laidFor, outcomeOf, isKept, refused-room, kept-room, kept-small}
 use Rattle.room.specs.declared.Laid.{Laid}
-use Rattle.room.specs.declared.Laid.the-variants.{Nothing, TooBig, NoRoom, Kept}
-use Rattle.room.proofs.Laid.{the-type}
 use Rattle.by_cover.specs.Context.{recordsLeft, contextWords, headerSize, SizedContext, Writes}
 use Rattle.by_cover.specs.declared.CoverParts.{CoverParts}
 use Rattle.by_cover.proofs.Lengths.{context-length}
@@ -24,13 +19,6 @@ use Rattle.by_cover.proofs.Lengths.{context-length}
 pub header-most : (chained : Bool) → cond chained 10 6 ≤ 10
 header-most true = omega arith
 header-most false = omega arith
-
--- the first three answers are refusals
-pub not-kept : (t : Laid) → OneOf (0 ∷ 1 ∷ 2 ∷ []) (tagOf the-type t) → isKept t ≡ false
-not-kept Nothing h = refl
-not-kept TooBig h = refl
-not-kept (NoRoom n) h = refl
-not-kept (Kept n) h = absurd (⊎-elim (λ e. omega arith) (⊎-elim (λ e. omega arith) (λ e. omega arith)) h)
 
 module _ {chained : Bool} {s : List ℕ} {r : CoverParts} {size : ℕ} {glyphs lookups : List ℕ} {room k first : ℕ} (a : SizedContext chained s r size glyphs lookups room)
     (ek : k ≡ length (recordsLeft (mapEntries lookups) s r)) (ef : first ≡ headerSize chained r k) (out : List ℕ) {t : Laid} (e : t ≡ laidFor (first + size) (length out)) where

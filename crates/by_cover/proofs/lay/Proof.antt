@@ -3,7 +3,8 @@ use mathlib.Core.Path.{ap}
 use native.Mathlib.Omega.{arith}
 use borrow.Author.Needs.{needs}
 use Rattle.room.specs.Laid.{isKept}
-use Rattle.by_cover.proofs.Laid.{header-most, not-kept, lay-refused, lay-writes, lay-kept}
+use Rattle.room.proofs.Refused.{not-kept}
+use Rattle.by_cover.proofs.Laid.{header-most, lay-refused, lay-writes, lay-kept}
 use Rattle.by_cover.proofs.lay.Statement.{statement}
 use Rattle.by_cover.proofs.lay.Tie as tie
 
