@@ -32,12 +32,13 @@ ghost use Rattle.by_class.specs.Tables.{mapAt, newTable, SoundAt, Remake
 ghost use Rattle.by_class.specs.Tail.{classTables, tailOf, Remaking, Ready, Sized, Apart};
 ghost use mathlib.Core.Bool.{true};
 ghost use Rattle.meaning.specs.Parts.{coverage, coverageSound, classes, classesSound};
-ghost use Rattle.meaning.specs.Cut.{classMap};
+ghost use Rattle.meaning.specs.Cut.{classMap, cut};
 ghost use Rattle.retained.specs.Retained.{retainedEntries, retainedWords};
-ghost use Rattle.meaning.specs.Subset.{laidInto};
+ghost use Rattle.meaning.specs.Tables.{classContext};
+ghost use Rattle.meaning.specs.Subset.{laidInto, written};
 ghost use Rattle.room.specs.Laid.{outcomeOf};
 ghost use Rattle.by_class.specs.Context.{countSlot, kindOf};
-ghost use Rattle.by_class.specs.Whole.{contextWords, Lays, Writes};
+ghost use Rattle.by_class.specs.Whole.{contextWords, Lays, Writes, Mapped};
 ghost use Rattle.by_class.specs.Places.{placesOf, Placed};
 
 // The place of the set of a class, by the `n` offsets from `slot` on, if a retained covered glyph holds the class and something of the set is left; else 0.
@@ -326,4 +327,30 @@ fn lay(
     };
     write_context(chained, src, glyphs, lookups, back, input, ahead, slots, n, first + size, work, out);
     r
+}
+
+// What is left of a context whose classes are ranked, laid into the buffer if its plain layout has room. Nothing is left if no slot is kept.
+fn with_maps(
+    chained: bool,
+    src: &[u8],
+    glyphs: &[u8],
+    lookups: &[u8],
+    back: &[u8],
+    input: &[u8],
+    ahead: &[u8],
+    covered: &[u8],
+    slots: &mut [u8],
+    work: &mut [u8],
+    out: &mut [u8],
+) -> Laid
+    requires { ⌜ Mapped chained (now src) (now glyphs) (now lookups) (now back) (now input) (now ahead) (now covered) (length (now slots)) (length (now work)) ⌝ }
+    ensures { λ r. ⌜ outcomeOf r (now (out .exit)) ≡ written (now (out .entry)) (cut (mapEntries (now (glyphs .entry))) (mapEntries (now (lookups .entry))) (classContext chained (now (src .entry)))) ⌝ }
+{
+    let slot = count_slot(chained);
+    let count = word_at(src, slot);
+    let n = fill_slots(kind_of(chained), src, slot + 2, count, covered, back, input, ahead, slots);
+    if n == 0 {
+        return Laid::Nothing;
+    }
+    lay(chained, src, glyphs, lookups, back, input, ahead, slots, n, work, out)
 }
