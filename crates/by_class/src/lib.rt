@@ -325,7 +325,20 @@ fn lay(
     let Laid::Kept(_) = r else {
         return r;
     };
-    write_context(chained, src, glyphs, lookups, back, input, ahead, slots, n, first + size, work, out);
+    write_context(
+        chained,
+        src,
+        glyphs,
+        lookups,
+        back,
+        input,
+        ahead,
+        slots,
+        n,
+        first + size,
+        work,
+        out,
+    );
     r
 }
 
@@ -348,11 +361,33 @@ fn with_maps(
 {
     let slot = count_slot(chained);
     let count = word_at(src, slot);
-    let n = fill_slots(kind_of(chained), src, slot + 2, count, covered, back, input, ahead, slots);
+    let n = fill_slots(
+        kind_of(chained),
+        src,
+        slot + 2,
+        count,
+        covered,
+        back,
+        input,
+        ahead,
+        slots,
+    );
     if n == 0 {
         return Laid::Nothing;
     }
-    lay(chained, src, glyphs, lookups, back, input, ahead, slots, n, work, out)
+    lay(
+        chained,
+        src,
+        glyphs,
+        lookups,
+        back,
+        input,
+        ahead,
+        slots,
+        n,
+        work,
+        out,
+    )
 }
 
 // Where the class table of the backtrack stands; 0 if there is none.
@@ -404,7 +439,19 @@ fn with_input(
 {
     let b = rank_at(src, back_at(chained, src), glyphs, back);
     let a = rank_at(src, ahead_at(chained, src), glyphs, ahead);
-    with_maps(chained, src, glyphs, lookups, &back[..b], input, &ahead[..a], covered, slots, work, out)
+    with_maps(
+        chained,
+        src,
+        glyphs,
+        lookups,
+        &back[..b],
+        input,
+        &ahead[..a],
+        covered,
+        slots,
+        work,
+        out,
+    )
 }
 
 // What is left of a context by classes, plain or chained, under a glyph map and a lookup map, laid into the buffer if it is not over the limit and the buffer is not shorter.
@@ -436,5 +483,17 @@ pub fn by_class(
     }
     let n = rank_at(src, at, glyphs, input);
     let k = rank_covered(src, cover, at, glyphs, work, covered);
-    with_input(chained, src, glyphs, lookups, back, &input[..n], ahead, &covered[..k], slots, work, out)
+    with_input(
+        chained,
+        src,
+        glyphs,
+        lookups,
+        back,
+        &input[..n],
+        ahead,
+        &covered[..k],
+        slots,
+        work,
+        out,
+    )
 }
