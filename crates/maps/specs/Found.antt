@@ -4,7 +4,7 @@ use mathlib.Core.Path.{_≡_, refl}
 use mathlib.Core.Option.{Option, none, some}
 use mathlib.Core.List.{List}
 use Rattle.meaning.specs.Words.{find}
-use Rattle.meaning.specs.Maps.{mapEntries}
+use Rattle.maps.specs.Forms.{mapOf}
 use Rattle.maps.specs.declared.Found.{Found}
 use Rattle.maps.specs.declared.Found.the-variants.{New, Gone}
 
@@ -20,7 +20,7 @@ numberOf Gone = 0
 
 -- r is what the map m answers to `old`, and a word
 pub record Answers (m : List ℕ) (old : ℕ) (r : Found) : Type 0 where
-  pub answer : r ≡ foundOf (find (mapEntries m) old)
+  pub answer : r ≡ foundOf (find (mapOf m) old)
   pub small : numberOf r < 65536
 
 -- what an answer says of what it stands for: a match's arm, and what `find` ensures
@@ -34,11 +34,11 @@ is-gone none e f = refl
 
 module _ {m : List ℕ} {old : ℕ} {r : Found} (a : Answers m old r) where
   -- the same of the map itself: the new number, which is a word, or none
-  pub finds-new : {n : ℕ} → r ≡ New n → find (mapEntries m) old ≡ some n
-  finds-new e = is-new (find (mapEntries m) old) e (a .answer)
+  pub finds-new : {n : ℕ} → r ≡ New n → find (mapOf m) old ≡ some n
+  finds-new e = is-new (find (mapOf m) old) e (a .answer)
 
-  pub finds-none : r ≡ Gone → find (mapEntries m) old ≡ none
-  finds-none e = is-gone (find (mapEntries m) old) e (a .answer)
+  pub finds-none : r ≡ Gone → find (mapOf m) old ≡ none
+  finds-none e = is-gone (find (mapOf m) old) e (a .answer)
 
   pub finds-word : {n : ℕ} → r ≡ New n → n < 65536
   finds-word e = rw e at (a .small)

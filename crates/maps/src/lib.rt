@@ -1,11 +1,15 @@
 // Maps of numbers: four bytes an entry, an old word and its new word, the old ones strictly ascending.
+// For sources that ask often, a map is laid out by number as well: then an answer takes one place's reading in the place of halving.
 use wire::ascending;
 use wire::word_at;
 ghost use mathlib.Core.Path.{_≡_};
 ghost use mathlib.Core.Bool.{true};
 ghost use Rattle.meaning.specs.Words.{ascends, keys};
-ghost use Rattle.meaning.specs.Maps.{mapEntries, goodGlyphs, goodLookups};
+ghost use Rattle.meaning.specs.Maps.{goodGlyphs, goodLookups};
+ghost use Rattle.maps.specs.Forms.{mapOf, Listed};
 ghost use Rattle.maps.specs.Found.{Answers};
+ghost use Prim.Native.Nat.{_%_};
+ghost use lib.ListN.{length};
 
 // What a map answers: the new number, or that there is none.
 pub enum Found {
@@ -33,9 +37,9 @@ pub fn good_glyphs(m: &[u8]) -> bool
     ascending(m, 2, m.len() / 4, 4)
 }
 
-// The new number of `old`, by halving.
-pub fn find(m: &[u8], old: usize) -> Found
-    requires { ⌜ ascends (keys (mapEntries (now m))) ≡ true ⌝ }
+// The new number of `old` in a listed map, by halving.
+fn halve(m: &[u8], old: usize) -> Found
+    requires { ⌜ Listed (now m) ⌝ }
     ensures { λ r. ⌜ Answers (now (m .entry)) old r ⌝ }
 {
     let mut lo = 0;
@@ -53,4 +57,29 @@ pub fn find(m: &[u8], old: usize) -> Found
         }
     }
     Found::Gone
+}
+
+// The new number of `old` in a map by number, by its place.
+fn look_up(m: &[u8], old: usize) -> Found
+    requires { ⌜ length (now m) % 4 ≡ 1 ⌝ }
+    ensures { λ r. ⌜ Answers (now (m .entry)) old r ⌝ }
+{
+    if m.len() / 4 <= old {
+        return Found::Gone;
+    }
+    if word_at(m, 4 * old) == 0 {
+        return Found::Gone;
+    }
+    Found::New(word_at(m, 4 * old + 2))
+}
+
+// The new number of `old` in a map of either form.
+pub fn find(m: &[u8], old: usize) -> Found
+    requires { ⌜ ascends (keys (mapOf (now m))) ≡ true ⌝ }
+    ensures { λ r. ⌜ Answers (now (m .entry)) old r ⌝ }
+{
+    if m.len() % 4 == 1 {
+        return look_up(m, old);
+    }
+    halve(m, old)
 }
