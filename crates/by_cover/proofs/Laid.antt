@@ -7,7 +7,7 @@ use native.Mathlib.Omega.{arith}
 use lib.ListN.{length}
 use lib.Seq.{sets}
 use Rattle.meaning.specs.Words.{flat}
-use Rattle.meaning.specs.Maps.{mapEntries}
+use Rattle.maps.specs.Forms.{mapOf}
 use Rattle.meaning.specs.Subset.{limit, laidInto}
 use Rattle.room.specs.Laid.{laidFor, outcomeOf, isKept, refused-room, kept-room, kept-small}
 use Rattle.room.specs.declared.Laid.{Laid}
@@ -21,13 +21,13 @@ header-most true = omega arith
 header-most false = omega arith
 
 module _ {chained : Bool} {s : List ℕ} {r : CoverParts} {size : ℕ} {glyphs lookups : List ℕ} {room k first : ℕ} (a : SizedContext chained s r size glyphs lookups room)
-    (ek : k ≡ length (recordsLeft (mapEntries lookups) s r)) (ef : first ≡ headerSize chained r k) (out : List ℕ) {t : Laid} (e : t ≡ laidFor (first + size) (length out)) where
+    (ek : k ≡ length (recordsLeft (mapOf lookups) s r)) (ef : first ≡ headerSize chained r k) (out : List ℕ) {t : Laid} (e : t ≡ laidFor (first + size) (length out)) where
   -- the layout of what is left, and its length
   abbrev bytes : List ℕ
-  bytes = flat (contextWords chained (mapEntries glyphs) (mapEntries lookups) s r)
+  bytes = flat (contextWords chained (mapOf glyphs) (mapOf lookups) s r)
 
   total : first + size ≡ length bytes
-  total = omega (arith, context-length (a .parts) (mapEntries glyphs) (mapEntries lookups), a .covers)
+  total = omega (arith, context-length (a .parts) (mapOf glyphs) (mapOf lookups), a .covers)
 
   -- it has no room, and nothing is written
   pub lay-refused : isKept t ≡ false → outcomeOf t out ≡ laidInto out bytes

@@ -9,7 +9,7 @@ use native.Mathlib.Decide.{ℕ-discrete}
 use lib.ListN.{length}
 use lib.Seq.{sets, length-sets}
 use Rattle.meaning.specs.Words.{word, bytes2, flat}
-use Rattle.meaning.specs.Maps.{mapEntries}
+use Rattle.maps.specs.Forms.{mapOf}
 use Rattle.meaning.specs.Layout.{offsets, blocks}
 use Rattle.laws.specs.Written.{Wrote, flat-one}
 use Rattle.laws.specs.Laid.{laid, laid-end, laid-null}
@@ -44,12 +44,12 @@ lays-length l = ap length (l .bytes) ∙ simp length-sets
 
 -- What the loop over a row keeps: the slots that are left, laid down after those before, give the whole row.
 pub record RowLaying (glyphs s : List ℕ) (row : Row) (slot place : ℕ) (out₀ out : List ℕ) (p i : ℕ) : Type 0 where
-  pub slots : SlotLaying (leftAt (mapEntries glyphs) s) s (row .at) (row .len) slot place out₀ out p i
+  pub slots : SlotLaying (leftAt (mapOf glyphs) s) s (row .at) (row .len) slot place out₀ out p i
 
 module _ {glyphs s : List ℕ} {row : Row} {slot place : ℕ} {out₀ : List ℕ} where
   -- before the first turn
   pub row-laying-all : slot + 2 * row .len ≤ place → RowLaying glyphs s row slot place out₀ out₀ place 0
-  row-laying-all h = record { slots = slot-laying-all (leftAt (mapEntries glyphs) s) s (row .at) (row .len) h }
+  row-laying-all h = record { slots = slot-laying-all (leftAt (mapOf glyphs) s) s (row .at) (row .len) h }
 
   module _ {out : List ℕ} {p i at : ℕ} (c : RowLaying glyphs s row slot place out₀ out p i) (h : i < row .len) (e : at ≡ word s (row .at + 2 * i)) where
     -- before a turn: the slot can be written
@@ -57,12 +57,12 @@ module _ {glyphs s : List ℕ} {row : Row} {slot place : ℕ} {out₀ : List ℕ
     row-laying-asks a w = record { cuts = λ z. cuts-at (a .covers) h e z w; before = omega (arith, a .before, a .ends); place = omega (arith, a .ends, c .slots .place) }
 
     -- the turn: one slot more is written
-    pub row-laying-turn : {next : List ℕ} {r : ℕ} → Lays out (slot + 2 * i) p (slotBlock (leftAt (mapEntries glyphs) s) at ∷ []) r next → RowLaying glyphs s row slot place out₀ next r (i + 1)
+    pub row-laying-turn : {next : List ℕ} {r : ℕ} → Lays out (slot + 2 * i) p (slotBlock (leftAt (mapOf glyphs) s) at ∷ []) r next → RowLaying glyphs s row slot place out₀ next r (i + 1)
     unfolding blocks
     row-laying-turn {next} {r} l = record { slots = step (ℕ-discrete at 0) }
       where
         W : ℕ → List ℕ
-        W = leftAt (mapEntries glyphs) s
+        W = leftAt (mapOf glyphs) s
 
         step : Dec (at ≡ 0) → SlotLaying W s (row .at) (row .len) slot place out₀ next r (i + 1)
         step (yes z) =
@@ -74,7 +74,7 @@ module _ {glyphs s : List ℕ} {row : Row} {slot place : ℕ} {out₀ : List ℕ
             slot-laying-set W s (row .at) (row .len) (c .slots) h e z refl (rw append-nil at (k .place)) (k .bytes ∙ alone-block out (slot + 2 * i) p (W at))
 
   -- after the last turn
-  pub row-laying-end : {out : List ℕ} {p i : ℕ} → RowLaying glyphs s row slot place out₀ out p i → row .len ≤ i → Lays out₀ slot place (rowBlocks (mapEntries glyphs) s row) p out
+  pub row-laying-end : {out : List ℕ} {p i : ℕ} → RowLaying glyphs s row slot place out₀ out p i → row .len ≤ i → Lays out₀ slot place (rowBlocks (mapOf glyphs) s row) p out
   row-laying-end c h =
-      let k = slot-laying-end (leftAt (mapEntries glyphs) s) s (row .at) (row .len) (c .slots) h in
+      let k = slot-laying-end (leftAt (mapOf glyphs) s) s (row .at) (row .len) (c .slots) h in
       record { place = k .0; bytes = k .1 }

@@ -10,7 +10,7 @@ use lib.ListN.{length}
 use lib.Dec.{eqb}
 use borrow.Author.Tests.{eqb-false, eq-eqb, ne-eqb}
 use Rattle.meaning.specs.Words.{word, words, bind, mapAll, isSome}
-use Rattle.meaning.specs.Maps.{mapEntries}
+use Rattle.maps.specs.Forms.{mapOf}
 use Rattle.meaning.specs.Parts.{coverage, coverageSound}
 use Rattle.meaning.specs.Tables.{reach, reaches}
 use Rattle.meaning.specs.Fault.{faultThrough, coverageFault}
@@ -165,12 +165,12 @@ module _ {g : List (ℕ × ℕ)} {s : List ℕ} {row : Row} where
       }
 
 -- the i-th coverage is left: the turn goes on
-pub row-sizing-kept : {s : List ℕ} {row : Row} {glyphs : List ℕ} {room total i at w : ℕ} → Covers s row glyphs room → RowSizing (mapEntries glyphs) s row total i → i < row .len
-    → at ≡ word s (row .at + 2 * i) → (at ≡ 0 → ⊥) → w ≡ 2 * length (leftAt (mapEntries glyphs) s at) → (w ≡ 0 → ⊥) → RowSizing (mapEntries glyphs) s row (total + w) (i + 1)
+pub row-sizing-kept : {s : List ℕ} {row : Row} {glyphs : List ℕ} {room total i at w : ℕ} → Covers s row glyphs room → RowSizing (mapOf glyphs) s row total i → i < row .len
+    → at ≡ word s (row .at + 2 * i) → (at ≡ 0 → ⊥) → w ≡ 2 * length (leftAt (mapOf glyphs) s at) → (w ≡ 0 → ⊥) → RowSizing (mapOf glyphs) s row (total + w) (i + 1)
 row-sizing-kept {s} {row} {glyphs} {i = i} {at} k c h e z f v =
-    let ns = newCoverage (mapEntries glyphs) (coverage s at) in
+    let ns = newCoverage (mapOf glyphs) (coverage s at) in
     record {
-      slots = slot-sizing-set (leftAt (mapEntries glyphs) s) s (row .at) (row .len) (c .slots) h e z f;
-      left = rw (left-there (mapEntries glyphs) s row i h e z, cover-kept ns f v) at (c .left);
+      slots = slot-sizing-set (leftAt (mapOf glyphs) s) s (row .at) (row .len) (c .slots) h e z f;
+      left = rw (left-there (mapOf glyphs) s row i h e z, cover-kept ns f v) at (c .left);
       near = omega (arith, c .near, cover-most ns, k .roomy .enough at (sound-at k h e z), k .roomy .short);
     }

@@ -8,7 +8,7 @@ use native.Mathlib.Omega.{arith}
 use lib.ListN.{length, length-append}
 use lib.Seq.{sets}
 use Rattle.meaning.specs.Words.{bytes2, flat, twos}
-use Rattle.meaning.specs.Maps.{mapEntries}
+use Rattle.maps.specs.Forms.{mapOf}
 use Rattle.meaning.specs.Layout.{offsets, blocks}
 use Rattle.laws.specs.Stands.{twos-length}
 use Rattle.laws.specs.Through.{offsets-length}
@@ -70,23 +70,23 @@ array-said : (xs ys zs : List ℕ) (i a : ℕ) → (((xs ++ (i ∷ [])) ++ ys) +
 array-said xs ys zs i a = simp append-assoc
 
 -- the rows after the first can be written, each from the place on where the one before it ends
-module _ {s : List ℕ} {r : CoverParts} {glyphs : List ℕ} {room first : ℕ} (k : Arrays s r glyphs room first) {second : ℕ} (x : second ≡ first + rowSize (mapEntries glyphs) s (r .back)) where
+module _ {s : List ℕ} {r : CoverParts} {glyphs : List ℕ} {room first : ℕ} (k : Arrays s r glyphs room first) {second : ℕ} (x : second ≡ first + rowSize (mapOf glyphs) s (r .back)) where
   pub input-writes : {now : ℕ} → now ≡ room → RowWrites s (r .input) glyphs now (4 + 2 * r .back .len + 2) second
   input-writes e = record { covers = rw e (k .covers .input); before = omega (arith, k .before); ends = omega (arith, k .ends) }
 
-  pub ahead-writes : {third now : ℕ} → third ≡ second + rowSize (mapEntries glyphs) s (r .input) → now ≡ room → RowWrites s (r .ahead) glyphs now (4 + 2 * r .back .len + 2 + 2 * r .input .len + 2) third
+  pub ahead-writes : {third now : ℕ} → third ≡ second + rowSize (mapOf glyphs) s (r .input) → now ≡ room → RowWrites s (r .ahead) glyphs now (4 + 2 * r .back .len + 2 + 2 * r .input .len + 2) third
   ahead-writes y e = record { covers = rw e (k .covers .ahead); before = omega (arith, k .before); ends = omega (arith, k .ends) }
 
 -- the arrays of a chained context
 pub arrays-written : {s : List ℕ} {r : CoverParts} {glyphs : List ℕ} {room first : ℕ} {out one two three four : List ℕ} {second third last : ℕ} → Arrays s r glyphs room first
     → one ≡ sets out 0 (bytes2 3)
-    → Lays (sets one 2 (bytes2 (r .back .len))) 4 first (rowBlocks (mapEntries glyphs) s (r .back)) second two
-    → Lays (sets two (4 + 2 * r .back .len) (bytes2 (r .input .len))) (4 + 2 * r .back .len + 2) second (rowBlocks (mapEntries glyphs) s (r .input)) third three
-    → Lays (sets three (4 + 2 * r .back .len + 2 + 2 * r .input .len) (bytes2 (r .ahead .len))) (4 + 2 * r .back .len + 2 + 2 * r .input .len + 2) third (rowBlocks (mapEntries glyphs) s (r .ahead)) last four
-    → GrownArrays (mapEntries glyphs) s r out first four
+    → Lays (sets one 2 (bytes2 (r .back .len))) 4 first (rowBlocks (mapOf glyphs) s (r .back)) second two
+    → Lays (sets two (4 + 2 * r .back .len) (bytes2 (r .input .len))) (4 + 2 * r .back .len + 2) second (rowBlocks (mapOf glyphs) s (r .input)) third three
+    → Lays (sets three (4 + 2 * r .back .len + 2 + 2 * r .input .len) (bytes2 (r .ahead .len))) (4 + 2 * r .back .len + 2 + 2 * r .input .len + 2) third (rowBlocks (mapOf glyphs) s (r .ahead)) last four
+    → GrownArrays (mapOf glyphs) s r out first four
 unfolding arrayWords
 arrays-written {s} {r} {glyphs} {first = first} {second = second} {third} k e x y z =
-    let g = mapEntries glyphs in
+    let g = mapOf glyphs in
     let b = rowBlocks g s (r .back) in
     let i = rowBlocks g s (r .input) in
     let a = rowBlocks g s (r .ahead) in
@@ -100,16 +100,16 @@ arrays-written {s} {r} {glyphs} {first = first} {second = second} {third} k e x 
 
 -- a chained context: its arrays, the count of its records and the records
 pub chained-written : {s : List ℕ} {r : CoverParts} {k first : ℕ} {glyphs lookups : List ℕ} {room : ℕ} {out one two three : List ℕ} {p q : ℕ} → Writes true s r k first glyphs lookups room
-    → GrownArrays (mapEntries glyphs) s r out first one
+    → GrownArrays (mapOf glyphs) s r out first one
     → (p ≡ 8 + 2 * r .back .len + 2 * r .input .len + 2 * r .ahead .len + 2) × (two ≡ sets one (8 + 2 * r .back .len + 2 * r .input .len + 2 * r .ahead .len) (bytes2 k))
-    → Wrote two p (twos (recordsLeft (mapEntries lookups) s r)) three q
-    → three ≡ sets out 0 (flat (contextWords true (mapEntries glyphs) (mapEntries lookups) s r))
+    → Wrote two p (twos (recordsLeft (mapOf lookups) s r)) three q
+    → three ≡ sets out 0 (flat (contextWords true (mapOf glyphs) (mapOf lookups) s r))
 chained-written {s} {r} {k} {first} {glyphs} {lookups} {out = out} w e x y =
-    let g = mapEntries glyphs in
+    let g = mapOf glyphs in
     let b = rowBlocks g s (r .back) in
     let i = rowBlocks g s (r .input) in
     let a = rowBlocks g s (r .ahead) in
-    let rs = recordsLeft (mapEntries lookups) s r in
+    let rs = recordsLeft (mapOf lookups) s r in
     let lb = row-length g s (r .back) in
     let li = row-length g s (r .input) in
     let la = row-length g s (r .ahead) in
@@ -124,13 +124,13 @@ chained-written {s} {r} {k} {first} {glyphs} {lookups} {out = out} w e x y =
 -- a plain context: its header, its row and its records
 pub plain-written : {s : List ℕ} {r : CoverParts} {k first : ℕ} {glyphs lookups : List ℕ} {room : ℕ} (out : List ℕ) {one two three : List ℕ} {p q : ℕ} → Writes false s r k first glyphs lookups room
     → one ≡ sets out 0 (flat (3 ∷ r .input .len ∷ k ∷ []))
-    → Lays one 6 first (rowBlocks (mapEntries glyphs) s (r .input)) p two
-    → Wrote two (6 + 2 * r .input .len) (twos (recordsLeft (mapEntries lookups) s r)) three q
-    → three ≡ sets out 0 (flat (contextWords false (mapEntries glyphs) (mapEntries lookups) s r))
+    → Lays one 6 first (rowBlocks (mapOf glyphs) s (r .input)) p two
+    → Wrote two (6 + 2 * r .input .len) (twos (recordsLeft (mapOf lookups) s r)) three q
+    → three ≡ sets out 0 (flat (contextWords false (mapOf glyphs) (mapOf lookups) s r))
 plain-written {s} {r} {k} {first} {glyphs} {lookups} out w e x y =
-    let g = mapEntries glyphs in
+    let g = mapOf glyphs in
     let i = rowBlocks g s (r .input) in
-    let rs = recordsLeft (mapEntries lookups) s r in
+    let rs = recordsLeft (mapOf lookups) s r in
     let li = row-length g s (r .input) in
     let alone = w .parts .plain refl in
     let f1 = filled-words (filled-none {first = first}) (3 ∷ r .input .len ∷ k ∷ []) (omega (arith, w .start)) e in

@@ -6,7 +6,7 @@ use mathlib.Core.Option.{Option, none}
 use mathlib.Core.List.{List, _∷_, _++_}
 use lib.ListN.{length}
 use Rattle.meaning.specs.Words.{entries}
-use Rattle.meaning.specs.Maps.{mapEntries}
+use Rattle.maps.specs.Forms.{mapOf}
 use Rattle.meaning.specs.Tables.{Table, coverContext}
 use Rattle.meaning.specs.Fault.{coversFault}
 use Rattle.meaning.specs.Cut.{cutRecords}
@@ -87,22 +87,22 @@ pub record ShortParts (r : CoverParts) (k : ℕ) : Type 0 where
 pub record SizedContext (chained : Bool) (s : List ℕ) (r : CoverParts) (size : ℕ) (glyphs lookups : List ℕ) (room : ℕ) : Type 0 where
   pub parts : IsContext chained s r
   pub ready : Ready s glyphs lookups room
-  pub covers : size ≡ coversSize (mapEntries glyphs) s r
+  pub covers : size ≡ coversSize (mapOf glyphs) s r
   pub small : size ≤ 0x3_0000_0000_0000
 
 -- what the functions that write a context ask: its parts are sound, k records stay, the coverages begin at `first`, right after the header, and no place is over 4 GB
 pub record Writes (chained : Bool) (s : List ℕ) (r : CoverParts) (k first : ℕ) (glyphs lookups : List ℕ) (room : ℕ) : Type 0 where
   pub parts : IsContext chained s r
   pub ready : Ready s glyphs lookups room
-  pub count : k ≡ length (recordsLeft (mapEntries lookups) s r)
+  pub count : k ≡ length (recordsLeft (mapOf lookups) s r)
   pub start : first ≡ headerSize chained r k
-  pub ends : first + coversSize (mapEntries glyphs) s r ≤ 0x1_0000_0000
+  pub ends : first + coversSize (mapOf glyphs) s r ≤ 0x1_0000_0000
 
 -- and of these the one that writes the arrays of a chained context
 pub record Arrays (s : List ℕ) (r : CoverParts) (glyphs : List ℕ) (room first : ℕ) : Type 0 where
   pub covers : ContextCovers s r glyphs room
   pub before : 8 + 2 * r .back .len + 2 * r .input .len + 2 * r .ahead .len ≤ first
-  pub ends : first + coversSize (mapEntries glyphs) s r ≤ 0x1_0000_0000
+  pub ends : first + coversSize (mapOf glyphs) s r ≤ 0x1_0000_0000
 
 -- the header of a chained context up to its records, where its coverages begin at `first`
 unfoldable pub arrayWords : ℕ → List (Option (List ℕ)) → List (Option (List ℕ)) → List (Option (List ℕ)) → List ℕ

@@ -6,7 +6,7 @@ use mathlib.Core.Option.{Option, none}
 use mathlib.Core.List.{List}
 use lib.ListN.{length}
 use Rattle.meaning.specs.Words.{words, isSome}
-use Rattle.meaning.specs.Maps.{mapEntries}
+use Rattle.maps.specs.Forms.{mapOf}
 use Rattle.meaning.specs.Parts.{coverage}
 use Rattle.meaning.specs.Tables.{reaches}
 use Rattle.meaning.specs.Fault.{faultThrough, coverageFault}
@@ -83,4 +83,4 @@ pub record Lays (out : List ℕ) (slot p : ℕ) (bs : List (Option (List ℕ))) 
 pub record RowWrites (s : List ℕ) (r : Row) (glyphs : List ℕ) (room slot place : ℕ) : Type 0 where
   pub covers : Covers s r glyphs room
   pub before : slot + 2 * r .len ≤ place
-  pub ends : place + rowSize (mapEntries glyphs) s r ≤ 0x1_0000_0000
+  pub ends : place + rowSize (mapOf glyphs) s r ≤ 0x1_0000_0000

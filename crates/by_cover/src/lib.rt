@@ -18,7 +18,7 @@ ghost use Prim.Native.Nat.{_+_};
 ghost use lib.ListN.{length};
 ghost use lib.Seq.{sets};
 ghost use Rattle.meaning.specs.Words.{bytes2, flat};
-ghost use Rattle.meaning.specs.Maps.{mapEntries};
+ghost use Rattle.maps.specs.Forms.{mapOf};
 ghost use Rattle.meaning.specs.Tables.{coverContext};
 ghost use Rattle.meaning.specs.Fault.{coversFault};
 ghost use Rattle.meaning.specs.Cut.{cut};
@@ -101,7 +101,7 @@ fn cover_parts(chained: bool, src: &[u8]) -> CoverParts
 // What is left of the coverages that a row of offsets reaches.
 fn row_size(src: &[u8], row: Row, glyphs: &[u8], work: &mut [u8]) -> Remains
     requires { ⌜ Covers (now src) row (now glyphs) (length (now work)) ⌝ }
-    ensures { λ r. ⌜ RowRemains (mapEntries (now (glyphs .entry))) (now (src .entry)) row r ⌝ }
+    ensures { λ r. ⌜ RowRemains (mapOf (now (glyphs .entry))) (now (src .entry)) row r ⌝ }
 {
     let mut total = 0;
     let mut i = 0;
@@ -123,7 +123,7 @@ fn row_size(src: &[u8], row: Row, glyphs: &[u8], work: &mut [u8]) -> Remains
 // What is left of the coverages of a context.
 fn covers_size(src: &[u8], parts: CoverParts, glyphs: &[u8], work: &mut [u8]) -> Remains
     requires { ⌜ ContextCovers (now src) parts (now glyphs) (length (now work)) ⌝ }
-    ensures { λ r. ⌜ ContextRemains (mapEntries (now (glyphs .entry))) (now (src .entry)) parts r ⌝ }
+    ensures { λ r. ⌜ ContextRemains (mapOf (now (glyphs .entry))) (now (src .entry)) parts r ⌝ }
 {
     let Remains::Bytes(back) = row_size(src, parts.back, glyphs, work) else {
         return Remains::Empty;
@@ -148,7 +148,7 @@ fn write_slot(
     p: usize,
 ) -> usize
     requires { ⌜ SlotCuts (now src) cover (now glyphs) (now work) slot p ⌝ }
-    ensures { λ r. ⌜ Lays (now (out .entry)) slot p (slotBlock (leftAt (mapEntries (now (glyphs .entry))) (now (src .entry))) cover ∷ []) r (now (out .exit)) ⌝ }
+    ensures { λ r. ⌜ Lays (now (out .entry)) slot p (slotBlock (leftAt (mapOf (now (glyphs .entry))) (now (src .entry))) cover ∷ []) r (now (out .exit)) ⌝ }
 {
     if cover == 0 {
         put(out, slot, 0);
@@ -169,7 +169,7 @@ fn write_row(
     place: usize,
 ) -> usize
     requires { ⌜ RowWrites (now src) row (now glyphs) (length (now work)) slot place ⌝ }
-    ensures { λ r. ⌜ Lays (now (out .entry)) slot place (rowBlocks (mapEntries (now (glyphs .entry))) (now (src .entry)) row) r (now (out .exit)) ⌝ }
+    ensures { λ r. ⌜ Lays (now (out .entry)) slot place (rowBlocks (mapOf (now (glyphs .entry))) (now (src .entry)) row) r (now (out .exit)) ⌝ }
 {
     let mut p = place;
     let mut i = 0;
@@ -192,7 +192,7 @@ fn write_counted(
     place: usize,
 ) -> usize
     requires { ⌜ RowWrites (now src) row (now glyphs) (length (now work)) (at + 2) place ⌝ }
-    ensures { λ r. ⌜ Lays (sets (now (out .entry)) at (bytes2 (row .len))) (at + 2) place (rowBlocks (mapEntries (now (glyphs .entry))) (now (src .entry)) row) r (now (out .exit)) ⌝ }
+    ensures { λ r. ⌜ Lays (sets (now (out .entry)) at (bytes2 (row .len))) (at + 2) place (rowBlocks (mapOf (now (glyphs .entry))) (now (src .entry)) row) r (now (out .exit)) ⌝ }
 {
     let slot = put(out, at, row.len);
     write_row(src, row, glyphs, work, out, slot, place)
@@ -208,7 +208,7 @@ fn write_arrays(
     first: usize,
 )
     requires { ⌜ Arrays (now src) parts (now glyphs) (length (now work)) first ⌝ }
-    ensures { λ _. ⌜ GrownArrays (mapEntries (now (glyphs .entry))) (now (src .entry)) parts (now (out .entry)) first (now (out .exit)) ⌝ }
+    ensures { λ _. ⌜ GrownArrays (mapOf (now (glyphs .entry))) (now (src .entry)) parts (now (out .entry)) first (now (out .exit)) ⌝ }
 {
     let at = 4 + 2 * parts.back.len;
     put(out, 0, 3);
@@ -230,7 +230,7 @@ fn write_chained(
     out: &mut [u8],
 )
     requires { ⌜ Writes true (now src) parts k first (now glyphs) (now lookups) (length (now work)) ⌝ }
-    ensures { λ _. ⌜ now (out .exit) ≡ sets (now (out .entry)) 0 (flat (contextWords true (mapEntries (now (glyphs .entry))) (mapEntries (now (lookups .entry))) (now (src .entry)) parts)) ⌝ }
+    ensures { λ _. ⌜ now (out .exit) ≡ sets (now (out .entry)) 0 (flat (contextWords true (mapOf (now (glyphs .entry))) (mapOf (now (lookups .entry))) (now (src .entry)) parts)) ⌝ }
 {
     write_arrays(src, parts, glyphs, work, out, first);
     let at = 8 + 2 * parts.back.len + 2 * parts.input.len + 2 * parts.ahead.len;
@@ -250,7 +250,7 @@ fn write_plain(
     out: &mut [u8],
 )
     requires { ⌜ Writes false (now src) parts k first (now glyphs) (now lookups) (length (now work)) ⌝ }
-    ensures { λ _. ⌜ now (out .exit) ≡ sets (now (out .entry)) 0 (flat (contextWords false (mapEntries (now (glyphs .entry))) (mapEntries (now (lookups .entry))) (now (src .entry)) parts)) ⌝ }
+    ensures { λ _. ⌜ now (out .exit) ≡ sets (now (out .entry)) 0 (flat (contextWords false (mapOf (now (glyphs .entry))) (mapOf (now (lookups .entry))) (now (src .entry)) parts)) ⌝ }
 {
     let n = parts.input.len;
     put_record(out, 0, 3, n, k);
@@ -278,7 +278,7 @@ fn write_context(
     out: &mut [u8],
 )
     requires { ⌜ Writes chained (now src) parts k first (now glyphs) (now lookups) (length (now work)) ⌝ }
-    ensures { λ _. ⌜ now (out .exit) ≡ sets (now (out .entry)) 0 (flat (contextWords chained (mapEntries (now (glyphs .entry))) (mapEntries (now (lookups .entry))) (now (src .entry)) parts)) ⌝ }
+    ensures { λ _. ⌜ now (out .exit) ≡ sets (now (out .entry)) 0 (flat (contextWords chained (mapOf (now (glyphs .entry))) (mapOf (now (lookups .entry))) (now (src .entry)) parts)) ⌝ }
 {
     if chained {
         write_chained(src, parts, k, first, glyphs, lookups, work, out);
@@ -311,7 +311,7 @@ fn lay(
     out: &mut [u8],
 ) -> Laid
     requires { ⌜ SizedContext chained (now src) parts size (now glyphs) (now lookups) (length (now work)) ⌝ }
-    ensures { λ r. ⌜ outcomeOf r (now (out .exit)) ≡ laidInto (now (out .entry)) (flat (contextWords chained (mapEntries (now (glyphs .entry))) (mapEntries (now (lookups .entry))) (now (src .entry)) parts)) ⌝ }
+    ensures { λ r. ⌜ outcomeOf r (now (out .exit)) ≡ laidInto (now (out .entry)) (flat (contextWords chained (mapOf (now (glyphs .entry))) (mapOf (now (lookups .entry))) (now (src .entry)) parts)) ⌝ }
 {
     let k = records_left(src, parts.records.at, parts.records.len, lookups);
     let first = header_size(chained, parts, k);
@@ -334,7 +334,7 @@ pub fn by_cover(
     out: &mut [u8],
 ) -> Laid
     requires { ⌜ Asks chained (now src) (now glyphs) (now lookups) (length (now work)) ⌝ }
-    ensures { λ r. ⌜ outcomeOf r (now (out .exit)) ≡ written (now (out .entry)) (cut (mapEntries (now (glyphs .entry))) (mapEntries (now (lookups .entry))) (coverContext chained (now (src .entry)))) ⌝ }
+    ensures { λ r. ⌜ outcomeOf r (now (out .exit)) ≡ written (now (out .entry)) (cut (mapOf (now (glyphs .entry))) (mapOf (now (lookups .entry))) (coverContext chained (now (src .entry)))) ⌝ }
 {
     let parts = cover_parts(chained, src);
     let Remains::Bytes(size) = covers_size(src, parts, glyphs, work) else {

@@ -10,7 +10,7 @@ use lib.Seq.{sets, take-at, length-sets}
 use lib.Dec.{eqb}
 use borrow.Author.Tests.{eq-eqb, ne-eqb}
 use Rattle.meaning.specs.Words.{word, words, flat, keys, values, find, push}
-use Rattle.meaning.specs.Maps.{mapEntries}
+use Rattle.maps.specs.Forms.{mapOf}
 use Rattle.meaning.specs.Parts.{coverage}
 use Rattle.meaning.specs.Subset.{Outcome, refused, laidInto}
 use Rattle.laws.specs.Stands.{All, Word, flat-length}
@@ -93,13 +93,13 @@ module _ (kind : Kind) (g l s : List ℕ) (slot n : ℕ) (out : List ℕ) where
   laid-null z = rw (eq-eqb (word s 2) 0 z) refl
 
   module _ {cover : ℕ} (ec : cover ≡ word s 2) (z : cover ≡ 0 → ⊥) where
-    pub kept-from : keptFrom kind g s slot n ≡ keptPlaces (stays kind g s) (mapEntries g) (coverage s cover) (words s slot n)
+    pub kept-from : keptFrom kind g s slot n ≡ keptPlaces (stays kind g s) (mapOf g) (coverage s cover) (words s slot n)
     unfolding keptFrom
     kept-from = rw (ec, ne-eqb (word s 2) 0 (λ e. z (ec ∙ e))) refl
 
-    module _ {to₀ at₀ to at : List ℕ} {k : ℕ} (h : Kept (stays kind g s) (mapEntries g) (coverage s cover) s slot n to₀ at₀ to at k) where
+    module _ {to₀ at₀ to at : List ℕ} {k : ℕ} (h : Kept (stays kind g s) (mapOf g) (coverage s cover) s slot n to₀ at₀ to at k) where
       abbrev kept : List (ℕ × ℕ)
-      kept = keptPlaces (stays kind g s) (mapEntries g) (coverage s cover) (words s slot n)
+      kept = keptPlaces (stays kind g s) (mapOf g) (coverage s cover) (words s slot n)
 
       -- no set is kept
       pub laid-none : k ≡ 0 → refused out 8 ≡ laidWords out (wordsOf kind g s l (keptFrom kind g s slot n))
@@ -117,7 +117,7 @@ module _ (kind : Kind) (g l s : List ℕ) (slot n : ℕ) (out : List ℕ) where
       laid-some nz rt rp {r} e =
           rw kept-from
           (step kept (λ q. nz (h .count ∙ q))
-          (rw (glyphs-back (stays kind g s) (mapEntries g) (coverage s cover) s slot n h rt, places-back (stays kind g s) (mapEntries g) (coverage s cover) s slot n h rp) at e))
+          (rw (glyphs-back (stays kind g s) (mapOf g) (coverage s cover) s slot n h rt, places-back (stays kind g s) (mapOf g) (coverage s cover) s slot n h rp) at e))
         where
           step : (ps : List (ℕ × ℕ)) → (length ps ≡ 0 → ⊥) → r ≡ laidInto out (flat (tableOf kind (keys ps) (setBlocks kind g l s (values ps)))) → r ≡ laidWords out (wordsOf kind g s l ps)
           step [] q f = absurd (q refl)

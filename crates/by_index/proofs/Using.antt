@@ -6,7 +6,7 @@ use mathlib.Core.List.{List, [], _∷_}
 use native.Mathlib.Nat.{zero-add}
 use native.Mathlib.Omega.{arith}
 use Rattle.meaning.specs.Words.{word, words}
-use Rattle.meaning.specs.Maps.{mapEntries}
+use Rattle.maps.specs.Forms.{mapOf}
 use Rattle.laws.specs.Left.{words-left, words-all, words-none}
 use Rattle.pair_pos.specs.Pairs.{setUses}
 use Rattle.by_index.specs.PairTable.{usesAt}
@@ -21,7 +21,7 @@ module _ (g : List ℕ) (f1 f2 : ℕ) (s : List ℕ) (second : Bool) (k : ℕ) (
   using-all = record { within = omega arith; left = ap (usesAt g f1 f2 s second k) (words-all places 0 n) }
 
   module _ {i p : ℕ} (u : Using i) where
-    module _ (h : i < n) (e : p ≡ word places (2 * i)) {b : Bool} (f : b ≡ setUses (mapEntries g) f1 f2 second k s p) where
+    module _ (h : i < n) (e : p ≡ word places (2 * i)) {b : Bool} (f : b ≡ setUses (mapOf g) f1 f2 second k s p) where
       first-is : usesAt g f1 f2 s second k (words places 0 n) ≡ b || usesAt g f1 f2 s second k (words places (0 + 2 * (i + 1)) (n - (i + 1)))
       unfolding usesAt
       first-is = sym (u .left) ∙ rw (words-left places 0 n i h, f, e, zero-add (2 * i)) refl

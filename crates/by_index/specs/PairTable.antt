@@ -8,7 +8,7 @@ use native.Mathlib.Nat.{zero-add}
 use lib.ListN.{length}
 use lib.Dec.{eqb}
 use Rattle.meaning.specs.Words.{word, words, flat, keys, values, find, isSome, bind, push}
-use Rattle.meaning.specs.Maps.{mapEntries}
+use Rattle.maps.specs.Forms.{mapOf}
 use Rattle.meaning.specs.Parts.{coverage}
 use Rattle.meaning.specs.Tables.{Table, Pair, reach, reaches}
 use Rattle.meaning.specs.Cut.{cut, cutPairs, used, keepIf, newFormat, thin, thinPair, keptSets, glyphsOf, setsOf, keptPairs}
@@ -38,7 +38,7 @@ module _ (g : List ℕ) (f1 f2 : ℕ) (s : List ℕ) where
   -- a set at one of these places has a surviving pair whose field k is nonzero, in the value record of its second glyph or of its first
   unfoldable pub usesAt : Bool → ℕ → List ℕ → Bool
   usesAt second k [] = false
-  usesAt second k (p ∷ ps) = setUses (mapEntries g) f1 f2 second k s p || usesAt second k ps
+  usesAt second k (p ∷ ps) = setUses (mapOf g) f1 f2 second k s p || usesAt second k ps
 
   -- the value format with just the fields that the sets at these places use
   unfoldable pub formatAt : Bool → List ℕ → ℕ
@@ -56,13 +56,13 @@ module _ (g : List ℕ) (f1 f2 : ℕ) (s : List ℕ) where
 
   -- what is left of the sets at places, each with the glyph before it
   abbrev leftAt : List (ℕ × ℕ) → List (ℕ × List Pair)
-  leftAt ps = map (λ e. (e .0, pairsLeft (mapEntries g) f1 f2 s (e .1))) ps
+  leftAt ps = map (λ e. (e .0, pairsLeft (mapOf g) f1 f2 s (e .1))) ps
 
   -- the formats are those of the definitions
   used-at : (second : Bool) (k : ℕ) (ps : List (ℕ × ℕ)) → usesAt second k (values ps) ≡ used (valuesOf second) (cond second f2 f1) k (leftAt ps)
   unfolding usesAt values
   used-at second k [] = sym (used-none (valuesOf second) (cond second f2 f1) k)
-  used-at second k (e ∷ ps) = ap (λ (b : Bool). setUses (mapEntries g) f1 f2 second k s (e .1) || b) (used-at second k ps) ∙ sym (used-front (valuesOf second) (cond second f2 f1) k (e .0) (pairsLeft (mapEntries g) f1 f2 s (e .1)) (leftAt ps))
+  used-at second k (e ∷ ps) = ap (λ (b : Bool). setUses (mapOf g) f1 f2 second k s (e .1) || b) (used-at second k ps) ∙ sym (used-front (valuesOf second) (cond second f2 f1) k (e .0) (pairsLeft (mapOf g) f1 f2 s (e .1)) (leftAt ps))
 
   format-is : (second : Bool) (ps : List (ℕ × ℕ)) → formatAt second (values ps) ≡ newFormat (valuesOf second) (cond second f2 f1) (leftAt ps)
   unfolding formatAt
@@ -92,40 +92,40 @@ module _ (g : List ℕ) (f1 f2 : ℕ) (s : List ℕ) where
 
   -- something of the set at a place is left
   abbrev has : ℕ → Bool
-  has p = isSome (cutPairs (mapEntries g) (pairsOf f1 f2 s p))
+  has p = isSome (cutPairs (mapOf g) (pairsOf f1 f2 s p))
 
   -- the kept sets stand at the kept places
-  push-alike : {o : Option (ℕ × List Pair)} {q : Option (ℕ × ℕ)} (ks : List (ℕ × List Pair)) (ps : List (ℕ × ℕ)) → Alike (pairsOf f1 f2 s) (cutPairs (mapEntries g)) has (λ p. refl) (mapEntries g) s o q
+  push-alike : {o : Option (ℕ × List Pair)} {q : Option (ℕ × ℕ)} (ks : List (ℕ × List Pair)) (ps : List (ℕ × ℕ)) → Alike (pairsOf f1 f2 s) (cutPairs (mapOf g)) has (λ p. refl) (mapOf g) s o q
       → (ks ≡ leftAt ps) × All There ps → (push o ks ≡ leftAt (push q ps)) × All There (push q ps)
   unfolding push
   push-alike ks ps Alike.neither h = h
   push-alike ks ps (Alike.both {n} {p} {a} z t e) h =
-      let left : a ≡ pairsLeft (mapEntries g) f1 f2 s p = let k = sym e ∙ set-some (mapEntries g) (pairsOf f1 f2 s p) t in cc in
+      let left : a ≡ pairsLeft (mapOf g) f1 f2 s p = let k = sym e ∙ set-some (mapOf g) (pairsOf f1 f2 s p) t in cc in
       (ap₂ (λ (x : List Pair) (l : List (ℕ × List Pair)). (n, x) ∷ l) left (h .0), (z, h .1))
 
-  kept-pairs : (cov : List ℕ) (slot n : ℕ) → let ps = keptPlaces has (mapEntries g) cov (words s slot n) in
-      (keptSets (cutPairs (mapEntries g)) (mapEntries g) cov (reaches (pairsOf f1 f2 s) s 0 slot n) ≡ leftAt ps) × All There ps
+  kept-pairs : (cov : List ℕ) (slot n : ℕ) → let ps = keptPlaces has (mapOf g) cov (words s slot n) in
+      (keptSets (cutPairs (mapOf g)) (mapOf g) cov (reaches (pairsOf f1 f2 s) s 0 slot n) ≡ leftAt ps) × All There ps
   unfolding keptSets keptPlaces reaches words
   kept-pairs [] slot n = (refl, tt)
   kept-pairs (c ∷ cov) slot zero = (refl, tt)
   kept-pairs (c ∷ cov) slot (suc n) =
-      push-alike (keptSets (cutPairs (mapEntries g)) (mapEntries g) cov (reaches (pairsOf f1 f2 s) s 0 (slot + 2) n)) (keptPlaces has (mapEntries g) cov (words s (slot + 2) n))
-      (alike (pairsOf f1 f2 s) (cutPairs (mapEntries g)) has (λ p. refl) (mapEntries g) s (find (mapEntries g) c) slot) (kept-pairs cov (slot + 2) n)
+      push-alike (keptSets (cutPairs (mapOf g)) (mapOf g) cov (reaches (pairsOf f1 f2 s) s 0 (slot + 2) n)) (keptPlaces has (mapOf g) cov (words s (slot + 2) n))
+      (alike (pairsOf f1 f2 s) (cutPairs (mapOf g)) has (λ p. refl) (mapOf g) s (find (mapOf g) c) slot) (kept-pairs cov (slot + 2) n)
 
 -- what the sets kept by their places lay, with the formats that they ask for, is what is left of the table
 module _ (g l s out : List ℕ) where
   abbrev kept : List (ℕ × ℕ)
   kept = keptFrom (pairKind (word s 4) (word s 6) 0 0) g s 10 (word s 8)
 
-  pub pairs-laid : laidWords out (wordsOf (kindAt g (word s 4) (word s 6) s (values kept)) g s l kept) ≡ written out (cut (mapEntries g) (mapEntries l) (pairTable s))
+  pub pairs-laid : laidWords out (wordsOf (kindAt g (word s 4) (word s 6) s (values kept)) g s l kept) ≡ written out (cut (mapOf g) (mapOf l) (pairTable s))
   unfolding cut reach keptFrom bind
   pairs-laid = rw zero-add (step (eqb (word s 2) 0))
     where
       ps : List (ℕ × ℕ)
-      ps = keptPlaces (stays (pairKind (word s 4) (word s 6) 0 0) g s) (mapEntries g) (coverage s (word s 2)) (words s 10 (word s 8))
+      ps = keptPlaces (stays (pairKind (word s 4) (word s 6) 0 0) g s) (mapOf g) (coverage s (word s 2)) (words s 10 (word s 8))
 
       step : (t : Bool) → laidWords out (wordsOf (kindAt g (word s 4) (word s 6) s (values (cond t [] ps))) g s l (cond t [] ps))
-          ≡ written out (bind (cond t none (some (coverage s (word s 2)))) (λ cov. keptPairs (word s 4) (word s 6) (keptSets (cutPairs (mapEntries g)) (mapEntries g) cov (reaches (pairsOf (word s 4) (word s 6) s) s 0 10 (word s 8)))))
+          ≡ written out (bind (cond t none (some (coverage s (word s 2)))) (λ cov. keptPairs (word s 4) (word s 6) (keptSets (cutPairs (mapOf g)) (mapOf g) cov (reaches (pairsOf (word s 4) (word s 6) s) s 0 10 (word s 8)))))
       step true = places-laid g (word s 4) (word s 6) s l out [] tt
       step false =
           let k = kept-pairs g (word s 4) (word s 6) s (coverage s (word s 2)) 10 (word s 8) in

@@ -11,7 +11,7 @@ use lib.Seq.{sets}
 use lib.Dec.{eqb, leb}
 use borrow.Author.Tests.{eq-eqb, ne-eqb, leb-true}
 use Rattle.meaning.specs.Words.{word, words, inside, flat, keys, values, isSome, bind}
-use Rattle.meaning.specs.Maps.{mapEntries}
+use Rattle.maps.specs.Forms.{mapOf}
 use Rattle.meaning.specs.Parts.{coverage, coverageSound}
 use Rattle.meaning.specs.Tables.{Table, Rule, reach, reaches, ruleSet, ligatureSet}
 use Rattle.meaning.specs.Fault.{faultThrough, coverageFault, enough, headerFault}
@@ -66,7 +66,7 @@ module _ (good : Bool) (slot : ℕ) (faultAt : ℕ → Option ℕ) (s : List ℕ
 module _ (kind : Kind) (g s : List ℕ) where
   -- the kept sets: for each the new glyph that indexes it and its place, by the n offsets from `slot` on; none where the coverage is null
   unfoldable pub keptFrom : ℕ → ℕ → List (ℕ × ℕ)
-  keptFrom slot n = cond (eqb (word s 2) 0) [] (keptPlaces (stays kind g s) (mapEntries g) (coverage s (word s 2)) (words s slot n))
+  keptFrom slot n = cond (eqb (word s 2) 0) [] (keptPlaces (stays kind g s) (mapOf g) (coverage s (word s 2)) (words s slot n))
 
   module _ (l : List ℕ) where
     -- the words of the table of kept sets, if one is kept
@@ -94,16 +94,16 @@ module _ {A : Type 0} (F : A → List ℕ) (keep : List (ℕ × A) → Option Ta
 
   -- what the sets kept by their places lay is what is left of the table
   module _ (read : ℕ → A) (cutOne : A → Option A) (agrees : (p : ℕ) → stays kind g s p ≡ isSome (cutOne (read p))) (words-of : (p : ℕ) (a : A) → cutOne (read p) ≡ some a → F a ≡ wordsAt kind g l s p) where
-    pub table-laid : (slot n : ℕ) → laidWords out (wordsOf kind g s l (keptFrom kind g s slot n)) ≡ written out (bind (reach (coverage s) s 0 2) (λ cov. keep (keptSets cutOne (mapEntries g) cov (reaches read s 0 slot n))))
+    pub table-laid : (slot n : ℕ) → laidWords out (wordsOf kind g s l (keptFrom kind g s slot n)) ≡ written out (bind (reach (coverage s) s 0 2) (λ cov. keep (keptSets cutOne (mapOf g) cov (reaches read s 0 slot n))))
     unfolding reach keptFrom bind laidWords wordsOf written
     table-laid slot n = rw zero-add (step (eqb (word s 2) 0))
       where
-        step : (t : Bool) → laidWords out (wordsOf kind g s l (cond t [] (keptPlaces (stays kind g s) (mapEntries g) (coverage s (word s 2)) (words s slot n))))
-            ≡ written out (bind (cond t none (some (coverage s (word s 2)))) (λ cov. keep (keptSets cutOne (mapEntries g) cov (reaches read s 0 slot n))))
+        step : (t : Bool) → laidWords out (wordsOf kind g s l (cond t [] (keptPlaces (stays kind g s) (mapOf g) (coverage s (word s 2)) (words s slot n))))
+            ≡ written out (bind (cond t none (some (coverage s (word s 2)))) (λ cov. keep (keptSets cutOne (mapOf g) cov (reaches read s 0 slot n))))
         step true = refl
         step false =
-            let k = kept-is read cutOne (stays kind g s) agrees (mapEntries g) s F (wordsAt kind g l s) words-of (coverage s (word s 2)) slot n in
-            kept-laid (keptSets cutOne (mapEntries g) (coverage s (word s 2)) (reaches read s 0 slot n)) (keptPlaces (stays kind g s) (mapEntries g) (coverage s (word s 2)) (words s slot n)) (k .0) (k .1)
+            let k = kept-is read cutOne (stays kind g s) agrees (mapOf g) s F (wordsAt kind g l s) words-of (coverage s (word s 2)) slot n in
+            kept-laid (keptSets cutOne (mapOf g) (coverage s (word s 2)) (reaches read s 0 slot n)) (keptPlaces (stays kind g s) (mapOf g) (coverage s (word s 2)) (words s slot n)) (k .0) (k .1)
 
 -- a context by glyph, and the table of a ligature source, as the source says them
 abbrev pub glyphContext : Bool → List ℕ → Table
@@ -128,7 +128,7 @@ module _ (g l s : List ℕ) where
   rule-words true p rs e = let h = rw e at (set-block true (mapsOf g g g l) s p) in cc
 
   module _ (out : List ℕ) where
-    pub rules-laid : (chained : Bool) → laidWords out (wordsOf (ruleKind chained) g s l (keptFrom (ruleKind chained) g s 6 (word s 4))) ≡ written out (cut (mapEntries g) (mapEntries l) (glyphContext chained s))
+    pub rules-laid : (chained : Bool) → laidWords out (wordsOf (ruleKind chained) g s l (keptFrom (ruleKind chained) g s 6 (word s 4))) ≡ written out (cut (mapOf g) (mapOf l) (glyphContext chained s))
     unfolding cut layout
     rules-laid chained =
         table-laid (setWords (ruleWords chained)) (keptByGlyph chained) (Table.by-glyph chained) refl (λ e ks. refl) (λ gs ss. refl) (ruleKind chained) (step chained) g l s out
@@ -138,8 +138,8 @@ module _ (g l s : List ℕ) where
         step false gs bs = refl
         step true gs bs = refl
 
-    pub ligatures-laid : laidWords out (wordsOf Ligatures g s l (keptFrom Ligatures g s 6 (word s 4))) ≡ written out (cut (mapEntries g) (mapEntries l) (ligatureTable s))
+    pub ligatures-laid : laidWords out (wordsOf Ligatures g s l (keptFrom Ligatures g s 6 (word s 4))) ≡ written out (cut (mapOf g) (mapOf l) (ligatureTable s))
     unfolding cut layout
     ligatures-laid =
         table-laid (setWords ligatureWords) keptLigatures Table.ligatures refl (λ e ks. refl) (λ gs ss. refl) Ligatures (λ gs bs. refl) g l s out
-        (ligatureSet s) (cutLigatures (mapEntries g)) (λ p. refl) (λ p xs e. sym (Ligature.set-kept g s p e)) 6 (word s 4)
+        (ligatureSet s) (cutLigatures (mapOf g)) (λ p. refl) (λ p xs e. sym (Ligature.set-kept g s p e)) 6 (word s 4)

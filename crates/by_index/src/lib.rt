@@ -24,7 +24,7 @@ ghost use Prim.Native.Nat.{_+_, _*_, _≤_, _<_};
 ghost use mathlib.Core.List.{[], _∷_, _++_};
 ghost use lib.ListN.{length};
 ghost use Rattle.meaning.specs.Words.{ascends, keys};
-ghost use Rattle.meaning.specs.Maps.{mapEntries};
+ghost use Rattle.maps.specs.Forms.{mapOf};
 ghost use Rattle.meaning.specs.Parts.{coverage, coverageSound};
 ghost use Rattle.laws.specs.KeptPlaces.{Kept};
 ghost use Rattle.laws.specs.Written.{Wrote};
@@ -41,8 +41,8 @@ ghost use Rattle.by_index.specs.Whole.{Asks, keptFrom, wordsOf, laidWord
 
 // The new number of a covered glyph, if the set at `at` is kept for it.
 fn kept_for(kind: Kind, src: &[u8], glyph: usize, at: usize, glyphs: &[u8]) -> Found
-    requires { ⌜ (at < 65536) × (ascends (keys (mapEntries (now glyphs))) ≡ true) ⌝ }
-    ensures { λ r. ⌜ KeptFor (stays kind (now (glyphs .entry)) (now (src .entry))) (mapEntries (now (glyphs .entry))) glyph at r ⌝ }
+    requires { ⌜ (at < 65536) × (ascends (keys (mapOf (now glyphs))) ≡ true) ⌝ }
+    ensures { λ r. ⌜ KeptFor (stays kind (now (glyphs .entry)) (now (src .entry))) (mapOf (now (glyphs .entry))) glyph at r ⌝ }
 {
     let Found::New(new) = find(glyphs, glyph) else {
         return Found::Gone;
@@ -68,8 +68,8 @@ pub fn keep_sets(
     to: &mut [u8],
     places: &mut [u8],
 ) -> usize
-    requires { ⌜ (coverageSound (now src) cover ≡ true) × (length (coverage (now src) cover) ≤ n) × (slot < 65536) × (ascends (keys (mapEntries (now glyphs))) ≡ true) ⌝ }
-    ensures { λ r. ⌜ Kept (stays kind (now (glyphs .entry)) (now (src .entry))) (mapEntries (now (glyphs .entry))) (coverage (now (src .entry)) cover) (now (src .entry)) slot n (now (to .entry)) (now (places .entry)) (now (to .exit)) (now (places .exit)) r ⌝ }
+    requires { ⌜ (coverageSound (now src) cover ≡ true) × (length (coverage (now src) cover) ≤ n) × (slot < 65536) × (ascends (keys (mapOf (now glyphs))) ≡ true) ⌝ }
+    ensures { λ r. ⌜ Kept (stays kind (now (glyphs .entry)) (now (src .entry))) (mapOf (now (glyphs .entry))) (coverage (now (src .entry)) cover) (now (src .entry)) slot n (now (to .entry)) (now (places .entry)) (now (to .exit)) (now (places .exit)) r ⌝ }
 {
     let m = count(src, cover);
     let mut k = 0;
@@ -190,7 +190,7 @@ pub fn rules(
     out: &mut [u8],
 ) -> Laid
     requires { ⌜ Asks (now src) (now glyphs) (now lookups) (word (now src) 4) (now to) (now places) ⌝ }
-    ensures { λ r. ⌜ outcomeOf r (now (out .exit)) ≡ written (now (out .entry)) (cut (mapEntries (now (glyphs .entry))) (mapEntries (now (lookups .entry))) (glyphContext chained (now (src .entry)))) ⌝ }
+    ensures { λ r. ⌜ outcomeOf r (now (out .exit)) ≡ written (now (out .entry)) (cut (mapOf (now (glyphs .entry))) (mapOf (now (lookups .entry))) (glyphContext chained (now (src .entry)))) ⌝ }
 {
     if chained {
         return lay_kept(Kind::ChainedRules, src, glyphs, lookups, to, places, out);
@@ -208,7 +208,7 @@ pub fn ligatures(
     out: &mut [u8],
 ) -> Laid
     requires { ⌜ Asks (now src) (now glyphs) (now lookups) (word (now src) 4) (now to) (now places) ⌝ }
-    ensures { λ r. ⌜ outcomeOf r (now (out .exit)) ≡ written (now (out .entry)) (cut (mapEntries (now (glyphs .entry))) (mapEntries (now (lookups .entry))) (ligatureTable (now (src .entry)))) ⌝ }
+    ensures { λ r. ⌜ outcomeOf r (now (out .exit)) ≡ written (now (out .entry)) (cut (mapOf (now (glyphs .entry))) (mapOf (now (lookups .entry))) (ligatureTable (now (src .entry)))) ⌝ }
 {
     lay_kept(Kind::Ligatures, src, glyphs, lookups, to, places, out)
 }
@@ -224,7 +224,7 @@ fn uses(
     n: usize,
     glyphs: &[u8],
 ) -> bool
-    requires { ⌜ (n < 65536) × (isField k ≡ true) × (ascends (keys (mapEntries (now glyphs))) ≡ true) ⌝ }
+    requires { ⌜ (n < 65536) × (isField k ≡ true) × (ascends (keys (mapOf (now glyphs))) ≡ true) ⌝ }
     ensures { λ r. ⌜ r ≡ usesAt (now (glyphs .entry)) f1 f2 (now (src .entry)) second k (words (now (places .entry)) 0 n) ⌝ }
 {
     let mut i = 0;
@@ -247,7 +247,7 @@ fn new_format(
     n: usize,
     glyphs: &[u8],
 ) -> usize
-    requires { ⌜ (n < 65536) × (ascends (keys (mapEntries (now glyphs))) ≡ true) ⌝ }
+    requires { ⌜ (n < 65536) × (ascends (keys (mapOf (now glyphs))) ≡ true) ⌝ }
     ensures { λ r. ⌜ r ≡ formatAt (now (glyphs .entry)) f1 f2 (now (src .entry)) second (words (now (places .entry)) 0 n) ⌝ }
 {
     let a = keep_if(uses(src, f1, f2, second, 1, places, n, glyphs), 1);
@@ -288,7 +288,7 @@ pub fn pairs(
     out: &mut [u8],
 ) -> Laid
     requires { ⌜ Asks (now src) (now glyphs) (now lookups) (word (now src) 8) (now to) (now places) ⌝ }
-    ensures { λ r. ⌜ outcomeOf r (now (out .exit)) ≡ written (now (out .entry)) (cut (mapEntries (now (glyphs .entry))) (mapEntries (now (lookups .entry))) (pairTable (now (src .entry)))) ⌝ }
+    ensures { λ r. ⌜ outcomeOf r (now (out .exit)) ≡ written (now (out .entry)) (cut (mapOf (now (glyphs .entry))) (mapOf (now (lookups .entry))) (pairTable (now (src .entry)))) ⌝ }
 {
     let cover = word_at(src, 2);
     if cover == 0 {

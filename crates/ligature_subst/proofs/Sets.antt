@@ -11,7 +11,7 @@ use native.Mathlib.Omega.{arith}
 use lib.ListN.{length, length-append, length-map}
 use lib.Seq.{sets}
 use Rattle.meaning.specs.Words.{word, bytes2, flat, isSome}
-use Rattle.meaning.specs.Maps.{mapEntries}
+use Rattle.maps.specs.Forms.{mapOf}
 use Rattle.meaning.specs.Tables.{Ligature, ligature, ligatureSet}
 use Rattle.meaning.specs.Cut.{cutLigature, cutLigatures}
 use Rattle.meaning.specs.Layout.{ligatureWords, setWords, offsets, blocks}
@@ -28,10 +28,10 @@ has-words x = omega arith
 module _ (g s : List ℕ) (at n : ℕ) where
   -- what is left of the ligatures that n offsets after the set's count reach, from the i-th on, and of all
   abbrev from : ℕ → List Ligature
-  from i = members (ligature s) (cutLigature (mapEntries g)) s at (at + 2 + 2 * i) (n - i)
+  from i = members (ligature s) (cutLigature (mapOf g)) s at (at + 2 + 2 * i) (n - i)
 
   abbrev all : List Ligature
-  all = members (ligature s) (cutLigature (mapEntries g)) s at (at + 2) n
+  all = members (ligature s) (cutLigature (mapOf g)) s at (at + 2) n
 
   -- these are what is left of the set, if it has n offsets
   all-left : n ≡ word s at → all ≡ ligaturesLeft g s at
@@ -41,15 +41,15 @@ module _ (g s : List ℕ) (at n : ℕ) where
   module _ {i off : ℕ} (h : i < n) (e : off ≡ word s (at + 2 + 2 * i)) where
     -- the i-th ligature is passed over: its offset is null, or it goes
     null-passed : off ≡ 0 → from i ≡ from (i + 1)
-    null-passed z = passed-null (ligature s) (cutLigature (mapEntries g)) ligatureWords has-words s at (at + 2) n h e z
+    null-passed z = passed-null (ligature s) (cutLigature (mapOf g)) ligatureWords has-words s at (at + 2) n h e z
 
     gone-passed : (off ≡ 0 → ⊥) → {w : ℕ} → w ≡ 2 * length (ligatureLeft g s (at + off)) → w ≡ 0 → from i ≡ from (i + 1)
     unfolding ligatureLeft
-    gone-passed z f v = passed-gone (ligature s) (cutLigature (mapEntries g)) ligatureWords has-words s at (at + 2) n h e z f v
+    gone-passed z f v = passed-gone (ligature s) (cutLigature (mapOf g)) ligatureWords has-words s at (at + 2) n h e z f v
 
 -- What the loop of `intersects_lig_glyph` keeps: whether one is left among the rest is the whole answer.
 pub record Sought (g s : List ℕ) (at n i : ℕ) : Type 0 where
-  pub seeking : Seeking (ligature s) (cutLigature (mapEntries g)) ligatureWords has-words s at (at + 2) n i
+  pub seeking : Seeking (ligature s) (cutLigature (mapOf g)) ligatureWords has-words s at (at + 2) n i
 
 module _ {g s : List ℕ} {at n : ℕ} where
   pub sought-all : Sought g s at n 0
@@ -64,16 +64,16 @@ module _ {g s : List ℕ} {at n : ℕ} where
       sought-gone v = record { seeking = seeking-next _ _ _ _ _ _ _ _ (k .seeking) h (gone-passed g s at n h e z f v) }
 
       -- the first that is left settles it
-      pub sought-found : n ≡ word s at → (w ≡ 0 → ⊥) → true ≡ isSome (cutLigatures (mapEntries g) (ligatureSet s at))
+      pub sought-found : n ≡ word s at → (w ≡ 0 → ⊥) → true ≡ isSome (cutLigatures (mapOf g) (ligatureSet s at))
       unfolding ligatureLeft
       sought-found c v = rw (set-cut g s at, ← (all-left g s at n c)) (seeking-found _ _ _ _ _ _ _ _ (k .seeking) h e z f v)
 
-  pub sought-end : {i : ℕ} → Sought g s at n i → n ≤ i → n ≡ word s at → false ≡ isSome (cutLigatures (mapEntries g) (ligatureSet s at))
+  pub sought-end : {i : ℕ} → Sought g s at n i → n ≤ i → n ≡ word s at → false ≡ isSome (cutLigatures (mapOf g) (ligatureSet s at))
   sought-end k h c = rw (set-cut g s at, ← (all-left g s at n c)) (seeking-end _ _ _ _ _ _ _ _ (k .seeking) h)
 
 -- What the loop of `count_left` keeps: those counted so far and those left among the rest are all.
 pub record Counted (g s : List ℕ) (at n k i : ℕ) : Type 0 where
-  pub counting : Counting (ligature s) (cutLigature (mapEntries g)) ligatureWords has-words s at (at + 2) n k i
+  pub counting : Counting (ligature s) (cutLigature (mapOf g)) ligatureWords has-words s at (at + 2) n k i
   pub few : k ≤ i
 
 module _ {g s : List ℕ} {at n : ℕ} where
@@ -97,7 +97,7 @@ module _ {g s : List ℕ} {at n : ℕ} where
 
 -- What the loop of `set_size` keeps: the bytes added so far and those of the rest are all.
 pub record Added (g s : List ℕ) (at n total i : ℕ) : Type 0 where
-  pub sizing : Sizing (ligature s) (cutLigature (mapEntries g)) ligatureWords has-words s at (at + 2) n total i
+  pub sizing : Sizing (ligature s) (cutLigature (mapOf g)) ligatureWords has-words s at (at + 2) n total i
   pub few : total ≤ 0x20002 * i
 
 module _ {g s : List ℕ} {at n : ℕ} where
@@ -123,7 +123,7 @@ module _ {g s : List ℕ} {at n : ℕ} where
 
 -- What the loop of `write_set` keeps: what is laid down so far, and what is left to lay down, is all; k are left, and p is the next one's offset from `pos`.
 pub record Spread (g s : List ℕ) (at n k pos : ℕ) (out₀ out : List ℕ) (slot p i : ℕ) : Type 0 where
-  pub laying : Laying (ligature s) (cutLigature (mapEntries g)) ligatureWords has-words s at (at + 2) n pos (pos + 2) (2 + 2 * k) out₀ out slot p i
+  pub laying : Laying (ligature s) (cutLigature (mapOf g)) ligatureWords has-words s at (at + 2) n pos (pos + 2) (2 + 2 * k) out₀ out slot p i
   pub count : k ≡ length (all g s at n)
   pub near : slot ≤ pos + 2 + 2 * k
   pub few : p ≤ 2 + 2 * k + 0x20000 * i

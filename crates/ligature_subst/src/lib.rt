@@ -13,7 +13,7 @@ ghost use mathlib.Core.Path.{_≡_};
 ghost use Prim.Native.Nat.{_+_, _-_, _*_, _≤_, _<_};
 ghost use lib.ListN.{length};
 ghost use Rattle.meaning.specs.Words.{isSome};
-ghost use Rattle.meaning.specs.Maps.{mapEntries};
+ghost use Rattle.maps.specs.Forms.{mapOf};
 ghost use Rattle.meaning.specs.Tables.{ligatureSet};
 ghost use Rattle.meaning.specs.Fault.{faultThrough, ligatureFault, setFault};
 ghost use Rattle.meaning.specs.Cut.{cutLigatures};
@@ -116,7 +116,7 @@ pub fn check_set(src: &[u8], at: usize) -> Fault
 // Whether the set at `at` survives: one of its ligatures does.
 pub fn intersects_lig_glyph(src: &[u8], at: usize, glyphs: &[u8]) -> bool
     requires { ⌜ (at < 0x1_0000_0000) × Ascends (now glyphs) ⌝ }
-    ensures { λ r. ⌜ r ≡ isSome (cutLigatures (mapEntries (now (glyphs .entry))) (ligatureSet (now (src .entry)) at)) ⌝ }
+    ensures { λ r. ⌜ r ≡ isSome (cutLigatures (mapOf (now (glyphs .entry))) (ligatureSet (now (src .entry)) at)) ⌝ }
 {
     let n = word_at(src, at);
     let mut i = 0;

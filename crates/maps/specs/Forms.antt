@@ -9,13 +9,14 @@ use native.Mathlib.Numerals.{add-one}
 use native.Mathlib.Nat.{zero-add}
 use native.Mathlib.Omega.{arith}
 use native.Mathlib.Decide.{decLt}
-use lib.ListN.{length, getD, set, take, length-set}
-use lib.Seq.{sets, ext-getD, getD-set-same, getD-set-other, take-suc}
+use lib.ListN.{length, getD, set, take, length-set, List·getD-eq-default}
+use lib.Seq.{sets, length-sets, ext-getD, getD-set-same, getD-set-other, take-suc, take-all}
 use lib.Dec.{eqb}
-use borrow.Author.Tests.{eq-eqb, ne-eqb, eqb-true}
+use borrow.Author.Tests.{eq-eqb, ne-eqb, eqb-true, eqb-false}
 use Rattle.meaning.specs.Words.{word, entries, flat, bytes2, find, keys, ascends}
 use Rattle.meaning.specs.Maps.{mapEntries, goodGlyphs, goodLookups}
 use Rattle.laws.specs.Left.{entries-length, entries-at}
+use Rattle.laws.specs.Ascends.{ascends-rise, map-length, map-key}
 use Rattle.laws.specs.Runs.{both}
 
 -- those of these entries whose first word is not 0, each with its index, from i on, and its second word
@@ -111,3 +112,168 @@ module _ (m : List ℕ) (form : length m % 4 ≡ 1) (x : ℕ) where
 
     pub number-new : {w n : ℕ} → w ≡ word m (4 * x) → (w ≡ 0 → ⊥) → n ≡ word m (4 * x + 2) → find (mapOf m) x ≡ some n
     number-new e z f = number-is ∙ rw (ne-eqb (word m (4 * x)) 0 (λ q. z (e ∙ q)), sym f) refl
+
+-- Laying a map out by number: each entry is written at the place of its old number, in bytes that were all 0.
+
+-- what is read of a list into which bytes were written: before them, after them, and among them
+read-before : (vs t : List ℕ) (p q : ℕ) → q < p → getD (sets t p vs) q 0 ≡ getD t q 0
+read-before [] t p q h = refl
+read-before (a ∷ vs) t p q h = read-before vs (set t p a) (suc p) q (omega arith) ∙ getD-set-other t p q a 0 (λ e. omega arith)
+
+read-after : (vs t : List ℕ) (p q : ℕ) → p + length vs ≤ q → getD (sets t p vs) q 0 ≡ getD t q 0
+read-after [] t p q h = refl
+read-after (a ∷ vs) t p q h = read-after vs (set t p a) (suc p) q (omega arith) ∙ getD-set-other t p q a 0 (λ e. omega arith)
+
+read-among : (vs t : List ℕ) (p k : ℕ) → k < length vs → p + length vs ≤ length t → getD (sets t p vs) (p + k) 0 ≡ getD vs k 0
+read-among [] t p k h l = absurd (omega arith)
+read-among (a ∷ vs) t p zero h l =
+    let e : p + 0 ≡ p = omega arith in
+    rw e (read-before vs (set t p a) (suc p) p (omega arith) ∙ getD-set-same t p a 0 (omega arith))
+read-among (a ∷ vs) t p (suc k) h l =
+    let e : p + suc k ≡ suc p + k = omega arith in
+    rw e (read-among vs (set t p a) (suc p) k (omega arith) (omega (arith, length-set t p a)))
+
+-- writing an entry at the place of a number sets the number's entry
+module _ (t : List ℕ) (x v : ℕ) (h : x < length t / 4) (w : v < 65536) where
+  abbrev next : List ℕ
+  next = sets t (4 * x) (flat (1 ∷ v ∷ []))
+
+  four : length (flat (1 ∷ v ∷ [])) ≡ 4
+  unfolding flat bytes2
+  four = refl
+
+  flag-is : word next (4 * x) ≡ 1
+  unfolding word flat bytes2
+  flag-is =
+      let e : 4 * x + 0 ≡ 4 * x = omega arith in
+      rw (rw e at (read-among (flat (1 ∷ v ∷ [])) t (4 * x) 0 (omega arith) (omega arith)), read-among (flat (1 ∷ v ∷ [])) t (4 * x) 1 (omega arith) (omega arith)) refl
+
+  value-is : word next (4 * x + 2) ≡ v
+  unfolding word flat bytes2
+  value-is =
+      let e : 4 * x + 2 + 1 ≡ 4 * x + 3 = omega arith in
+      rw (e, read-among (flat (1 ∷ v ∷ [])) t (4 * x) 2 (omega arith) (omega arith), read-among (flat (1 ∷ v ∷ [])) t (4 * x) 3 (omega arith) (omega arith)) (omega arith)
+
+  other-byte : (q : ℕ) → (4 * x ≤ q → 4 * x + 4 ≤ q) → getD next q 0 ≡ getD t q 0
+  other-byte q k = step (decLt q (4 * x))
+    where
+      step : Dec (q < 4 * x) → getD next q 0 ≡ getD t q 0
+      step (yes l) = read-before (flat (1 ∷ v ∷ [])) t (4 * x) q l
+      step (no l) = read-after (flat (1 ∷ v ∷ [])) t (4 * x) q (omega (arith, four, k (omega arith)))
+
+  other-word : (i : ℕ) → (i ≡ x → ⊥) → (word next (4 * i) ≡ word t (4 * i)) × (word next (4 * i + 2) ≡ word t (4 * i + 2))
+  unfolding word
+  other-word i d = (
+    rw (other-byte (4 * i) (λ k. omega arith), other-byte (4 * i + 1) (λ k. omega arith)) refl,
+    rw (other-byte (4 * i + 2) (λ k. omega arith), other-byte (4 * i + 2 + 1) (λ k. omega arith)) refl,
+  )
+
+  pub entry-set : mapEntries next ≡ set (mapEntries t) x (1, v)
+  unfolding mapEntries
+  entry-set =
+      ext-getD (0, 0) (entries next 0 (length next / 4)) (set (entries t 0 (length t / 4)) x (1, v))
+      (omega (arith, entries-length next 0 (length next / 4), entries-length t 0 (length t / 4), length-set (entries t 0 (length t / 4)) x (1, v), length-sets t (4 * x) (flat (1 ∷ v ∷ []))))
+      (λ i l. at i (omega (arith, entries-length next 0 (length next / 4), length-sets t (4 * x) (flat (1 ∷ v ∷ [])))) (eqb i x) refl)
+    where
+      here : getD (entries next 0 (length next / 4)) x (0, 0) ≡ getD (set (entries t 0 (length t / 4)) x (1, v)) x (0, 0)
+      here =
+          rw zero-add at (entries-at next 0 (length next / 4) x (omega (arith, length-sets t (4 * x) (flat (1 ∷ v ∷ [])))))
+          ∙ ap₂ (λ (a b : ℕ). (a, b)) flag-is value-is
+          ∙ sym (getD-set-same (entries t 0 (length t / 4)) x (1, v) (0, 0) (omega (arith, entries-length t 0 (length t / 4))))
+
+      at : (i : ℕ) → i < length t / 4 → (b : Bool) → eqb i x ≡ b → getD (entries next 0 (length next / 4)) i (0, 0) ≡ getD (set (entries t 0 (length t / 4)) x (1, v)) i (0, 0)
+      at i l true e = rw (eqb-true i x e) here
+      at i l false e =
+          let d = eqb-false i x e in
+          rw zero-add at (entries-at next 0 (length next / 4) i (omega (arith, length-sets t (4 * x) (flat (1 ∷ v ∷ [])))))
+          ∙ ap₂ (λ (a b : ℕ). (a, b)) (other-word i d .0) (other-word i d .1)
+          ∙ sym (rw zero-add at (entries-at t 0 (length t / 4) i l))
+          ∙ sym (getD-set-other (entries t 0 (length t / 4)) x i (1, v) (0, 0) d)
+
+-- nothing is present from the index k on
+abbrev Blank : ℕ → List (ℕ × ℕ) → Type 0
+Blank k es = (j : ℕ) → k ≤ j → getD es j (0, 0) .0 ≡ 0
+
+present-blank : (i : ℕ) (es : List (ℕ × ℕ)) → Blank 0 es → present i es ≡ []
+unfolding present
+present-blank i [] h = refl
+present-blank i (e ∷ es) h = rw (eq-eqb (e .0) 0 (h 0 (omega arith))) (present-blank (i + 1) es (λ j l. h (suc j) (omega arith)))
+
+-- the entry that is set at an index from which on nothing is present comes last
+present-set : (i x v : ℕ) (es : List (ℕ × ℕ)) → x < length es → Blank x es → present i (set es x (1, v)) ≡ present i es ++ ((i + x, v) ∷ [])
+unfolding present
+present-set i x v [] l h = absurd (omega arith)
+present-set i zero v (e ∷ es) l h =
+    let q : i + 0 ≡ i = omega arith in
+    rw (eq-eqb (e .0) 0 (h 0 (omega arith)), present-blank (i + 1) es (λ j k. h (suc j) (omega arith)), q) refl
+present-set i (suc x) v (e ∷ es) l h = step (eqb (e .0) 0) (present-set (i + 1) x v es (omega arith) (λ j k. h (suc j) (omega arith)))
+  where
+    step : (b : Bool) → present (i + 1) (set es x (1, v)) ≡ present (i + 1) es ++ ((i + 1 + x, v) ∷ [])
+        → cond b (present (i + 1) (set es x (1, v))) ((i, e .1) ∷ present (i + 1) (set es x (1, v))) ≡ cond b (present (i + 1) es) ((i, e .1) ∷ present (i + 1) es) ++ ((i + suc x, v) ∷ [])
+    step true r = let q : i + suc x ≡ i + 1 + x = omega arith in rw q r
+    step false r = let q : i + suc x ≡ i + 1 + x = omega arith in rw q (ap (λ (es : List (ℕ × ℕ)). (i, e .1) ∷ es) r)
+
+-- a map's entries, as many as there are and one of them
+entry-count : (m : List ℕ) → length (mapEntries m) ≡ length m / 4
+unfolding mapEntries
+entry-count m = entries-length m 0 (length m / 4)
+
+entry-at : (m : List ℕ) (i : ℕ) → i < length m / 4 → getD (mapEntries m) i (0, 0) ≡ (word m (4 * i), word m (4 * i + 2))
+unfolding mapEntries
+entry-at m i h = rw zero-add at (entries-at m 0 (length m / 4) i h)
+
+-- What laying a listed map m out by number asks: the table is all 0, has the form, and has a place for each old number.
+pub record Clear (m table : List ℕ) : Type 0 where
+  pub zeros : (j : ℕ) → getD table j 0 ≡ 0
+  pub form : length table % 4 ≡ 1
+  pub ascend : ascends (keys (mapEntries m)) ≡ true
+  pub fits : (k : ℕ) → k < length m / 4 → word m (4 * k) < length table / 4
+
+-- What the loop keeps: the first i entries stand at their places, and nothing stands from the next old number on.
+pub record Laying (m table₀ table : List ℕ) (i : ℕ) : Type 0 where
+  pub clear : Clear m table₀
+  pub within : i ≤ length m / 4
+  pub size : length table ≡ length table₀
+  pub laid : present 0 (mapEntries table) ≡ take i (mapEntries m)
+  pub blank : i < length m / 4 → Blank (word m (4 * i)) (mapEntries table)
+
+-- the entry at an index of a table that is all 0
+zero-entry : (t : List ℕ) → ((j : ℕ) → getD t j 0 ≡ 0) → Blank 0 (mapEntries t)
+unfolding mapEntries word
+zero-entry t z j h = step (decLt j (length t / 4))
+  where
+    step : Dec (j < length t / 4) → getD (entries t 0 (length t / 4)) j (0, 0) .0 ≡ 0
+    step (yes l) = ap (λ (e : ℕ × ℕ). e .0) (entries-at t 0 (length t / 4) j l) ∙ rw (z (0 + 4 * j), z (0 + 4 * j + 1)) refl
+    step (no l) = ap (λ (e : ℕ × ℕ). e .0) (List·getD-eq-default (entries t 0 (length t / 4)) (0, 0) (omega (arith, entries-length t 0 (length t / 4))))
+
+module _ {m table₀ : List ℕ} where
+  pub laying-all : Clear m table₀ → Laying m table₀ table₀ 0
+  laying-all c = record { clear = c; within = omega arith; size = refl; laid = present-blank 0 (mapEntries table₀) (zero-entry table₀ (c .zeros)); blank = λ h j l. zero-entry table₀ (c .zeros) j (omega arith) }
+
+  module _ {table : List ℕ} {i old new : ℕ} (c : Laying m table₀ table i) (h : i < length m / 4) (eo : old ≡ word m (4 * i)) (en : (new ≡ word m (4 * i + 2)) × (new < 65536)) where
+    place : old < length table / 4
+    place = omega (arith, c .clear .fits i h, c .size)
+
+    pub laying-next : {next : List ℕ} → next ≡ sets table (4 * old) (flat (1 ∷ new ∷ [])) → Laying m table₀ next (i + 1)
+    laying-next {next} e =
+        let set-is : mapEntries next ≡ set (mapEntries table) old (1, new) = ap mapEntries e ∙ entry-set table old new place (en .1) in
+        record {
+          clear = c .clear;
+          within = omega arith;
+          size = ap length e ∙ length-sets table (4 * old) (flat (1 ∷ new ∷ [])) ∙ c .size;
+          laid = rw set-is (present-set 0 old new (mapEntries table) (rw (entry-count table) place) (rw (sym eo) at (c .blank h)) ∙ ap (λ (es : List (ℕ × ℕ)). es ++ ((0 + old, new) ∷ [])) (c .laid) ∙ more);
+          blank = λ l j k. ap (λ (es : List (ℕ × ℕ)). getD es j (0, 0) .0) set-is ∙ after l j k;
+        }
+      where
+        more : take i (mapEntries m) ++ ((0 + old, new) ∷ []) ≡ take (i + 1) (mapEntries m)
+        more =
+            let e : (0 + old, new) ≡ getD (mapEntries m) i (0, 0) = rw (zero-add old, eo, en .0) (sym (entry-at m i h)) in
+            ap (λ (x : ℕ × ℕ). take i (mapEntries m) ++ (x ∷ [])) e ∙ sym (take-suc (mapEntries m) i (0, 0) (rw (entry-count m) h)) ∙ ap (λ (k : ℕ). take k (mapEntries m)) (sym (add-one i))
+
+        after : i + 1 < length m / 4 → (j : ℕ) → word m (4 * (i + 1)) ≤ j → getD (set (mapEntries table) old (1, new)) j (0, 0) .0 ≡ 0
+        after l j k =
+            let up : word m (4 * i) < word m (4 * (i + 1)) = rw (map-key m i h, map-key m (i + 1) l) at (ascends-rise (keys (mapEntries m)) (c .clear .ascend) i (i + 1) (omega arith) (omega (arith, map-length m))) in
+            ap (λ (e : ℕ × ℕ). e .0) (getD-set-other (mapEntries table) old j (1, new) (0, 0) (λ e. omega arith)) ∙ c .blank h j (omega arith)
+
+  pub laying-end : {table : List ℕ} {i : ℕ} → Laying m table₀ table i → length m / 4 ≤ i → mapOf table ≡ mapEntries m
+  laying-end {table} {i} c h = of-numbers table (rw (c .size) (c .clear .form)) ∙ c .laid ∙ take-all i (mapEntries m) (omega (arith, entry-count m))

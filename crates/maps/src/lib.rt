@@ -1,12 +1,13 @@
 // Maps of numbers: four bytes an entry, an old word and its new word, the old ones strictly ascending.
 // For sources that ask often, a map is laid out by number as well: then an answer takes one place's reading in the place of halving.
 use wire::ascending;
+use wire::put_entry;
 use wire::word_at;
 ghost use mathlib.Core.Path.{_≡_};
 ghost use mathlib.Core.Bool.{true};
 ghost use Rattle.meaning.specs.Words.{ascends, keys};
-ghost use Rattle.meaning.specs.Maps.{goodGlyphs, goodLookups};
-ghost use Rattle.maps.specs.Forms.{mapOf, Listed};
+ghost use Rattle.meaning.specs.Maps.{mapEntries, goodGlyphs, goodLookups};
+ghost use Rattle.maps.specs.Forms.{mapOf, Listed, Clear};
 ghost use Rattle.maps.specs.Found.{Answers};
 ghost use Prim.Native.Nat.{_%_};
 ghost use lib.ListN.{length};
@@ -82,4 +83,17 @@ pub fn find(m: &[u8], old: usize) -> Found
         return look_up(m, old);
     }
     halve(m, old)
+}
+
+// A listed map, laid out by number: `table`, which is all 0 and has four bytes for each old number and one byte more, becomes a map of the same entries.
+pub fn by_number(m: &[u8], table: &mut [u8])
+    requires { ⌜ Clear (now m) (now table) ⌝ }
+    ensures { λ _. ⌜ (mapOf (now (table .exit)) ≡ mapEntries (now (m .entry))) × (length (now (table .exit)) ≡ length (now (table .entry))) ⌝ }
+{
+    let mut i = 0;
+    while i < m.len() / 4 {
+        let old = word_at(m, 4 * i);
+        put_entry(table, 4 * old, 1, word_at(m, 4 * i + 2));
+        i += 1;
+    }
 }

@@ -10,7 +10,7 @@ use lib.ListN.{length, length-append}
 use lib.Dec.{eqb}
 use borrow.Author.Tests.{eqb-true, eqb-false}
 use Rattle.meaning.specs.Words.{word, push, mapSome}
-use Rattle.meaning.specs.Maps.{mapEntries}
+use Rattle.maps.specs.Forms.{mapOf}
 use Rattle.meaning.specs.Tables.{Pair, bit, fieldCount, field}
 use Rattle.meaning.specs.Cut.{pickFields, thinPair}
 use Rattle.meaning.specs.Layout.{pairWords, pairSetWords}
@@ -28,7 +28,7 @@ records-small size n h l = omega (arith, mul-le-mul-right n h)
 -- What a loop keeps that counts the surviving pairs of the set at `at`.
 pub record Counting (m s : List ℕ) (f1 f2 at count size p left : ℕ) : Type 0 where
   pub few : count + left < 65536
-  pub walk : Walking m s (fieldCount f1) (fieldCount f2) (λ ps. count + length ps) (length (pairsLeft (mapEntries m) f1 f2 s at)) size p left
+  pub walk : Walking m s (fieldCount f1) (fieldCount f2) (λ ps. count + length ps) (length (pairsLeft (mapOf m) f1 f2 s at)) size p left
 
 -- before the first record
 pub counting-all : {m s : List ℕ} {f1 f2 at size left : ℕ} → (size ≡ 2 + 2 * fieldCount f1 + 2 * fieldCount f2) × (size ≤ 34) → at < 0x1_0000_0000
@@ -45,7 +45,7 @@ module _ {m s : List ℕ} {f1 f2 at count size p left : ℕ} (c : Counting m s f
     counting-one g = record { few = omega (arith, c .few); walk = walking-one (c .walk) h e f g (λ ps. omega arith) }
 
   -- after the last
-  pub counting-end : left ≤ 0 → (count ≡ length (pairsLeft (mapEntries m) f1 f2 s at)) × (count < 65536)
+  pub counting-end : left ≤ 0 → (count ≡ length (pairsLeft (mapOf m) f1 f2 s at)) × (count < 65536)
   counting-end h = (omega (arith, walking-end (c .walk) h), omega (arith, c .few))
 
 -- a field is one word where the new format has it, and none where it has not

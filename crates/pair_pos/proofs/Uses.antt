@@ -8,7 +8,7 @@ use native.Mathlib.Omega.{arith}
 use lib.Dec.{eqb}
 use borrow.Author.Tests.{eq-eqb, ne-eqb}
 use Rattle.meaning.specs.Words.{word, find, isSome, bind, push}
-use Rattle.meaning.specs.Maps.{mapEntries}
+use Rattle.maps.specs.Forms.{mapOf}
 use Rattle.meaning.specs.Tables.{Pair, fieldCount, field}
 use Rattle.maps.specs.Found.{Answers, finds-new, finds-none}
 use Rattle.maps.specs.declared.Found.{Found}
@@ -20,7 +20,7 @@ use Rattle.pair_pos.proofs.Walk.{cuts, Walking, walking-front, walking-
 
 -- the word `place` bytes into the record at p is not 0, and the pair survives under the glyph map m
 abbrev pub speaking : List ℕ → List ℕ → ℕ → ℕ → Bool
-speaking m s p place = not (eqb (word s (p + place)) 0) && isSome (find (mapEntries m) (word s p))
+speaking m s p place = not (eqb (word s (p + place)) 0) && isSome (find (mapOf m) (word s p))
 
 module _ (m s : List ℕ) (p place : ℕ) {w : ℕ} (e : w ≡ word s (p + place)) where
   -- the three ways through `speaks`
@@ -60,15 +60,15 @@ pub record Using (m s : List ℕ) (f1 f2 : ℕ) (second : Bool) (k at place size
   pub kept : isField k ≡ true
   pub there : place ≡ 0 → ⊥
   pub spot : place ≡ placeInPair f1 f2 second k
-  pub walk : Walking m s (fieldCount f1) (fieldCount f2) (usedIn (valuesOf second) (cond second f2 f1) k) (setUses (mapEntries m) f1 f2 second k s at) size p left
+  pub walk : Walking m s (fieldCount f1) (fieldCount f2) (usedIn (valuesOf second) (cond second f2 f1) k) (setUses (mapOf m) f1 f2 second k s at) size p left
 
 module _ {m s : List ℕ} {f1 f2 : ℕ} {second : Bool} {k at place size p left : ℕ} (u : Using m s f1 f2 second k at place size p left) where
   -- what is asked of the pairs from the next record on: of the next one, or of those after it
   asked : (ps : List Pair)
-      → usedIn (valuesOf second) (cond second f2 f1) k (push (bind (find (mapEntries m) (word s p)) (λ n. some (pairAt s (fieldCount f1) (fieldCount f2) p n))) ps)
+      → usedIn (valuesOf second) (cond second f2 f1) k (push (bind (find (mapOf m) (word s p)) (λ n. some (pairAt s (fieldCount f1) (fieldCount f2) p n))) ps)
       ≡ speaking m s p place || usedIn (valuesOf second) (cond second f2 f1) k ps
   unfolding usedIn bind push isSome
-  asked ps = step (find (mapEntries m) (word s p))
+  asked ps = step (find (mapOf m) (word s p))
     where
       step : (o : Option ℕ)
           → usedIn (valuesOf second) (cond second f2 f1) k (push (bind o (λ n. some (pairAt s (fieldCount f1) (fieldCount f2) p n))) ps)
@@ -77,7 +77,7 @@ module _ {m s : List ℕ} {f1 f2 : ℕ} {second : Bool} {k at place size p left 
       step (some n) = rw (and-true (not (eqb (word s (p + place)) 0)), side-there second f1 f2 k (u .spot) (u .there) (u .kept) s p n)
 
   -- the next record settles it, or those after it do
-  pub uses-found : 0 < left → {r : Bool} → r ≡ speaking m s p place → r ≡ true → true ≡ setUses (mapEntries m) f1 f2 second k s at
+  pub uses-found : 0 < left → {r : Bool} → r ≡ speaking m s p place → r ≡ true → true ≡ setUses (mapOf m) f1 f2 second k s at
   uses-found h e f = rw (asked (cuts m s (fieldCount f1) (fieldCount f2) (p + size) (left - 1)), ← e, f) at (walking-front (u .walk) h)
 
   pub uses-next : 0 < left → {r : Bool} → r ≡ speaking m s p place → r ≡ false → Using m s f1 f2 second k at place size (p + size) (left - 1)
@@ -85,6 +85,6 @@ module _ {m s : List ℕ} {f1 f2 : ℕ} {second : Bool} {k at place size p left 
       record { kept = u .kept; there = u .there; spot = u .spot; walk = walking-turn (u .walk) h (λ ps. sym (asked ps ∙ rw (← e, f))) }
 
   -- no record is left
-  pub uses-end : left ≤ 0 → false ≡ setUses (mapEntries m) f1 f2 second k s at
+  pub uses-end : left ≤ 0 → false ≡ setUses (mapOf m) f1 f2 second k s at
   unfolding usedIn
   uses-end h = walking-end (u .walk) h

@@ -6,7 +6,7 @@ use mathlib.Core.Option.{some}
 use mathlib.Core.List.{List, [], _∷_}
 use native.Mathlib.Omega.{arith}
 use Rattle.meaning.specs.Words.{word, find, bind, push, mapSome, isSome}
-use Rattle.meaning.specs.Maps.{mapEntries}
+use Rattle.maps.specs.Forms.{mapOf}
 use Rattle.meaning.specs.Tables.{Pair, pairRecords, pairSet}
 use Rattle.meaning.specs.Cut.{cutPair, cutPairs, unlessEmpty}
 use Rattle.maps.specs.Found.{Answers, finds-new, finds-none}
@@ -16,7 +16,7 @@ use Rattle.pair_pos.specs.Pairs.{pairAt}
 
 -- the pairs that survive under the glyph map m, out of `left` records from p on
 unfoldable pub cuts : List ℕ → List ℕ → ℕ → ℕ → ℕ → ℕ → List Pair
-cuts m s a b p left = mapSome (cutPair (mapEntries m)) (pairRecords s a b p left)
+cuts m s a b p left = mapSome (cutPair (mapOf m)) (pairRecords s a b p left)
 
 -- What a loop keeps: `left` records of `size` bytes are left from p on, and what is asked of their pairs gives the whole answer.
 pub record Walking {X : Type 0} (m s : List ℕ) (a b : ℕ) (ask : List Pair → X) (whole : X) (size p left : ℕ) : Type 0 where
@@ -28,7 +28,7 @@ pub record Walking {X : Type 0} (m s : List ℕ) (a b : ℕ) (ask : List Pair �
 module _ {X : Type 0} {m s : List ℕ} {a b : ℕ} {ask : List Pair → X} {whole : X} where
   -- before the first record
   pub walking-all : {size at left : ℕ} → (size ≡ 2 + 2 * a + 2 * b) × (size ≤ 34) → at < 0x1_0000_0000 → (left ≡ word s at) × (left < 65536)
-      → ask (mapSome (cutPair (mapEntries m)) (pairSet a b s at)) ≡ whole → Walking m s a b ask whole size (at + 2) left
+      → ask (mapSome (cutPair (mapOf m)) (pairSet a b s at)) ≡ whole → Walking m s a b ask whole size (at + 2) left
   unfolding pairSet cuts
   walking-all z l w e = record { long = z .0; short = z .1; near = omega arith; rest = rw (w .0) e }
 
@@ -42,7 +42,7 @@ module _ {X : Type 0} {m s : List ℕ} {a b : ℕ} {ask : List Pair → X} {whol
 
     module _ (h : 0 < left) where
       -- the pair of the next record, if it survives, before those of the records after it
-      pub walking-front : ask (push (bind (find (mapEntries m) (word s p)) (λ n. some (pairAt s a b p n))) (cuts m s a b (p + size) (left - 1))) ≡ whole
+      pub walking-front : ask (push (bind (find (mapOf m) (word s p)) (λ n. some (pairAt s a b p n))) (cuts m s a b (p + size) (left - 1))) ≡ whole
       unfolding cuts pairRecords mapSome cutPair
       walking-front =
           let d : left ≡ suc (left - 1) = omega arith in
@@ -51,7 +51,7 @@ module _ {X : Type 0} {m s : List ℕ} {a b : ℕ} {ask : List Pair → X} {whol
 
       -- a turn: what is asked of all records that are left is said of those after the next
       pub walking-turn : {next : List Pair → X}
-          → ((ps : List Pair) → next ps ≡ ask (push (bind (find (mapEntries m) (word s p)) (λ n. some (pairAt s a b p n))) ps))
+          → ((ps : List Pair) → next ps ≡ ask (push (bind (find (mapOf m) (word s p)) (λ n. some (pairAt s a b p n))) ps))
           → Walking m s a b next whole size (p + size) (left - 1)
       walking-turn e = record {
         long = k .long;

@@ -11,7 +11,7 @@ use lib.Seq.{sets}
 use lib.Dec.{eqb}
 use borrow.Author.Tests.{eq-eqb, ne-eqb}
 use Rattle.meaning.specs.Words.{word, words, push, mapSome, bytes2, flat}
-use Rattle.meaning.specs.Maps.{mapEntries}
+use Rattle.maps.specs.Forms.{mapOf}
 use Rattle.meaning.specs.Tables.{Pair, bit, fieldCount, field}
 use Rattle.meaning.specs.Cut.{pickFields, thinPair}
 use Rattle.meaning.specs.Layout.{pairWords, pairSetWords}
@@ -85,7 +85,7 @@ module _ (f1 f2 n1 n2 : ℕ) where
 -- What the loop of `write_pairs` keeps: what is written so far, and what is left to write, is all that is to be written.
 pub record Writing (m s : List ℕ) (f1 f2 n1 n2 at pos : ℕ) (out₀ out : List ℕ) (size q p left : ℕ) : Type 0 where
   pub room : q + 18 * left ≤ pos + 0x12_0000
-  pub walk : Walking m s (fieldCount f1) (fieldCount f2) (written f1 f2 n1 n2 out q) (written f1 f2 n1 n2 out₀ pos (pairsLeft (mapEntries m) f1 f2 s at)) size p left
+  pub walk : Walking m s (fieldCount f1) (fieldCount f2) (written f1 f2 n1 n2 out q) (written f1 f2 n1 n2 out₀ pos (pairsLeft (mapOf m) f1 f2 s at)) size p left
 
 -- before the first record
 pub writing-all : {m s : List ℕ} {f1 f2 n1 n2 at pos size left : ℕ} {out₀ : List ℕ} → (size ≡ 2 + 2 * fieldCount f1 + 2 * fieldCount f2) × (size ≤ 34)
@@ -106,7 +106,7 @@ module _ {m s : List ℕ} {f1 f2 n1 n2 at pos : ℕ} {out₀ out : List ℕ} {si
         record { room = omega (arith, c .room, w .1); walk = walking-one (c .walk) h e f g (λ ps. written-one f1 f2 n1 n2 (pairAt s (fieldCount f1) (fieldCount f2) p glyph) ps (w .0)) }
 
   -- after the last
-  pub writing-end : left ≤ 0 → Wrote out₀ pos (pairWords (map (thinPair f1 f2 n1 n2) (pairsLeft (mapEntries m) f1 f2 s at))) out q
+  pub writing-end : left ≤ 0 → Wrote out₀ pos (pairWords (map (thinPair f1 f2 n1 n2) (pairsLeft (mapOf m) f1 f2 s at))) out q
   unfolding written pairWords flat
   writing-end h =
       let e = walking-end (c .walk) h in

@@ -13,7 +13,7 @@ ghost use Prim.Native.Nat.{_+_, _*_, _≤_, _<_};
 ghost use lib.Dec.{eqb};
 ghost use lib.ListN.{length};
 ghost use Rattle.meaning.specs.Words.{word, words, find, isSome, ascends, keys};
-ghost use Rattle.meaning.specs.Maps.{mapEntries};
+ghost use Rattle.maps.specs.Forms.{mapOf};
 ghost use Rattle.meaning.specs.Tables.{fieldCount, field};
 ghost use Rattle.meaning.specs.Fault.{pairSetFault};
 ghost use Rattle.meaning.specs.Cut.{cutPairs, keepIf, pickFields, thinPair};
@@ -69,8 +69,8 @@ pub fn check_set(src: &[u8], at: usize, f1: usize, f2: usize) -> Fault
 
 // Whether a pair of the set at `at` survives: its second glyph is retained.
 pub fn set_survives(src: &[u8], at: usize, f1: usize, f2: usize, glyphs: &[u8]) -> bool
-    requires { ⌜ (at < 0x1_0000_0000) × (ascends (keys (mapEntries (now glyphs))) ≡ true) ⌝ }
-    ensures { λ r. ⌜ r ≡ isSome (cutPairs (mapEntries (now (glyphs .entry))) (pairsOf f1 f2 (now (src .entry)) at)) ⌝ }
+    requires { ⌜ (at < 0x1_0000_0000) × (ascends (keys (mapOf (now glyphs))) ≡ true) ⌝ }
+    ensures { λ r. ⌜ r ≡ isSome (cutPairs (mapOf (now (glyphs .entry))) (pairsOf f1 f2 (now (src .entry)) at)) ⌝ }
 {
     let size = pair_size(f1, f2);
     let mut p = at + 2;
@@ -109,8 +109,8 @@ fn place_in_pair(f1: usize, f2: usize, second: bool, k: usize) -> usize
 
 // Whether the word that stands `place` bytes into the pair record at `p` is not 0, and the pair survives.
 fn speaks(src: &[u8], p: usize, place: usize, glyphs: &[u8]) -> bool
-    requires { ⌜ (p < 0x1_0000_0000_0000) × (place ≤ 34) × (ascends (keys (mapEntries (now glyphs))) ≡ true) ⌝ }
-    ensures { λ r. ⌜ r ≡ not (eqb (word (now (src .entry)) (p + place)) 0) && isSome (find (mapEntries (now (glyphs .entry))) (word (now (src .entry)) p)) ⌝ }
+    requires { ⌜ (p < 0x1_0000_0000_0000) × (place ≤ 34) × (ascends (keys (mapOf (now glyphs))) ≡ true) ⌝ }
+    ensures { λ r. ⌜ r ≡ not (eqb (word (now (src .entry)) (p + place)) 0) && isSome (find (mapOf (now (glyphs .entry))) (word (now (src .entry)) p)) ⌝ }
 {
     if word_at(src, p + place) == 0 {
         return false;
@@ -131,8 +131,8 @@ pub fn set_uses(
     k: usize,
     glyphs: &[u8],
 ) -> bool
-    requires { ⌜ (at < 0x1_0000_0000) × (isField k ≡ true) × (ascends (keys (mapEntries (now glyphs))) ≡ true) ⌝ }
-    ensures { λ r. ⌜ r ≡ setUses (mapEntries (now (glyphs .entry))) f1 f2 second k (now (src .entry)) at ⌝ }
+    requires { ⌜ (at < 0x1_0000_0000) × (isField k ≡ true) × (ascends (keys (mapOf (now glyphs))) ≡ true) ⌝ }
+    ensures { λ r. ⌜ r ≡ setUses (mapOf (now (glyphs .entry))) f1 f2 second k (now (src .entry)) at ⌝ }
 {
     let place = place_in_pair(f1, f2, second, k);
     if place == 0 {
@@ -164,8 +164,8 @@ pub fn keep_if(kept: bool, k: usize) -> usize
 
 // How many pairs of the set at `at` survive.
 fn count_left(src: &[u8], at: usize, f1: usize, f2: usize, glyphs: &[u8]) -> usize
-    requires { ⌜ (at < 0x1_0000_0000) × (ascends (keys (mapEntries (now glyphs))) ≡ true) ⌝ }
-    ensures { λ r. ⌜ (r ≡ length (pairsLeft (mapEntries (now (glyphs .entry))) f1 f2 (now (src .entry)) at)) × (r < 65536) ⌝ }
+    requires { ⌜ (at < 0x1_0000_0000) × (ascends (keys (mapOf (now glyphs))) ≡ true) ⌝ }
+    ensures { λ r. ⌜ (r ≡ length (pairsLeft (mapOf (now (glyphs .entry))) f1 f2 (now (src .entry)) at)) × (r < 65536) ⌝ }
 {
     let size = pair_size(f1, f2);
     let mut count = 0;
@@ -191,8 +191,8 @@ pub fn set_size(
     n2: usize,
     glyphs: &[u8],
 ) -> usize
-    requires { ⌜ (at < 0x1_0000_0000) × (ascends (keys (mapEntries (now glyphs))) ≡ true) ⌝ }
-    ensures { λ r. ⌜ (r ≡ 2 * length (pairSetWords (pairsThin (mapEntries (now (glyphs .entry))) f1 f2 n1 n2 (now (src .entry)) at))) × (r < 0x200_0000) ⌝ }
+    requires { ⌜ (at < 0x1_0000_0000) × (ascends (keys (mapOf (now glyphs))) ≡ true) ⌝ }
+    ensures { λ r. ⌜ (r ≡ 2 * length (pairSetWords (pairsThin (mapOf (now (glyphs .entry))) f1 f2 n1 n2 (now (src .entry)) at))) × (r < 0x200_0000) ⌝ }
 {
     2 + pair_size(n1 % 16, n2 % 16) * count_left(src, at, f1, f2, glyphs)
 }
@@ -261,8 +261,8 @@ fn write_pairs(
     out: &mut [u8],
     pos: usize,
 ) -> usize
-    requires { ⌜ (at < 0x1_0000_0000) × (pos < 0x101_0000_0000) × (ascends (keys (mapEntries (now glyphs))) ≡ true) ⌝ }
-    ensures { λ r. ⌜ (Wrote (now (out .entry)) pos (pairWords (pairsThin (mapEntries (now (glyphs .entry))) f1 f2 n1 n2 (now (src .entry)) at)) (now (out .exit)) r) × (r ≤ pos + 0x12_0000) ⌝ }
+    requires { ⌜ (at < 0x1_0000_0000) × (pos < 0x101_0000_0000) × (ascends (keys (mapOf (now glyphs))) ≡ true) ⌝ }
+    ensures { λ r. ⌜ (Wrote (now (out .entry)) pos (pairWords (pairsThin (mapOf (now (glyphs .entry))) f1 f2 n1 n2 (now (src .entry)) at)) (now (out .exit)) r) × (r ≤ pos + 0x12_0000) ⌝ }
 {
     let size = pair_size(f1, f2);
     let mut q = pos;
@@ -291,8 +291,8 @@ pub fn write_set(
     out: &mut [u8],
     pos: usize,
 ) -> usize
-    requires { ⌜ (at < 0x1_0000_0000) × (pos < 0x100_0000_0000) × (ascends (keys (mapEntries (now glyphs))) ≡ true) ⌝ }
-    ensures { λ r. ⌜ (Wrote (now (out .entry)) pos (pairSetWords (pairsThin (mapEntries (now (glyphs .entry))) f1 f2 n1 n2 (now (src .entry)) at)) (now (out .exit)) r) × (r < pos + 0x200_0000) ⌝ }
+    requires { ⌜ (at < 0x1_0000_0000) × (pos < 0x100_0000_0000) × (ascends (keys (mapOf (now glyphs))) ≡ true) ⌝ }
+    ensures { λ r. ⌜ (Wrote (now (out .entry)) pos (pairSetWords (pairsThin (mapOf (now (glyphs .entry))) f1 f2 n1 n2 (now (src .entry)) at)) (now (out .exit)) r) × (r < pos + 0x200_0000) ⌝ }
 {
     let end = write_pairs(src, at, f1, f2, n1, n2, glyphs, out, pos + 2);
     put(out, pos, (end - pos - 2) / pair_size(n1 % 16, n2 % 16));

@@ -9,7 +9,7 @@ use lib.Seq.{take-at, length-sets}
 use lib.Dec.{leb}
 use borrow.Author.Tests.{leb-false}
 use Rattle.meaning.specs.Words.{words, flat, threes, ascends, keys}
-use Rattle.meaning.specs.Maps.{mapEntries}
+use Rattle.maps.specs.Forms.{mapOf}
 use Rattle.meaning.specs.Parts.{coverage, coverageSound}
 use Rattle.meaning.specs.Cut.{newCoverage}
 use Rattle.meaning.specs.Layout.{runs, indexed, coverageWords}
@@ -21,8 +21,8 @@ use Rattle.laws.specs.Pieces.{Gathered}
 -- what the functions that cut a coverage ask: it is sound, the map can be asked, and scratch has room for the glyphs that are retained
 pub record Cuts (src : List ℕ) (at : ℕ) (glyphs work : List ℕ) : Type 0 where
   pub sound : coverageSound src at ≡ true
-  pub ascend : ascends (keys (mapEntries glyphs)) ≡ true
-  pub room : 2 * length (newCoverage (mapEntries glyphs) (coverage src at)) ≤ length work
+  pub ascend : ascends (keys (mapOf glyphs)) ≡ true
+  pub room : 2 * length (newCoverage (mapOf glyphs) (coverage src at)) ≤ length work
   pub short : length work ≤ 0x1_0000_0000
 
 -- the words of a coverage of these glyphs; none if there is no glyph

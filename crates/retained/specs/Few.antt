@@ -58,7 +58,11 @@ entries-count g (c ∷ cov) = step (find g c) (entries-count g cov)
     step none e = e
     step (some n) e = ap suc e
 
--- scratch as long as the glyph map has room for the retained glyphs of a sound coverage, four bytes each
+-- a sound coverage has no more retained glyphs than the map has entries
+pub retained-most : (s : List ℕ) (g : List (ℕ × ℕ)) (at : ℕ) → coverageSound s at ≡ true → length (newCoverage g (coverage s at)) ≤ length g
+retained-most s g at sound = retained-few g (coverage s at) (coverage-up s at sound)
+
+-- scratch as long as a listed glyph map has room for them, four bytes each
 pub retained-fit : (s glyphs : List ℕ) (at : ℕ) → coverageSound s at ≡ true → 4 * length (newCoverage (mapEntries glyphs) (coverage s at)) ≤ length glyphs
 unfolding mapEntries
-retained-fit s glyphs at sound = omega (arith, retained-few (mapEntries glyphs) (coverage s at) (coverage-up s at sound), entries-length glyphs 0 (length glyphs / 4))
+retained-fit s glyphs at sound = omega (arith, retained-most s (mapEntries glyphs) at sound, entries-length glyphs 0 (length glyphs / 4))

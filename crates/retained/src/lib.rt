@@ -13,7 +13,7 @@ ghost use mathlib.Core.Bool.{true};
 ghost use Prim.Native.Nat.{_*_, _<_, _≤_};
 ghost use lib.ListN.{length};
 ghost use Rattle.meaning.specs.Words.{ascends, keys};
-ghost use Rattle.meaning.specs.Maps.{mapEntries};
+ghost use Rattle.maps.specs.Forms.{mapOf};
 ghost use Rattle.meaning.specs.Parts.{coverage, coverageSound};
 ghost use Rattle.meaning.specs.Cut.{newCoverage};
 ghost use Rattle.laws.specs.Pieces.{Gathered};
@@ -23,8 +23,8 @@ ghost use Rattle.retained.specs.Cover.{Cuts, coverLeft};
 
 // The new numbers of the retained glyphs of the coverage at `at`, in order, as words at the front of `to`. The answer is how many bytes they take.
 pub fn retain(src: &[u8], at: usize, glyphs: &[u8], to: &mut [u8]) -> usize
-    requires { ⌜ (coverageSound (now src) at ≡ true) × (ascends (keys (mapEntries (now glyphs))) ≡ true) ⌝ }
-    ensures { λ r. ⌜ Gathered (newCoverage (mapEntries (now (glyphs .entry))) (coverage (now (src .entry)) at)) (now (to .entry)) r (now (to .exit)) ⌝ }
+    requires { ⌜ (coverageSound (now src) at ≡ true) × (ascends (keys (mapOf (now glyphs))) ≡ true) ⌝ }
+    ensures { λ r. ⌜ Gathered (newCoverage (mapOf (now (glyphs .entry))) (coverage (now (src .entry)) at)) (now (to .entry)) r (now (to .exit)) ⌝ }
 {
     let n = count(src, at);
     let mut p = 0;
@@ -40,8 +40,8 @@ pub fn retain(src: &[u8], at: usize, glyphs: &[u8], to: &mut [u8]) -> usize
 
 // The same glyphs as entries of four bytes, the old number and the new one.
 pub fn retain_entries(src: &[u8], at: usize, glyphs: &[u8], to: &mut [u8]) -> usize
-    requires { ⌜ (coverageSound (now src) at ≡ true) × (ascends (keys (mapEntries (now glyphs))) ≡ true) ⌝ }
-    ensures { λ r. ⌜ Gathered (retainedWords (mapEntries (now (glyphs .entry))) (coverage (now (src .entry)) at)) (now (to .entry)) r (now (to .exit)) ⌝ }
+    requires { ⌜ (coverageSound (now src) at ≡ true) × (ascends (keys (mapOf (now glyphs))) ≡ true) ⌝ }
+    ensures { λ r. ⌜ Gathered (retainedWords (mapOf (now (glyphs .entry))) (coverage (now (src .entry)) at)) (now (to .entry)) r (now (to .exit)) ⌝ }
 {
     let n = count(src, at);
     let mut p = 0;
@@ -59,7 +59,7 @@ pub fn retain_entries(src: &[u8], at: usize, glyphs: &[u8], to: &mut [u8]) -> us
 // How many bytes the coverage at `at` takes once it is cut to its retained glyphs; 0 if none is retained.
 pub fn cover_size(src: &[u8], at: usize, glyphs: &[u8], work: &mut [u8]) -> usize
     requires { ⌜ Cuts (now src) at (now glyphs) (now work) ⌝ }
-    ensures { λ r. ⌜ (r ≡ 2 * length (coverLeft (mapEntries (now (glyphs .entry))) (coverage (now (src .entry)) at))) × (length (now (work .exit)) ≡ length (now (work .entry))) ⌝ }
+    ensures { λ r. ⌜ (r ≡ 2 * length (coverLeft (mapOf (now (glyphs .entry))) (coverage (now (src .entry)) at))) × (length (now (work .exit)) ≡ length (now (work .entry))) ⌝ }
 {
     let n = retain(src, at, glyphs, work);
     if n == 0 {
@@ -78,7 +78,7 @@ pub fn write_cover(
     pos: usize,
 ) -> usize
     requires { ⌜ Cuts (now src) at (now glyphs) (now work) × (pos < 0x4000_0000_0000) ⌝ }
-    ensures { λ r. ⌜ Wrote (now (out .entry)) pos (coverLeft (mapEntries (now (glyphs .entry))) (coverage (now (src .entry)) at)) (now (out .exit)) r × (length (now (work .exit)) ≡ length (now (work .entry))) ⌝ }
+    ensures { λ r. ⌜ Wrote (now (out .entry)) pos (coverLeft (mapOf (now (glyphs .entry))) (coverage (now (src .entry)) at)) (now (out .exit)) r × (length (now (work .exit)) ≡ length (now (work .entry))) ⌝ }
 {
     let n = retain(src, at, glyphs, work);
     if n == 0 {

@@ -6,7 +6,7 @@ use native.Mathlib.Omega.{arith}
 use lib.ListN.{length}
 use lib.Seq.{sets}
 use Rattle.meaning.specs.Words.{word, entries, bind, push, mapSome, flat, twos}
-use Rattle.meaning.specs.Maps.{mapEntries}
+use Rattle.maps.specs.Forms.{mapOf}
 use Rattle.meaning.specs.Cut.{cutRecords}
 use Rattle.laws.specs.Left.{entries-left, entries-all, entries-none}
 use Rattle.laws.specs.Written.{Wrote, sets-two}
@@ -17,11 +17,11 @@ use Rattle.maps.specs.declared.Found.the-variants.{New, Gone}
 module _ (map s : List ℕ) (at n : ℕ) where
   -- what is left of the records from the i-th on
   abbrev pub from : ℕ → List (ℕ × ℕ)
-  from i = cutRecords (mapEntries map) (entries s (at + 4 * i) (n - i))
+  from i = cutRecords (mapOf map) (entries s (at + 4 * i) (n - i))
 
   -- what is left of all records
   abbrev pub all : List (ℕ × ℕ)
-  all = cutRecords (mapEntries map) (entries s at n)
+  all = cutRecords (mapOf map) (entries s at n)
 
   module _ {i x : ℕ} {r : Found} (h : i < n) (e : x ≡ word s (at + 4 * i + 2)) (f : Answers map x r) where
     -- the i-th record stays, with its lookup's new number, or goes

@@ -8,7 +8,7 @@ use native.Mathlib.Omega.{arith}
 use lib.ListN.{length, length-append}
 use borrow.Author.Tests.{not-true, not-false}
 use Rattle.meaning.specs.Words.{words, entries, twos, find, isSome, bind, push, mapAll, mapSome}
-use Rattle.meaning.specs.Maps.{mapEntries}
+use Rattle.maps.specs.Forms.{mapOf}
 use Rattle.meaning.specs.Tables.{plainRule, rule}
 use Rattle.meaning.specs.Cut.{cutRecords, cutRule}
 use Rattle.meaning.specs.Layout.{ruleWords}
@@ -24,15 +24,15 @@ use Rattle.sequences.specs.Renumbered.{renumbered, renumbered-length}
 
 -- whether each number of a row has a new one
 abbrev pub rowSurvives : List ℕ → List ℕ → Row → Bool
-rowSurvives s map row = isSome (mapAll (find (mapEntries map)) (words s (row .at) (row .len)))
+rowSurvives s map row = isSome (mapAll (find (mapOf map)) (words s (row .at) (row .len)))
 
 -- the new numbers of a row
 abbrev pub rowNew : List ℕ → List ℕ → Row → List ℕ
-rowNew s map row = renumbered (mapEntries map) (words s (row .at) (row .len))
+rowNew s map row = renumbered (mapOf map) (words s (row .at) (row .len))
 
 -- what is left of a row of records
 abbrev pub rowRecords : List ℕ → List ℕ → Row → List (ℕ × ℕ)
-rowRecords s map row = cutRecords (mapEntries map) (entries s (row .at) (row .len))
+rowRecords s map row = cutRecords (mapOf map) (entries s (row .at) (row .len))
 
 -- words after words
 pub wrote-on : {out₀ : List ℕ} {at : ℕ} {ws out : List ℕ} {p : ℕ} {vs next : List ℕ} {q : ℕ} → Wrote out₀ at ws out p → Wrote out p vs next q → Wrote out₀ at (ws ++ vs) next q
@@ -40,7 +40,7 @@ wrote-on {vs = vs} k l = wrote-more vs k (l .place) (l .bytes)
 
 -- a row has as many new numbers as numbers
 pub row-length : (s map : List ℕ) (row : Row) → length (rowNew s map row) ≡ row .len
-row-length s map row = renumbered-length (mapEntries map) (words s (row .at) (row .len)) ∙ words-length s (row .at) (row .len)
+row-length s map row = renumbered-length (mapOf map) (words s (row .at) (row .len)) ∙ words-length s (row .at) (row .len)
 
 -- The ways through `rule_survives`: whether a rule stays, by its count and its three rows.
 module _ {chained : Bool} {s : List ℕ} {at : ℕ} {r : RuleParts} (b i a : List ℕ) (k : IsRule chained s at r) where
@@ -128,7 +128,7 @@ pub rule-short : {s : List ℕ} {at : ℕ} {r : RuleParts} (b i a l : List ℕ) 
     → 2 * length (ruleWords chained (renumberedRule (mapsOf b i a l) (rule chained s at))) < 0x10_0000
 rule-short {s} {at} {r} b i a l chained p =
     let e = entries-length s (r .records .at) (r .records .len) in
-    let f = records-few (mapEntries l) (entries s (r .records .at) (r .records .len)) in
+    let f = records-few (mapOf l) (entries s (r .records .at) (r .records .len)) in
     omega (arith, size-by b i a l chained p {head = cond chained 8 4} {k = length (rowRecords s l (r .records))} refl refl, head-few chained, e, f)
   where
     head-few : (c : Bool) → cond c 8 4 ≤ 8

@@ -6,7 +6,7 @@ use mathlib.Core.Option.{Option, none, some}
 use mathlib.Core.List.{List, [], _∷_}
 use lib.Dec.{eqb}
 use Rattle.meaning.specs.Words.{find, isSome, bind, mapAll}
-use Rattle.meaning.specs.Maps.{mapEntries}
+use Rattle.maps.specs.Forms.{mapOf}
 use Rattle.meaning.specs.Tables.{Rule, rule}
 use Rattle.meaning.specs.Cut.{RuleMaps, cutRecords, cutRule}
 use Rattle.meaning.specs.Layout.{ruleWords}
@@ -28,7 +28,7 @@ pub record AllAscend (b i a l : List ℕ) : Type 0 where
 
 -- the four maps of a rule, each the entries of lent bytes
 abbrev pub mapsOf : List ℕ → List ℕ → List ℕ → List ℕ → RuleMaps
-mapsOf b i a l = record { back = mapEntries b; input = mapEntries i; ahead = mapEntries a; lookups = mapEntries l }
+mapsOf b i a l = record { back = mapOf b; input = mapOf i; ahead = mapOf a; lookups = mapOf l }
 
 -- the words of what is left of the rule at `at`; a rule that goes has none
 unfoldable pub ruleLeft : Bool → RuleMaps → List ℕ → ℕ → List ℕ

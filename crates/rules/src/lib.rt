@@ -14,7 +14,7 @@ ghost use mathlib.Core.List.{[], _∷_};
 ghost use Prim.Native.Nat.{_+_, _-_, _*_, _≤_, _<_};
 ghost use lib.ListN.{length};
 ghost use Rattle.meaning.specs.Words.{words, entries, twos, find, isSome, mapAll};
-ghost use Rattle.meaning.specs.Maps.{mapEntries};
+ghost use Rattle.maps.specs.Forms.{mapOf};
 ghost use Rattle.meaning.specs.Tables.{rule};
 ghost use Rattle.meaning.specs.Fault.{ruleFault};
 ghost use Rattle.meaning.specs.Cut.{cutRecords, cutRule};
@@ -43,7 +43,7 @@ struct RuleParts {
 // How many of the `n` records from `at` on, a place and a lookup each, have a lookup that stays.
 pub fn records_left(src: &[u8], at: usize, n: usize, lookups: &[u8]) -> usize
     requires { ⌜ (at + 4 * n < 0x1_0000_0000_0000) × Ascends (now lookups) ⌝ }
-    ensures { λ r. ⌜ (r ≡ length (cutRecords (mapEntries (now (lookups .entry))) (entries (now (src .entry)) at n))) × (r ≤ n) ⌝ }
+    ensures { λ r. ⌜ (r ≡ length (cutRecords (mapOf (now (lookups .entry))) (entries (now (src .entry)) at n))) × (r ≤ n) ⌝ }
 {
     let mut k = 0;
     let mut i = 0;
@@ -66,7 +66,7 @@ pub fn serialize_lookup_records(
     pos: usize,
 ) -> usize
     requires { ⌜ (at + 4 * n < 0x1_0000_0000_0000) × (pos + 4 * n < 0x1_0000_0000_0000) × Ascends (now lookups) ⌝ }
-    ensures { λ r. ⌜ Wrote (now (out .entry)) pos (twos (cutRecords (mapEntries (now (lookups .entry))) (entries (now (src .entry)) at n))) (now (out .exit)) r ⌝ }
+    ensures { λ r. ⌜ Wrote (now (out .entry)) pos (twos (cutRecords (mapOf (now (lookups .entry))) (entries (now (src .entry)) at n))) (now (out .exit)) r ⌝ }
 {
     let mut p = pos;
     let mut i = 0;
@@ -239,7 +239,7 @@ fn write_counted(
     pos: usize,
 ) -> usize
     requires { ⌜ (at + 2 * n < 0x1_0000_0000_0000) × (pos + 2 * n < 0x8000_0000_0000) × Ascends (now map) ⌝ }
-    ensures { λ r. ⌜ Wrote (now (out .entry)) pos (count ∷ renumbered (mapEntries (now (map .entry))) (words (now (src .entry)) at n)) (now (out .exit)) r ⌝ }
+    ensures { λ r. ⌜ Wrote (now (out .entry)) pos (count ∷ renumbered (mapOf (now (map .entry))) (words (now (src .entry)) at n)) (now (out .exit)) r ⌝ }
 {
     let p = put(out, pos, count);
     write_mapped(src, at, n, map, out, p)
@@ -255,7 +255,7 @@ fn write_records(
     pos: usize,
 ) -> usize
     requires { ⌜ (at + 4 * n < 0x1_0000_0000_0000) × (pos + 4 * n < 0x8000_0000_0000) × Ascends (now lookups) ⌝ }
-    ensures { λ r. ⌜ Wrote (now (out .entry)) pos (length (cutRecords (mapEntries (now (lookups .entry))) (entries (now (src .entry)) at n)) ∷ twos (cutRecords (mapEntries (now (lookups .entry))) (entries (now (src .entry)) at n))) (now (out .exit)) r ⌝ }
+    ensures { λ r. ⌜ Wrote (now (out .entry)) pos (length (cutRecords (mapOf (now (lookups .entry))) (entries (now (src .entry)) at n)) ∷ twos (cutRecords (mapOf (now (lookups .entry))) (entries (now (src .entry)) at n))) (now (out .exit)) r ⌝ }
 {
     let k = records_left(src, at, n, lookups);
     let p = put(out, pos, k);

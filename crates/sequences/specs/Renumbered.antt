@@ -6,11 +6,11 @@ use mathlib.Core.Option.{Option, none, some}
 use mathlib.Core.List.{List, [], _∷_}
 use lib.ListN.{length}
 use Rattle.meaning.specs.Words.{ascends, keys, find, bind, mapAll, isSome}
-use Rattle.meaning.specs.Maps.{mapEntries}
+use Rattle.maps.specs.Forms.{mapOf}
 
 -- the old column of a map, given as its bytes, ascends: what finding in it asks
 abbrev pub Ascends : List ℕ → Type 0
-Ascends m = ascends (keys (mapEntries m)) ≡ true
+Ascends m = ascends (keys (mapOf m)) ≡ true
 
 -- the number, and 0 where there is none
 abbrev pub newOf : Option ℕ → ℕ

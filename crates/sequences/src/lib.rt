@@ -6,14 +6,14 @@ use wire::word_at;
 ghost use mathlib.Core.Path.{_≡_};
 ghost use Prim.Native.Nat.{_+_, _*_, _<_};
 ghost use Rattle.meaning.specs.Words.{words, find, isSome, mapAll};
-ghost use Rattle.meaning.specs.Maps.{mapEntries};
+ghost use Rattle.maps.specs.Forms.{mapOf};
 ghost use Rattle.laws.specs.Written.{Wrote};
 ghost use Rattle.sequences.specs.Renumbered.{Ascends, newOf, renumbered};
 
 // Whether each of the `n` words from `at` on has a new number.
 pub fn mapped(src: &[u8], at: usize, n: usize, map: &[u8]) -> bool
     requires { ⌜ (at + 2 * n < 0x1_0000_0000_0000) × Ascends (now map) ⌝ }
-    ensures { λ r. ⌜ r ≡ isSome (mapAll (find (mapEntries (now (map .entry)))) (words (now (src .entry)) at n)) ⌝ }
+    ensures { λ r. ⌜ r ≡ isSome (mapAll (find (mapOf (now (map .entry)))) (words (now (src .entry)) at n)) ⌝ }
 {
     let mut i = 0;
     while i < n {
@@ -28,7 +28,7 @@ pub fn mapped(src: &[u8], at: usize, n: usize, map: &[u8]) -> bool
 // The new number of `old`, and 0 where there is none.
 pub fn new_number(map: &[u8], old: usize) -> usize
     requires { ⌜ Ascends (now map) ⌝ }
-    ensures { λ r. ⌜ r ≡ newOf (find (mapEntries (now (map .entry))) old) ⌝ }
+    ensures { λ r. ⌜ r ≡ newOf (find (mapOf (now (map .entry))) old) ⌝ }
 {
     let Found::New(new) = find(map, old) else {
         return 0;
@@ -46,7 +46,7 @@ pub fn write_mapped(
     pos: usize,
 ) -> usize
     requires { ⌜ (at + 2 * n < 0x1_0000_0000_0000) × (pos + 2 * n < 0x1_0000_0000_0000) × Ascends (now map) ⌝ }
-    ensures { λ r. ⌜ Wrote (now (out .entry)) pos (renumbered (mapEntries (now (map .entry))) (words (now (src .entry)) at n)) (now (out .exit)) r ⌝ }
+    ensures { λ r. ⌜ Wrote (now (out .entry)) pos (renumbered (mapOf (now (map .entry))) (words (now (src .entry)) at n)) (now (out .exit)) r ⌝ }
 {
     let mut i = 0;
     while i < n {

@@ -6,7 +6,7 @@ use mathlib.Core.Option.{Option}
 use mathlib.Core.List.{List, []}
 use lib.ListN.{length}
 use Rattle.meaning.specs.Words.{words, isSome}
-use Rattle.meaning.specs.Maps.{mapEntries}
+use Rattle.maps.specs.Forms.{mapOf}
 use Rattle.meaning.specs.Tables.{ruleSet, ligatureSet}
 use Rattle.meaning.specs.Cut.{cutSet, cutLigatures, cutPairs}
 use Rattle.meaning.specs.Layout.{blocks, pairSetWords}
@@ -24,15 +24,15 @@ use Rattle.sets.specs.declared.Kind.the-variants.{Rules, ChainedRules, L
 abbrev pub setStays : Kind → List ℕ → List ℕ → List ℕ → List ℕ → ℕ → Bool
 setStays Rules b i a s at = isSome (cutSet false (mapsOf b i a []) (ruleSet false s at))
 setStays ChainedRules b i a s at = isSome (cutSet true (mapsOf b i a []) (ruleSet true s at))
-setStays Ligatures b i a s at = isSome (cutLigatures (mapEntries i) (ligatureSet s at))
-setStays (Pairs f) b i a s at = isSome (cutPairs (mapEntries i) (pairsOf (f .f1) (f .f2) s at))
+setStays Ligatures b i a s at = isSome (cutLigatures (mapOf i) (ligatureSet s at))
+setStays (Pairs f) b i a s at = isSome (cutPairs (mapOf i) (pairsOf (f .f1) (f .f2) s at))
 
 -- the words of what is left of the set at a place
 abbrev pub setWordsOf : Kind → List ℕ → List ℕ → List ℕ → List ℕ → List ℕ → ℕ → List ℕ
 setWordsOf Rules b i a l s at = Rule.setLeft false (mapsOf b i a l) s at
 setWordsOf ChainedRules b i a l s at = Rule.setLeft true (mapsOf b i a l) s at
 setWordsOf Ligatures b i a l s at = Ligature.setLeft i s at
-setWordsOf (Pairs f) b i a l s at = pairSetWords (pairsThin (mapEntries i) (f .f1) (f .f2) (f .n1) (f .n2) s at)
+setWordsOf (Pairs f) b i a l s at = pairSetWords (pairsThin (mapOf i) (f .f1) (f .f2) (f .n1) (f .n2) s at)
 
 -- blocks were laid down: their offsets from `slot` on, themselves from `first` on, and r is the place after them
 pub record LaidDown (bs : List (Option (List ℕ))) (before : List ℕ) (slot first : ℕ) (after : List ℕ) (r : ℕ) : Type 0 where

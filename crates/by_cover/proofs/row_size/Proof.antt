@@ -4,13 +4,13 @@ use Prim.Native.Nat.{_-_}
 use native.Mathlib.Omega.{arith}
 use lib.ListN.{length}
 use borrow.Author.Needs.{needs}
-use Rattle.meaning.specs.Maps.{mapEntries}
+use Rattle.maps.specs.Forms.{mapOf}
 use Rattle.by_cover.proofs.Sizing.{cuts-at, RowSizing, row-sizing-all, row-sizing-null, row-sizing-gone, row-sizing-kept, row-sizing-end}
 use Rattle.by_cover.proofs.row_size.Statement.{statement}
 use Rattle.by_cover.proofs.row_size.Tie as tie
 
 abbrev Inv-loop : tie.InvT-loop
-Inv-loop src row glyphs work₀ total₀ i₀ work total i = RowSizing (mapEntries glyphs) src row total i × (length work ≡ length work₀)
+Inv-loop src row glyphs work₀ total₀ i₀ work total i = RowSizing (mapOf glyphs) src row total i × (length work ≡ length work₀)
 
 abbrev μ-loop : tie.MeasureT-loop
 μ-loop src row glyphs work₀ total₀ i₀ work total i = row .len - i

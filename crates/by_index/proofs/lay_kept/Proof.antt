@@ -5,7 +5,7 @@ use native.Mathlib.Omega.{arith}
 use lib.ListN.{length}
 use borrow.Author.Needs.{needs}
 use Rattle.meaning.specs.Words.{word}
-use Rattle.meaning.specs.Maps.{mapEntries}
+use Rattle.maps.specs.Forms.{mapOf}
 use Rattle.meaning.specs.Parts.{coverage}
 use Rattle.by_index.specs.Kept.{stays}
 use Rattle.by_index.proofs.Joints.{kept-count, kept-length, part-length, laid-null, laid-none, laid-some}
@@ -40,7 +40,7 @@ mul-lay c =
     let v = k .before .before .before in
     let w = v .before .before in
     let a = w .before .before .before .before .before .before .before in
-    omega (arith, kept-count (stays (a .args .kind) (a .args .glyphs .now) (a .args .src .now)) (mapEntries (a .args .glyphs .now)) (coverage (a .args .src .now) (w .word-at .result)) (a .args .src .now) 6 (v .word-at2 .result) (k .keep-sets .ensures), v .word-at2 .ensures .1)
+    omega (arith, kept-count (stays (a .args .kind) (a .args .glyphs .now) (a .args .src .now)) (mapOf (a .args .glyphs .now)) (coverage (a .args .src .now) (w .word-at .result)) (a .args .src .now) 6 (v .word-at2 .result) (k .keep-sets .ensures), v .word-at2 .ensures .1)
 
 slice-reshare-prefix-lay : tie.Need-slice-reshare-prefix-lay
 slice-reshare-prefix-lay c =
@@ -48,7 +48,7 @@ slice-reshare-prefix-lay c =
     let v = k .before .before .before in
     let w = v .before .before in
     let a = w .before .before .before .before .before .before .before in
-    omega (arith, kept-count (stays (a .args .kind) (a .args .glyphs .now) (a .args .src .now)) (mapEntries (a .args .glyphs .now)) (coverage (a .args .src .now) (w .word-at .result)) (a .args .src .now) 6 (v .word-at2 .result) (k .keep-sets .ensures), v .word-at2 .ensures .0, a .pre .glyph-room, kept-length (stays (a .args .kind) (a .args .glyphs .now) (a .args .src .now)) (mapEntries (a .args .glyphs .now)) (coverage (a .args .src .now) (w .word-at .result)) (a .args .src .now) 6 (v .word-at2 .result) (k .keep-sets .ensures))
+    omega (arith, kept-count (stays (a .args .kind) (a .args .glyphs .now) (a .args .src .now)) (mapOf (a .args .glyphs .now)) (coverage (a .args .src .now) (w .word-at .result)) (a .args .src .now) 6 (v .word-at2 .result) (k .keep-sets .ensures), v .word-at2 .ensures .0, a .pre .glyph-room, kept-length (stays (a .args .kind) (a .args .glyphs .now) (a .args .src .now)) (mapOf (a .args .glyphs .now)) (coverage (a .args .src .now) (w .word-at .result)) (a .args .src .now) 6 (v .word-at2 .result) (k .keep-sets .ensures))
 
 slice-aggregate-lay : tie.Need-slice-aggregate-lay
 slice-aggregate-lay c =
@@ -56,7 +56,7 @@ slice-aggregate-lay c =
     let v = k .before .before .before in
     let w = v .before .before in
     let a = w .before .before .before .before .before .before .before in
-    sym (part-length (stays (a .args .kind) (a .args .glyphs .now) (a .args .src .now)) (mapEntries (a .args .glyphs .now)) (coverage (a .args .src .now) (w .word-at .result)) (a .args .src .now) 6 (v .word-at2 .result) (k .keep-sets .ensures) (rw (sym (v .word-at2 .ensures .0)) at (a .pre .glyph-room)))
+    sym (part-length (stays (a .args .kind) (a .args .glyphs .now) (a .args .src .now)) (mapOf (a .args .glyphs .now)) (coverage (a .args .src .now) (w .word-at .result)) (a .args .src .now) 6 (v .word-at2 .result) (k .keep-sets .ensures) (rw (sym (v .word-at2 .ensures .0)) at (a .pre .glyph-room)))
 
 lay-requires : tie.Need-lay-requires
 lay-requires c κs =
@@ -64,7 +64,7 @@ lay-requires c κs =
     let v = k .before .before .before in
     let w = v .before .before in
     let a = w .before .before .before .before .before .before .before in
-    record { maps = a .pre .maps; count = omega (arith, kept-count (stays (a .args .kind) (a .args .glyphs .now) (a .args .src .now)) (mapEntries (a .args .glyphs .now)) (coverage (a .args .src .now) (w .word-at .result)) (a .args .src .now) 6 (v .word-at2 .result) (k .keep-sets .ensures), v .word-at2 .ensures .1); short = omega (arith, part-length (stays (a .args .kind) (a .args .glyphs .now) (a .args .src .now)) (mapEntries (a .args .glyphs .now)) (coverage (a .args .src .now) (w .word-at .result)) (a .args .src .now) 6 (v .word-at2 .result) (k .keep-sets .ensures) (rw (sym (v .word-at2 .ensures .0)) at (a .pre .glyph-room)), kept-count (stays (a .args .kind) (a .args .glyphs .now) (a .args .src .now)) (mapEntries (a .args .glyphs .now)) (coverage (a .args .src .now) (w .word-at .result)) (a .args .src .now) 6 (v .word-at2 .result) (k .keep-sets .ensures), v .word-at2 .ensures .1) }
+    record { maps = a .pre .maps; count = omega (arith, kept-count (stays (a .args .kind) (a .args .glyphs .now) (a .args .src .now)) (mapOf (a .args .glyphs .now)) (coverage (a .args .src .now) (w .word-at .result)) (a .args .src .now) 6 (v .word-at2 .result) (k .keep-sets .ensures), v .word-at2 .ensures .1); short = omega (arith, part-length (stays (a .args .kind) (a .args .glyphs .now) (a .args .src .now)) (mapOf (a .args .glyphs .now)) (coverage (a .args .src .now) (w .word-at .result)) (a .args .src .now) 6 (v .word-at2 .result) (k .keep-sets .ensures) (rw (sym (v .word-at2 .ensures .0)) at (a .pre .glyph-room)), kept-count (stays (a .args .kind) (a .args .glyphs .now) (a .args .src .now)) (mapOf (a .args .glyphs .now)) (coverage (a .args .src .now) (w .word-at .result)) (a .args .src .now) 6 (v .word-at2 .result) (k .keep-sets .ensures), v .word-at2 .ensures .1) }
 
 returns-3 : tie.Need-returns-3
 returns-3 c =

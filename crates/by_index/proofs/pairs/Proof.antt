@@ -4,7 +4,7 @@ use mathlib.Core.Path.{_≡_, sym, ap, _∙_}
 use native.Mathlib.Omega.{arith}
 use borrow.Author.Needs.{needs}
 use Rattle.meaning.specs.Words.{word}
-use Rattle.meaning.specs.Maps.{mapEntries}
+use Rattle.maps.specs.Forms.{mapOf}
 use Rattle.meaning.specs.Parts.{coverage}
 use Rattle.by_index.specs.Kept.{stays}
 use Rattle.by_index.specs.PairTable.{pairKind}
@@ -44,7 +44,7 @@ mul-lay-pairs c =
     let x = v .before .before in
     let w = x .before .before in
     let a = w .before .before .before .before .before .before .before in
-    omega (arith, kept-count (stays (pairKind (x .word-at2 .result) (v .before .word-at3 .result) 0 0) (a .args .glyphs .now) (a .args .src .now)) (mapEntries (a .args .glyphs .now)) (coverage (a .args .src .now) (w .word-at .result)) (a .args .src .now) 10 (v .word-at4 .result) (k .keep-sets .ensures), v .word-at4 .ensures .1)
+    omega (arith, kept-count (stays (pairKind (x .word-at2 .result) (v .before .word-at3 .result) 0 0) (a .args .glyphs .now) (a .args .src .now)) (mapOf (a .args .glyphs .now)) (coverage (a .args .src .now) (w .word-at .result)) (a .args .src .now) 10 (v .word-at4 .result) (k .keep-sets .ensures), v .word-at4 .ensures .1)
 
 slice-reshare-prefix-lay-pairs : tie.Need-slice-reshare-prefix-lay-pairs
 slice-reshare-prefix-lay-pairs c =
@@ -53,7 +53,7 @@ slice-reshare-prefix-lay-pairs c =
     let x = v .before .before in
     let w = x .before .before in
     let a = w .before .before .before .before .before .before .before in
-    omega (arith, kept-count (stays (pairKind (x .word-at2 .result) (v .before .word-at3 .result) 0 0) (a .args .glyphs .now) (a .args .src .now)) (mapEntries (a .args .glyphs .now)) (coverage (a .args .src .now) (w .word-at .result)) (a .args .src .now) 10 (v .word-at4 .result) (k .keep-sets .ensures), v .word-at4 .ensures .0, a .pre .glyph-room, kept-length (stays (pairKind (x .word-at2 .result) (v .before .word-at3 .result) 0 0) (a .args .glyphs .now) (a .args .src .now)) (mapEntries (a .args .glyphs .now)) (coverage (a .args .src .now) (w .word-at .result)) (a .args .src .now) 10 (v .word-at4 .result) (k .keep-sets .ensures))
+    omega (arith, kept-count (stays (pairKind (x .word-at2 .result) (v .before .word-at3 .result) 0 0) (a .args .glyphs .now) (a .args .src .now)) (mapOf (a .args .glyphs .now)) (coverage (a .args .src .now) (w .word-at .result)) (a .args .src .now) 10 (v .word-at4 .result) (k .keep-sets .ensures), v .word-at4 .ensures .0, a .pre .glyph-room, kept-length (stays (pairKind (x .word-at2 .result) (v .before .word-at3 .result) 0 0) (a .args .glyphs .now) (a .args .src .now)) (mapOf (a .args .glyphs .now)) (coverage (a .args .src .now) (w .word-at .result)) (a .args .src .now) 10 (v .word-at4 .result) (k .keep-sets .ensures))
 
 slice-aggregate-lay-pairs : tie.Need-slice-aggregate-lay-pairs
 slice-aggregate-lay-pairs c =
@@ -62,7 +62,7 @@ slice-aggregate-lay-pairs c =
     let x = v .before .before in
     let w = x .before .before in
     let a = w .before .before .before .before .before .before .before in
-    sym (part-length (stays (pairKind (x .word-at2 .result) (v .before .word-at3 .result) 0 0) (a .args .glyphs .now) (a .args .src .now)) (mapEntries (a .args .glyphs .now)) (coverage (a .args .src .now) (w .word-at .result)) (a .args .src .now) 10 (v .word-at4 .result) (k .keep-sets .ensures) (rw (sym (v .word-at4 .ensures .0)) at (a .pre .glyph-room)))
+    sym (part-length (stays (pairKind (x .word-at2 .result) (v .before .word-at3 .result) 0 0) (a .args .glyphs .now) (a .args .src .now)) (mapOf (a .args .glyphs .now)) (coverage (a .args .src .now) (w .word-at .result)) (a .args .src .now) 10 (v .word-at4 .result) (k .keep-sets .ensures) (rw (sym (v .word-at4 .ensures .0)) at (a .pre .glyph-room)))
 
 lay-pairs-requires : tie.Need-lay-pairs-requires
 lay-pairs-requires c κs =
@@ -71,7 +71,7 @@ lay-pairs-requires c κs =
     let x = v .before .before in
     let w = x .before .before in
     let a = w .before .before .before .before .before .before .before in
-    record { maps = a .pre .maps; count = omega (arith, kept-count (stays (pairKind (x .word-at2 .result) (v .before .word-at3 .result) 0 0) (a .args .glyphs .now) (a .args .src .now)) (mapEntries (a .args .glyphs .now)) (coverage (a .args .src .now) (w .word-at .result)) (a .args .src .now) 10 (v .word-at4 .result) (k .keep-sets .ensures), v .word-at4 .ensures .1); short = omega (arith, part-length (stays (pairKind (x .word-at2 .result) (v .before .word-at3 .result) 0 0) (a .args .glyphs .now) (a .args .src .now)) (mapEntries (a .args .glyphs .now)) (coverage (a .args .src .now) (w .word-at .result)) (a .args .src .now) 10 (v .word-at4 .result) (k .keep-sets .ensures) (rw (sym (v .word-at4 .ensures .0)) at (a .pre .glyph-room)), kept-count (stays (pairKind (x .word-at2 .result) (v .before .word-at3 .result) 0 0) (a .args .glyphs .now) (a .args .src .now)) (mapEntries (a .args .glyphs .now)) (coverage (a .args .src .now) (w .word-at .result)) (a .args .src .now) 10 (v .word-at4 .result) (k .keep-sets .ensures), v .word-at4 .ensures .1) }
+    record { maps = a .pre .maps; count = omega (arith, kept-count (stays (pairKind (x .word-at2 .result) (v .before .word-at3 .result) 0 0) (a .args .glyphs .now) (a .args .src .now)) (mapOf (a .args .glyphs .now)) (coverage (a .args .src .now) (w .word-at .result)) (a .args .src .now) 10 (v .word-at4 .result) (k .keep-sets .ensures), v .word-at4 .ensures .1); short = omega (arith, part-length (stays (pairKind (x .word-at2 .result) (v .before .word-at3 .result) 0 0) (a .args .glyphs .now) (a .args .src .now)) (mapOf (a .args .glyphs .now)) (coverage (a .args .src .now) (w .word-at .result)) (a .args .src .now) 10 (v .word-at4 .result) (k .keep-sets .ensures) (rw (sym (v .word-at4 .ensures .0)) at (a .pre .glyph-room)), kept-count (stays (pairKind (x .word-at2 .result) (v .before .word-at3 .result) 0 0) (a .args .glyphs .now) (a .args .src .now)) (mapOf (a .args .glyphs .now)) (coverage (a .args .src .now) (w .word-at .result)) (a .args .src .now) 10 (v .word-at4 .result) (k .keep-sets .ensures), v .word-at4 .ensures .1) }
 
 returns-3 : tie.Need-returns-3
 returns-3 c =

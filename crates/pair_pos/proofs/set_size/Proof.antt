@@ -1,7 +1,7 @@
 use Prim.Native.Nat.{_*_, _<_}
 use native.Mathlib.Omega.{arith}
 use borrow.Author.Needs.{needs}
-use Rattle.meaning.specs.Maps.{mapEntries}
+use Rattle.maps.specs.Forms.{mapOf}
 use Rattle.pair_pos.specs.Pairs.{pairsLeft}
 use Rattle.pair_pos.proofs.Sizes.{records-small, set-bytes}
 use Rattle.pair_pos.proofs.set_size.Statement.{statement}
@@ -20,7 +20,7 @@ add-result c = omega (arith, few c)
 returns : tie.Need-returns
 returns c =
     let a = c .before .before .before .before .args in
-    let ps = pairsLeft (mapEntries (a .glyphs .now)) (a .f1) (a .f2) (a .src .now) (a .at) in
+    let ps = pairsLeft (mapOf (a .glyphs .now)) (a .f1) (a .f2) (a .src .now) (a .at) in
     (set-bytes (a .f1) (a .f2) (a .n1) (a .n2) ps (c .before .pair-size .ensures .0) (c .count-left .ensures .0), omega (arith, few c))
 
 pub set-size-spec : {M : Type 1} → statement M

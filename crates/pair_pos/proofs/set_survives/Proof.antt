@@ -1,5 +1,5 @@
 use Rattle.meaning.specs.Words.{isSome}
-use Rattle.meaning.specs.Maps.{mapEntries}
+use Rattle.maps.specs.Forms.{mapOf}
 use Rattle.meaning.specs.Tables.{fieldCount}
 use Rattle.meaning.specs.Cut.{cutPairs}
 use Rattle.pair_pos.specs.Pairs.{pairsOf}
@@ -9,7 +9,7 @@ use Rattle.pair_pos.proofs.set_survives.Statement.{statement}
 use Rattle.pair_pos.proofs.set_survives.Tie as tie
 
 abbrev Inv-pairs : tie.InvT-pairs
-Inv-pairs src at f1 f2 glyphs size p₀ left₀ p left = Walking glyphs src (fieldCount f1) (fieldCount f2) anyLeft (isSome (cutPairs (mapEntries glyphs) (pairsOf f1 f2 src at))) size p left
+Inv-pairs src at f1 f2 glyphs size p₀ left₀ p left = Walking glyphs src (fieldCount f1) (fieldCount f2) anyLeft (isSome (cutPairs (mapOf glyphs) (pairsOf f1 f2 src at))) size p left
 
 abbrev μ-pairs : tie.MeasureT-pairs
 μ-pairs src at f1 f2 glyphs size p₀ left₀ p left = left

@@ -1,13 +1,13 @@
 use borrow.Author.Needs.{needs}
 use Prim.Native.Nat.{_-_}
-use Rattle.meaning.specs.Maps.{mapEntries}
+use Rattle.maps.specs.Forms.{mapOf}
 use Rattle.maps.specs.Found.{finds-new, finds-none}
 use Rattle.sequences.proofs.Laws.{Mapping, mapping-all, mapping-turn, mapping-gone, mapping-end}
 use Rattle.sequences.proofs.mapped.Statement.{statement}
 use Rattle.sequences.proofs.mapped.Tie as tie
 
 abbrev Inv-loop : tie.InvT-loop
-Inv-loop src at n map i₀ i = Mapping (mapEntries map) src at n i
+Inv-loop src at n map i₀ i = Mapping (mapOf map) src at n i
 
 abbrev μ-loop : tie.MeasureT-loop
 μ-loop src at n map i₀ i = n - i

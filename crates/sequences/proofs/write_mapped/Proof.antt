@@ -1,14 +1,14 @@
 use borrow.Author.Needs.{needs}
 use mathlib.Core.Path.{refl}
 use Prim.Native.Nat.{_-_}
-use Rattle.meaning.specs.Maps.{mapEntries}
+use Rattle.maps.specs.Forms.{mapOf}
 use Rattle.laws.specs.Written.{wrote-length}
 use Rattle.sequences.proofs.Laws.{Renumbering, renumbering-all, renumbering-turn, renumbering-end}
 use Rattle.sequences.proofs.write_mapped.Statement.{statement}
 use Rattle.sequences.proofs.write_mapped.Tie as tie
 
 abbrev Inv-loop : tie.InvT-loop
-Inv-loop src at n map out₀ pos i₀ out i = Renumbering (mapEntries map) src at n out₀ pos out i
+Inv-loop src at n map out₀ pos i₀ out i = Renumbering (mapOf map) src at n out₀ pos out i
 
 abbrev μ-loop : tie.MeasureT-loop
 μ-loop src at n map out₀ pos i₀ out i = n - i
