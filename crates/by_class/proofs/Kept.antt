@@ -12,6 +12,7 @@ use lib.Dec.{eqb}
 use borrow.Author.Tests.{ne-eqb, eq-eqb}
 use Rattle.meaning.specs.Words.{word, words, flat, keys, isSome, member}
 use Rattle.meaning.specs.Maps.{mapEntries}
+use Rattle.maps.specs.Forms.{mapOf, of-listed}
 use Rattle.meaning.specs.Parts.{coverage, classes}
 use Rattle.meaning.specs.Tables.{Rule, Table, reach, reaches, ruleSet, classContext}
 use Rattle.meaning.specs.Cut.{RuleMaps, heldBy, classMap, classMap?, newClasses?, newCoverage, retained, unlessEmpty, cutSet, slots, trim, keptByClass, cut}
@@ -161,13 +162,13 @@ module _ {chained : Bool} {s glyphs lookups b i a c : List ℕ} {room free : ℕ
   places = placesOf (kindOf chained) b i a c s slot (word s (countSlot chained))
 
   -- the map of the input is that of its class table
-  input-ranks : mapEntries i ≡ classMap g cs
+  input-ranks : mapOf i ≡ classMap g cs
   input-ranks = k .ready .tables .input .ranks ∙ sym (map-there g s (inputAt chained s) (k .classed))
 
-  input-keys : keys (mapEntries i) ≡ heldBy cs (keys g)
+  input-keys : keys (mapOf i) ≡ heldBy cs (keys g)
   input-keys = ap keys input-ranks ∙ map-keys g cs
 
-  covered-keys : keys (mapEntries c) ≡ heldBy cs (retained g cov)
+  covered-keys : keys (mapOf c) ≡ heldBy cs (retained g cov)
   covered-keys = ap keys (k .held) ∙ covered-held g cs cov
 
   -- the classes that retained covered glyphs hold can be asked for, and so can the three class maps
@@ -184,16 +185,16 @@ module _ {chained : Bool} {s glyphs lookups b i a c : List ℕ} {room free : ℕ
   kept-are : map (block (setWords (ruleWords chained))) kept ≡ slotBlocks (setWordsOf (kindOf chained) b i a lookups s) (trimmed places)
   kept-are = rw (input-keys, covered-keys) (slots-are s b i a lookups chained (heldBy cs (retained g cov)) slot (word s (countSlot chained)) (heldBy cs (keys g)))
 
-  context-cut : cut g (mapEntries lookups) (classContext chained s)
+  context-cut : cut g (mapOf lookups) (classContext chained s)
       ≡ keptByClass chained (newCoverage g cov) (newClasses? g (tableAt s (backAt chained s))) (newClasses? g (tableAt s (inputAt chained s))) (newClasses? g (tableAt s (aheadAt chained s))) kept
   unfolding reach tableAt
   context-cut =
-      let maps : mapsOf b i a lookups ≡ record { back = classMap? g (tableAt s (backAt chained s)); input = classMap g cs; ahead = classMap? g (tableAt s (aheadAt chained s)); lookups = mapEntries lookups } =
+      let maps : mapsOf b i a lookups ≡ record { back = classMap? g (tableAt s (backAt chained s)); input = classMap g cs; ahead = classMap? g (tableAt s (aheadAt chained s)); lookups = mapOf lookups } =
       rw (k .ready .tables .back .ranks, input-ranks, k .ready .tables .ahead .ranks)
       in
-      ap (cut g (mapEntries lookups)) (context-is chained s)
+      ap (cut g (mapOf lookups)) (context-is chained s)
       ∙ rw (ne-eqb (word s 2) 0 (k .covers), ne-eqb (inputAt chained s) 0 (k .classed), zero-add (word s 2))
-      (cut-class chained g (mapEntries lookups) cov cs (tableAt s (backAt chained s)) (tableAt s (aheadAt chained s)) sets (mapsOf b i a lookups) maps)
+      (cut-class chained g (mapOf lookups) cov cs (tableAt s (backAt chained s)) (tableAt s (aheadAt chained s)) sets (mapsOf b i a lookups) maps)
 
   -- a slot is kept only if a retained glyph is covered
   cover-there : (length (trimmed places) ≡ 0 → ⊥) → coverWords (newCoverage g cov) ≡ coverageWords (newCoverage g cov)
@@ -206,8 +207,8 @@ module _ {chained : Bool} {s glyphs lookups b i a c : List ℕ} {room free : ℕ
 
       step : (ns : List ℕ) → newCoverage g cov ≡ ns → coverWords ns ≡ coverageWords ns
       step [] e =
-          let z : keys (mapEntries c) ≡ [] = ap keys (k .held) ∙ empty (retainedEntries g cov) (entries-count g cov ∙ ap length e) in
-          absurd (h (rw z (ap length (places-none (setStays (kindOf chained) b i a s) (words s slot (word s (countSlot chained))) (keys (mapEntries i))))))
+          let z : keys (mapOf c) ≡ [] = ap keys (k .held) ∙ empty (retainedEntries g cov) (entries-count g cov ∙ ap length e) in
+          absurd (h (rw z (ap length (places-none (setStays (kindOf chained) b i a s) (words s slot (word s (countSlot chained))) (keys (mapOf i))))))
       step (n ∷ ns) e = refl
 
   -- the places that were filled in are these
@@ -218,25 +219,25 @@ module _ {chained : Bool} {s glyphs lookups b i a c : List ℕ} {room free : ℕ
     -- there are few slots
     pub slots-few : {at m : ℕ} → at ≡ countSlot chained → (m ≡ word s at) × (m < 65536) → n < 65536
     slots-few f h =
-        let u = ascends-up 0 (keys (mapEntries i)) (maps-ascend .input) (λ x r e. omega arith) in
-        omega (arith, p .count, h .1, rw f at (h .0), places-few (setStays (kindOf chained) b i a s) (mapEntries c) s slot (word s (countSlot chained)) 0 (keys (mapEntries i)) u)
+        let u = ascends-up 0 (keys (mapOf i)) (maps-ascend .input) (λ x r e. omega arith) in
+        omega (arith, p .count, h .1, rw f at (h .0), places-few (setStays (kindOf chained) b i a s) (mapOf c) s slot (word s (countSlot chained)) 0 (keys (mapOf i)) u)
 
     -- the first of them, read back from scratch
     slots-back : length before ≡ free → words after 0 n ≡ trimmed places
     unfolding mapEntries
     slots-back f =
-        let long = places-length (slotPlace (setStays (kindOf chained) b i a s) (keys (mapEntries c)) (words s slot (word s (countSlot chained)))) i in
-        let many : length i / 4 ≤ length glyphs / 4 = omega (arith, ap length input-ranks, class-map-length g cs, entries-length i 0 (length i / 4), entries-length glyphs 0 (length glyphs / 4)) in
+        let long = places-length (slotPlace (setStays (kindOf chained) b i a s) (keys (mapOf c)) (words s slot (word s (countSlot chained)))) i (k .listed) in
+        let many : length i / 4 ≤ length glyphs / 4 = omega (arith, ap length (sym (of-listed i (λ e. omega (arith, k .listed))) ∙ input-ranks), class-map-length g cs, entries-length i 0 (length i / 4), entries-length glyphs 0 (length glyphs / 4)) in
         let e = scratch-first before places n (p .small) (omega (arith, long, many, k .places)) (omega (arith, p .count, trimmed-fewer places)) in
         rw (p .bytes) (e ∙ rw (p .count) (sym (trimmed-take places)))
 
     -- nothing is left
-    pub nothing-left : (out : List ℕ) → n ≡ 0 → refused out 8 ≡ written out (cut g (mapEntries lookups) (classContext chained s))
+    pub nothing-left : (out : List ℕ) → n ≡ 0 → refused out 8 ≡ written out (cut g (mapOf lookups) (classContext chained s))
     nothing-left out z =
         rw context-cut (none-kept chained (newCoverage g cov) (newClasses? g (tableAt s (backAt chained s))) (newClasses? g (tableAt s (inputAt chained s))) (newClasses? g (tableAt s (aheadAt chained s))) out (setWordsOf (kindOf chained) b i a lookups s) kept (trimmed places) kept-are (sym (p .count) ∙ z))
 
     -- something is left
-    pub something-left : (out : List ℕ) → length before ≡ free → (n ≡ 0 → ⊥) → laidInto out (flat (contextWords chained s b i a lookups after n g)) ≡ written out (cut g (mapEntries lookups) (classContext chained s))
+    pub something-left : (out : List ℕ) → length before ≡ free → (n ≡ 0 → ⊥) → laidInto out (flat (contextWords chained s b i a lookups after n g)) ≡ written out (cut g (mapOf lookups) (classContext chained s))
     something-left out f z =
         let t = tail-is chained g s cov (newCoverage g cov) (cover-there (λ e. z (p .count ∙ e))) refl refl in
         rw (context-cut, slots-back f, t)

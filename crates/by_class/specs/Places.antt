@@ -1,5 +1,5 @@
 -- The places of the sets of surviving classes: what one is, way by way, and all of them in scratch.
-use Prim.Native.Nat.{ℕ, zero, suc, _+_, _*_, _/_, _≤_, _<_}
+use Prim.Native.Nat.{ℕ, zero, suc, _+_, _*_, _/_, _%_, _≤_, _<_}
 use mathlib.Core.Path.{_≡_, refl, sym, ap, _∙_}
 use mathlib.Core.Bool.{Bool, true, false, cond, _||_}
 use mathlib.Core.Option.{none, some}
@@ -11,6 +11,7 @@ use lib.Dec.{eqb}
 use borrow.Author.Tests.{ne-eqb}
 use Rattle.meaning.specs.Words.{word, words, bytes2, flat, find, isSome, member, keys}
 use Rattle.meaning.specs.Maps.{mapEntries}
+use Rattle.maps.specs.Forms.{mapOf, of-listed}
 use Rattle.laws.specs.Stands.{All, Word}
 use Rattle.laws.specs.Left.{words-at, words-length}
 use Rattle.laws.specs.Ascends.{map-length, map-key}
@@ -20,7 +21,7 @@ use Rattle.sets.specs.Sets.{setStays}
 
 -- the places for the slots of the surviving classes, which the map of the input has; `covered` has the classes of retained covered glyphs, and the n offsets stand from `slot` on
 abbrev pub placesOf : Kind → List ℕ → List ℕ → List ℕ → List ℕ → List ℕ → ℕ → ℕ → List ℕ
-placesOf kind b i a covered s slot n = map (slotPlace (setStays kind b i a s) (keys (mapEntries covered)) (words s slot n)) (keys (mapEntries i))
+placesOf kind b i a covered s slot n = map (slotPlace (setStays kind b i a s) (keys (mapOf covered)) (words s slot n)) (keys (mapOf i))
 
 -- The places ps stand at the front, as far as there is room; r is one past the last that is not 0, and each is a word.
 pub record Placed (ps before : List ℕ) (r : ℕ) (after : List ℕ) : Type 0 where
@@ -82,35 +83,38 @@ module _ (has : ℕ → Bool) (es : List (ℕ × ℕ)) (s : List ℕ) (slot n c 
     unfolding slotPlace keptOrNull isSome
     place-stays f z d = rw (keys-found es c, f, offset-is, ne-eqb p 0 z, d) refl
 
--- there are as many as the map has entries, and each is that of its entry's class
-module _ (f : ℕ → ℕ) (m : List ℕ) where
-  pub places-length : length (map f (keys (mapEntries m))) ≡ length m / 4
-  places-length = length-map (keys (mapEntries m)) f ∙ map-length m
+-- there are as many as a listed map has entries, and each is that of its entry's class
+module _ (f : ℕ → ℕ) (m : List ℕ) (whole : length m % 4 ≡ 0) where
+  listed : mapOf m ≡ mapEntries m
+  listed = of-listed m (λ e. omega arith)
 
-  pub places-at : {k c p : ℕ} → k < length m / 4 → c ≡ word m (4 * k) → p ≡ f c → p ≡ getD (map f (keys (mapEntries m))) k 0
-  places-at {k} h e g = g ∙ ap f (e ∙ sym (map-key m k h)) ∙ sym (map-at (keys (mapEntries m)) k (omega (arith, map-length m)))
+  pub places-length : length (map f (keys (mapOf m))) ≡ length m / 4
+  places-length = rw listed (length-map (keys (mapEntries m)) f ∙ map-length m)
+
+  pub places-at : {k c p : ℕ} → k < length m / 4 → c ≡ word m (4 * k) → p ≡ f c → p ≡ getD (map f (keys (mapOf m))) k 0
+  places-at {k} h e g = rw listed (g ∙ ap f (e ∙ sym (map-key m k h)) ∙ sym (map-at (keys (mapEntries m)) k (omega (arith, map-length m))))
     where
       map-at : (l : List ℕ) (k : ℕ) → k < length l → getD (map f l) k 0 ≡ f (getD l k 0)
       map-at [] k h = absurd (omega arith)
       map-at (x ∷ l) zero h = refl
       map-at (x ∷ l) (suc k) h = map-at l k (omega arith)
 
-module _ (kind : Kind) (b i a covered s : List ℕ) (slot n : ℕ) where
+module _ (kind : Kind) (b i a covered s : List ℕ) (slot n : ℕ) (whole : length i % 4 ≡ 0) where
   -- one place: its map and its index settle it
   abbrev one : ℕ → ℕ
-  one = slotPlace (setStays kind b i a s) (keys (mapEntries covered)) (words s slot n)
+  one = slotPlace (setStays kind b i a s) (keys (mapOf covered)) (words s slot n)
 
   module _ {before : List ℕ} {at : List ℕ} {end k : ℕ} (c : Placing (placesOf kind b i a covered s slot n) before at end k) where
     -- a turn: the entry's class is read, its place is found and written
     module _ {class p : ℕ} {next : List ℕ} (h : k < length i / 4) (e : class ≡ word i (4 * k)) (f : p ≡ one class) (w : p < 65536) (g : next ≡ sets at (2 * k) (bytes2 p)) where
       pub placed-null : p ≡ 0 → Placing (placesOf kind b i a covered s slot n) before next end (k + 1)
-      placed-null z = placing-null (placesOf kind b i a covered s slot n) c (omega (arith, places-length one i)) (places-at one i h e f) w z g
+      placed-null z = placing-null (placesOf kind b i a covered s slot n) c (omega (arith, places-length one i whole)) (places-at one i whole h e f) w z g
 
       pub placed-set : (p ≡ 0 → ⊥) → Placing (placesOf kind b i a covered s slot n) before next (k + 1) (k + 1)
-      placed-set z = placing-set (placesOf kind b i a covered s slot n) c (omega (arith, places-length one i)) (places-at one i h e f) w z g
+      placed-set z = placing-set (placesOf kind b i a covered s slot n) c (omega (arith, places-length one i whole)) (places-at one i whole h e f) w z g
 
     -- the end
     pub placed-end : length i / 4 ≤ k → Placed (placesOf kind b i a covered s slot n) before end at
     placed-end h =
-        let t = placing-end (placesOf kind b i a covered s slot n) c (omega (arith, places-length one i)) in
+        let t = placing-end (placesOf kind b i a covered s slot n) c (omega (arith, places-length one i whole)) in
         record { count = t .1; bytes = t .0; small = t .2 }

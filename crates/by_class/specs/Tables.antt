@@ -13,6 +13,7 @@ use borrow.Author.Tests.{eq-eqb, ne-eqb, leb-true}
 use Rattle.meaning.specs.Words.{bytes2, flat, twos, threes}
 use Rattle.meaning.specs.Parts.{classes, classesSound}
 use Rattle.meaning.specs.Maps.{mapEntries, goodGlyphs}
+use Rattle.maps.specs.Forms.{mapOf}
 use Rattle.meaning.specs.Cut.{classMap, classMap?, newClasses, newClasses?}
 use Rattle.meaning.specs.Layout.{block, blocks, classWords, join, runs, spread}
 use Rattle.laws.specs.Stands.{threes-length}
@@ -43,7 +44,7 @@ SoundAt s at = (at ≡ 0 → ⊥) → classesSound s at ≡ true
 pub record Remakes (s : List ℕ) (at : ℕ) (glyphs map : List ℕ) (room : ℕ) : Type 0 where
   pub sound : SoundAt s at
   pub good : goodGlyphs glyphs ≡ true
-  pub ranks : mapEntries map ≡ mapAt (mapEntries glyphs) s at
+  pub ranks : mapOf map ≡ mapAt (mapEntries glyphs) s at
   pub fits : length glyphs ≤ room
 
 module _ (g : List (ℕ × ℕ)) (s : List ℕ) (at : ℕ) where

@@ -1,5 +1,5 @@
 -- A context by classes as a whole: what is asked of what is made of it, and the words of what is left of it.
-use Prim.Native.Nat.{ℕ, _+_, _*_, _≤_, _<_}
+use Prim.Native.Nat.{ℕ, _%_, _+_, _*_, _≤_, _<_}
 use mathlib.Core.Path.{_≡_}
 use mathlib.Core.Bool.{Bool}
 use mathlib.Core.Option.{Option}
@@ -7,6 +7,7 @@ use mathlib.Core.List.{List, []}
 use lib.ListN.{length}
 use Rattle.meaning.specs.Words.{word, words}
 use Rattle.meaning.specs.Maps.{mapEntries}
+use Rattle.maps.specs.Forms.{mapOf}
 use Rattle.meaning.specs.Parts.{coverage, classes}
 use Rattle.meaning.specs.Cut.{classMap}
 use Rattle.meaning.specs.Layout.{blocks, setsLayout}
@@ -46,8 +47,9 @@ pub record Mapped (chained : Bool) (s glyphs lookups b i a c : List ℕ) (slots 
   pub old-lookups : Ascends lookups
   pub covers : word s 2 ≡ 0 → ⊥
   pub classed : inputAt chained s ≡ 0 → ⊥
-  pub held : mapEntries c ≡ classMap (retainedEntries (mapEntries glyphs) (coverage s (word s 2))) (classes s (inputAt chained s))
+  pub held : mapOf c ≡ classMap (retainedEntries (mapEntries glyphs) (coverage s (word s 2))) (classes s (inputAt chained s))
   pub few : length i ≤ 262144
+  pub listed : length i % 4 ≡ 0
   pub places : length glyphs ≤ 2 * slots
 
 -- What is known once the classes of the input are ranked: neither the coverage nor the input's class table is null, `i` has its class map and `c` the classes that retained covered glyphs hold, and there is room for the rest; u, v, p and w are the lengths of `back`, `ahead`, `slots` and `work`.
@@ -55,9 +57,10 @@ pub record Begun (chained : Bool) (s glyphs lookups i c : List ℕ) (u v p w : �
   pub good : Good chained s glyphs lookups
   pub covers : word s 2 ≡ 0 → ⊥
   pub classed : inputAt chained s ≡ 0 → ⊥
-  pub ranks : mapEntries i ≡ mapAt (mapEntries glyphs) s (inputAt chained s)
+  pub ranks : mapOf i ≡ mapAt (mapEntries glyphs) s (inputAt chained s)
   pub few : length i ≤ 262144
-  pub held : mapEntries c ≡ classMap (retainedEntries (mapEntries glyphs) (coverage s (word s 2))) (classes s (inputAt chained s))
+  pub listed : length i % 4 ≡ 0
+  pub held : mapOf c ≡ classMap (retainedEntries (mapEntries glyphs) (coverage s (word s 2))) (classes s (inputAt chained s))
   pub back : length glyphs ≤ u
   pub ahead : length glyphs ≤ v
   pub slots : length glyphs ≤ 2 * p

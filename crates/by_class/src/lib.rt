@@ -26,6 +26,7 @@ ghost use lib.ListN.{length};
 ghost use lib.Seq.{sets};
 ghost use Rattle.meaning.specs.Words.{words, flat, keys};
 ghost use Rattle.meaning.specs.Maps.{mapEntries};
+ghost use Rattle.maps.specs.Forms.{mapOf};
 ghost use Rattle.meaning.specs.Parts.{coverage, coverageSound, classes, classesSound};
 ghost use Rattle.meaning.specs.Tables.{classContext};
 ghost use Rattle.meaning.specs.Cut.{classMap, cut};
@@ -55,7 +56,7 @@ fn slot_place(
     ahead: &[u8],
 ) -> usize
     requires { ⌜ (slot < 65536) × (n < 65536) × Ascends (now covered) × NumbersAscend (now back) (now input) (now ahead) ⌝ }
-    ensures { λ r. ⌜ (r ≡ slotPlace (setStays kind (now (back .entry)) (now (input .entry)) (now (ahead .entry)) (now (src .entry))) (keys (mapEntries (now (covered .entry)))) (words (now (src .entry)) slot n) class) × (r < 65536) ⌝ }
+    ensures { λ r. ⌜ (r ≡ slotPlace (setStays kind (now (back .entry)) (now (input .entry)) (now (ahead .entry)) (now (src .entry))) (keys (mapOf (now (covered .entry)))) (words (now (src .entry)) slot n) class) × (r < 65536) ⌝ }
 {
     let Found::New(_) = find(covered, class) else {
         return 0;
@@ -85,7 +86,7 @@ fn fill_slots(
     ahead: &[u8],
     slots: &mut [u8],
 ) -> usize
-    requires { ⌜ (slot < 65536) × (n < 65536) × Ascends (now covered) × NumbersAscend (now back) (now input) (now ahead) × (length (now input) < 0x1_0000_0000) ⌝ }
+    requires { ⌜ (slot < 65536) × (n < 65536) × Ascends (now covered) × NumbersAscend (now back) (now input) (now ahead) × (length (now input) < 0x1_0000_0000) × (length (now input) % 4 ≡ 0) ⌝ }
     ensures { λ r. ⌜ Placed (placesOf kind (now (back .entry)) (now (input .entry)) (now (ahead .entry)) (now (covered .entry)) (now (src .entry)) slot n) (now (slots .entry)) r (now (slots .exit)) ⌝ }
 {
     let mut end = 0;
@@ -358,7 +359,7 @@ fn with_maps(
     out: &mut [u8],
 ) -> Laid
     requires { ⌜ Mapped chained (now src) (now glyphs) (now lookups) (now back) (now input) (now ahead) (now covered) (length (now slots)) (length (now work)) ⌝ }
-    ensures { λ r. ⌜ outcomeOf r (now (out .exit)) ≡ written (now (out .entry)) (cut (mapEntries (now (glyphs .entry))) (mapEntries (now (lookups .entry))) (classContext chained (now (src .entry)))) ⌝ }
+    ensures { λ r. ⌜ outcomeOf r (now (out .exit)) ≡ written (now (out .entry)) (cut (mapEntries (now (glyphs .entry))) (mapOf (now (lookups .entry))) (classContext chained (now (src .entry)))) ⌝ }
 {
     let slot = count_slot(chained);
     let count = word_at(src, slot);
@@ -436,7 +437,7 @@ fn with_input(
     out: &mut [u8],
 ) -> Laid
     requires { ⌜ Begun chained (now src) (now glyphs) (now lookups) (now input) (now covered) (length (now back)) (length (now ahead)) (length (now slots)) (length (now work)) ⌝ }
-    ensures { λ r. ⌜ outcomeOf r (now (out .exit)) ≡ written (now (out .entry)) (cut (mapEntries (now (glyphs .entry))) (mapEntries (now (lookups .entry))) (classContext chained (now (src .entry)))) ⌝ }
+    ensures { λ r. ⌜ outcomeOf r (now (out .exit)) ≡ written (now (out .entry)) (cut (mapEntries (now (glyphs .entry))) (mapOf (now (lookups .entry))) (classContext chained (now (src .entry)))) ⌝ }
 {
     let b = rank_at(src, back_at(chained, src), glyphs, back);
     let a = rank_at(src, ahead_at(chained, src), glyphs, ahead);
@@ -472,7 +473,7 @@ pub fn by_class(
     out: &mut [u8],
 ) -> Laid
     requires { ⌜ Asks chained (now src) (now glyphs) (now lookups) (length (now back)) (length (now input)) (length (now ahead)) (length (now covered)) (length (now slots)) (length (now work)) ⌝ }
-    ensures { λ r. ⌜ outcomeOf r (now (out .exit)) ≡ written (now (out .entry)) (cut (mapEntries (now (glyphs .entry))) (mapEntries (now (lookups .entry))) (classContext chained (now (src .entry)))) ⌝ }
+    ensures { λ r. ⌜ outcomeOf r (now (out .exit)) ≡ written (now (out .entry)) (cut (mapEntries (now (glyphs .entry))) (mapOf (now (lookups .entry))) (classContext chained (now (src .entry)))) ⌝ }
 {
     let cover = word_at(src, 2);
     if cover == 0 {

@@ -10,6 +10,7 @@ use lib.Seq.{sets}
 use Rattle.meaning.specs.Words.{word, ascends, keys, find, push, mapSome, flat}
 use Rattle.meaning.specs.Parts.{classes, classOf}
 use Rattle.meaning.specs.Maps.{mapEntries}
+use Rattle.maps.specs.Forms.{mapOf}
 use Rattle.meaning.specs.Cut.{newClasses}
 use Rattle.laws.specs.Ascends.{glyphs-ascend}
 use Rattle.maps.specs.Found.{Answers, finds-new, finds-none, finds-word}
@@ -22,7 +23,7 @@ use Rattle.classes.proofs.Filling.{Filling, filling-all, filling-said, 
 
 -- n is the new number of the class of x, and 0 if there is none; it is a word
 abbrev pub NewOf : List ℕ → List (ℕ × ℕ) → ℕ → ℕ → Type 0
-NewOf map cs x n = (n ≡ Option·getD (find (mapEntries map) (classOf cs x)) 0) × (n < 65536)
+NewOf map cs x n = (n ≡ Option·getD (find (mapOf map) (classOf cs x)) 0) × (n < 65536)
 
 -- what the map answers to the class of x
 module _ (map : List ℕ) (cs : List (ℕ × ℕ)) (x : ℕ) {c : ℕ} {r : Found} (e : Says cs x c) (a : Answers map c r) where
@@ -33,7 +34,7 @@ module _ (map : List ℕ) (cs : List (ℕ × ℕ)) (x : ℕ) {c : ℕ} {r : Foun
   new-none h = (rw (← (e .0), finds-none a h), omega arith)
 
 -- the class map's old numbers ascend
-pub ranks-ascend : {src : List ℕ} {at : ℕ} {glyphs map : List ℕ} → Ranked src at glyphs map → ascends (keys (mapEntries map)) ≡ true
+pub ranks-ascend : {src : List ℕ} {at : ℕ} {glyphs map : List ℕ} → Ranked src at glyphs map → ascends (keys (mapOf map)) ≡ true
 ranks-ascend {src} {at} {glyphs} k = rw (k .ranks) (class-map-ascends (mapEntries glyphs) (classes src at))
 
 -- What the loop of `list_new` keeps: those that the glyphs from the i-th on list are left, and k are written.
@@ -42,7 +43,7 @@ pub record Listing (src : List ℕ) (at : ℕ) (glyphs map out₀ out : List ℕ
   pub within : i ≤ length glyphs / 4
   pub low : i ≤ 65536
   pub near : k ≤ i
-  pub filling : Filling (newClasses (mapEntries glyphs) (classes src at)) out₀ out k (mapSome (listed (mapEntries map) (classes src at)) (entriesFrom glyphs i))
+  pub filling : Filling (newClasses (mapEntries glyphs) (classes src at)) out₀ out k (mapSome (listed (mapOf map) (classes src at)) (entriesFrom glyphs i))
 
 module _ {src : List ℕ} {at : ℕ} {glyphs map out₀ : List ℕ} where
   pub listing-all : Ranked src at glyphs map → Listing src at glyphs map out₀ out₀ 0 0
@@ -63,7 +64,7 @@ module _ {src : List ℕ} {at : ℕ} {glyphs map out₀ : List ℕ} where
         within = omega arith;
         low = listing-few;
         near = omega (arith, h .near);
-        filling = filling-said (h .filling) (rw (from-left glyphs i l, ← (e .0), listed-none (mapEntries map) (classes src at) x (word glyphs (4 * i + 2)) (sym (f .0) ∙ z)));
+        filling = filling-said (h .filling) (rw (from-left glyphs i l, ← (e .0), listed-none (mapOf map) (classes src at) x (word glyphs (4 * i + 2)) (sym (f .0) ∙ z)));
       }
 
       -- it is
@@ -71,8 +72,8 @@ module _ {src : List ℕ} {at : ℕ} {glyphs map out₀ : List ℕ} where
           → Listing src at glyphs map out₀ next (k + 1) (i + 1)
       unfolding mapSome push
       listing-one {y} z g d =
-          let left : mapSome (listed (mapEntries map) (classes src at)) (entriesFrom glyphs i) ≡ (y, n) ∷ mapSome (listed (mapEntries map) (classes src at)) (entriesFrom glyphs (i + 1)) =
-          rw (from-left glyphs i l, ← (e .0), ← (g .0), listed-some (mapEntries map) (classes src at) x y (f .0) z)
+          let left : mapSome (listed (mapOf map) (classes src at)) (entriesFrom glyphs i) ≡ (y, n) ∷ mapSome (listed (mapOf map) (classes src at)) (entriesFrom glyphs (i + 1)) =
+          rw (from-left glyphs i l, ← (e .0), ← (g .0), listed-some (mapOf map) (classes src at) x y (f .0) z)
           in
           record {
             ranked = h .ranked;

@@ -18,6 +18,7 @@ ghost use Rattle.meaning.specs.Words.{word, words, triples, threes, ascends, ke
 ghost use Rattle.meaning.specs.Parts.{rangesAscend, arrayClasses, rangeClasses, classes, classesSound, classOf};
 ghost use Rattle.meaning.specs.Fault.{classesFault};
 ghost use Rattle.meaning.specs.Maps.{mapEntries};
+ghost use Rattle.maps.specs.Forms.{mapOf};
 ghost use Rattle.meaning.specs.Cut.{heldBy, numbered, classMap, newClasses};
 ghost use Rattle.meaning.specs.Layout.{runs, spread, classWords};
 ghost use Rattle.laws.specs.Written.{Wrote};
@@ -212,8 +213,8 @@ pub fn list_new(src: &[u8], at: usize, glyphs: &[u8], map: &[u8], scratch: &mut 
 
 // The new number of a glyph's class; 0 if the class has none.
 fn new_class(src: &[u8], at: usize, map: &[u8], glyph: usize) -> usize
-    requires { ⌜ (classesSound (now src) at ≡ true) × (ascends (keys (mapEntries (now map))) ≡ true) ⌝ }
-    ensures { λ r. ⌜ (r ≡ Option·getD (find (mapEntries (now (map .entry))) (classOf (classes (now (src .entry)) at) glyph)) 0) × (r < 65536) ⌝ }
+    requires { ⌜ (classesSound (now src) at ≡ true) × (ascends (keys (mapOf (now map))) ≡ true) ⌝ }
+    ensures { λ r. ⌜ (r ≡ Option·getD (find (mapOf (now (map .entry))) (classOf (classes (now (src .entry)) at) glyph)) 0) × (r < 65536) ⌝ }
 {
     let Found::New(class) = find(map, class_of(src, at, glyph)) else {
         return 0;

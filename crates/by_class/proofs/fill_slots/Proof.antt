@@ -23,26 +23,26 @@ loop-again c =
     let p = c .before .before .before in
     let q = p .before .before in
     let l = q .before .before .before in
-    let a = l .before .before .before .before .before .before .before .args in
-    placed-set (a .kind) (a .back .now) (a .input .now) (a .ahead .now) (a .covered .now) (a .src .now) (a .slot) (a .n) (l .loop .inv) (q .before .before .loop-test .taken) (q .before .word-at .ensures .0) (q .slot-place .ensures .0) (q .slot-place .ensures .1) (p .put .ensures .1) (c .if1 .taken)
+    let a = l .before .before .before .before .before .before .before in
+    placed-set (a .args .kind) (a .args .back .now) (a .args .input .now) (a .args .ahead .now) (a .args .covered .now) (a .args .src .now) (a .args .slot) (a .args .n) (a .pre .5) (l .loop .inv) (q .before .before .loop-test .taken) (q .before .word-at .ensures .0) (q .slot-place .ensures .0) (q .slot-place .ensures .1) (p .put .ensures .1) (c .if1 .taken)
 
 loop-again-2 : tie.Need-loop-again-2 Inv-loop μ-loop
 loop-again-2 c =
     let p = c .before .before .before in
     let q = p .before .before in
     let l = q .before .before .before in
-    let a = l .before .before .before .before .before .before .before .args in
-    placed-null (a .kind) (a .back .now) (a .input .now) (a .ahead .now) (a .covered .now) (a .src .now) (a .slot) (a .n) (l .loop .inv) (q .before .before .loop-test .taken) (q .before .word-at .ensures .0) (q .slot-place .ensures .0) (q .slot-place .ensures .1) (p .put .ensures .1) (c .if1 .left)
+    let a = l .before .before .before .before .before .before .before in
+    placed-null (a .args .kind) (a .args .back .now) (a .args .input .now) (a .args .ahead .now) (a .args .covered .now) (a .args .src .now) (a .args .slot) (a .args .n) (a .pre .5) (l .loop .inv) (q .before .before .loop-test .taken) (q .before .word-at .ensures .0) (q .slot-place .ensures .0) (q .slot-place .ensures .1) (p .put .ensures .1) (c .if1 .left)
 
 same-length : tie.Need-same-length Inv-loop μ-loop
 same-length c =
-    let a = c .before .before .before .before .before .before .before .before .args in
-    ap length (placed-end (a .kind) (a .back .now) (a .input .now) (a .ahead .now) (a .covered .now) (a .src .now) (a .slot) (a .n) (c .before .loop .inv) (c .loop-test .left) .bytes) ∙ simp length-sets
+    let a = c .before .before .before .before .before .before .before .before in
+    ap length (placed-end (a .args .kind) (a .args .back .now) (a .args .input .now) (a .args .ahead .now) (a .args .covered .now) (a .args .src .now) (a .args .slot) (a .args .n) (a .pre .5) (c .before .loop .inv) (c .loop-test .left) .bytes) ∙ simp length-sets
 
 returns : tie.Need-returns Inv-loop μ-loop
 returns c =
-    let a = c .before .before .before .before .before .before .before .before .args in
-    placed-end (a .kind) (a .back .now) (a .input .now) (a .ahead .now) (a .covered .now) (a .src .now) (a .slot) (a .n) (c .before .loop .inv) (c .loop-test .left)
+    let a = c .before .before .before .before .before .before .before .before in
+    placed-end (a .args .kind) (a .args .back .now) (a .args .input .now) (a .args .ahead .now) (a .args .covered .now) (a .args .src .now) (a .args .slot) (a .args .n) (a .pre .5) (c .before .loop .inv) (c .loop-test .left)
 
 pub fill-slots-spec : {M : Type 1} → statement M
 fill-slots-spec =
