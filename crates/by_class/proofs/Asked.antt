@@ -11,6 +11,7 @@ use lib.ListN.{length, take}
 use borrow.Author.Tests.{eq-eqb, ne-eqb}
 use Rattle.meaning.specs.Words.{word}
 use Rattle.meaning.specs.Maps.{mapEntries}
+use Rattle.maps.specs.Forms.{mapOf, of-glyphs, of-lookups}
 use Rattle.meaning.specs.Parts.{coverage, coverageSound, classes, classesSound}
 use Rattle.meaning.specs.Tables.{Rule, Table, reach, reaches, ruleSet, classContext}
 use Rattle.meaning.specs.Fault.{faultThrough, coverageFault, classesFault, ruleFault, setFault, contextFault}
@@ -21,7 +22,7 @@ use Rattle.laws.specs.Through.{Opt}
 use Rattle.laws.specs.SoundGood.{part-sound, one-good, header-good}
 use Rattle.laws.specs.ClassesLeft.{class-map-length}
 use Rattle.laws.specs.Ascends.{glyphs-ascend, lookups-ascend}
-use Rattle.classes.specs.Filled.{Filled, filled-back}
+use Rattle.classes.specs.Filled.{Filled, filled-map}
 use Rattle.retained.specs.Retained.{retainedEntries, retainedWords}
 use Rattle.retained.specs.Few.{entries-count, retained-fit}
 use Rattle.gsubgpos.specs.Left.{Ascends}
@@ -100,33 +101,36 @@ module _ {chained : Bool} {s glyphs lookups : List ℕ} (k : Good chained s glyp
 
   -- what ranking the classes of retained covered glyphs asks
   pub covered-asks : {cover at room : ℕ} → cover ≡ word s 2 → (cover ≡ 0 → ⊥) → at ≡ inputAt chained s → (at ≡ 0 → ⊥) → length glyphs ≤ room
-      → (coverageSound s cover ≡ true) × (classesSound s at ≡ true) × Ascends glyphs × (2 * length (retainedWords (mapEntries glyphs) (coverage s cover)) ≤ room)
+      → (coverageSound s cover ≡ true) × (classesSound s at ≡ true) × Ascends glyphs × (2 * length (retainedWords (mapOf glyphs) (coverage s cover)) ≤ room)
   covered-asks {cover} e z f y h =
       let g = mapEntries glyphs in
       let sound : coverageSound s cover ≡ true = rw e (all-sound .cover (λ q. z (e ∙ q))) in
-      (sound, input-sound f y, glyphs-ascend glyphs (k .good-glyphs), omega (arith, twos-length (retainedEntries g (coverage s cover)), entries-count g (coverage s cover), retained-fit s glyphs cover sound))
+      rw (of-glyphs glyphs (k .good-glyphs)) (sound, input-sound f y, glyphs-ascend glyphs (k .good-glyphs), omega (arith, twos-length (retainedEntries g (coverage s cover)), entries-count g (coverage s cover), retained-fit s glyphs cover sound))
 
   -- they fit where the glyph map would
-  pub covered-fit : {cover : ℕ} (at : ℕ) {before after : List ℕ} {n : ℕ} → cover ≡ word s 2 → (cover ≡ 0 → ⊥) → Filled (classMap (retainedEntries (mapEntries glyphs) (coverage s cover)) (classes s at)) before n after → length glyphs ≤ length before → n ≤ length before
-  covered-fit {cover} at e z f h =
+  pub covered-fit : {cover : ℕ} (at : ℕ) {before after : List ℕ} {n : ℕ} → cover ≡ word s 2 → (cover ≡ 0 → ⊥) → Filled (classMap (retainedEntries (mapOf glyphs) (coverage s cover)) (classes s at)) before n after → length glyphs ≤ length before → n ≤ length before
+  covered-fit {cover} at e z f₀ h =
       let g = mapEntries glyphs in
+      let f = rw (of-glyphs glyphs (k .good-glyphs)) at f₀ in
       omega (arith, f .used, class-map-length (retainedEntries g (coverage s cover)) (classes s at), entries-count g (coverage s cover), retained-fit s glyphs cover (rw e (all-sound .cover (λ q. z (e ∙ q)))))
 
 -- once those and the map of the input are filled in, the other two maps can be
 pub asks-begun : {chained : Bool} {s glyphs lookups : List ℕ} {u i v c p w : ℕ} → Asks chained s glyphs lookups u i v c p w
     → {cover at n m now : ℕ} {i₀ i₁ c₀ c₁ : List ℕ} → cover ≡ word s 2 → (cover ≡ 0 → ⊥) → at ≡ inputAt chained s → (at ≡ 0 → ⊥)
-    → Filled (mapAt (mapEntries glyphs) s at) i₀ n i₁ → length i₀ ≡ i → Filled (classMap (retainedEntries (mapEntries glyphs) (coverage s cover)) (classes s at)) c₀ m c₁ → length c₀ ≡ c → now ≡ w
+    → Filled (mapAt (mapEntries glyphs) s at) i₀ n i₁ → length i₀ ≡ i → Filled (classMap (retainedEntries (mapOf glyphs) (coverage s cover)) (classes s at)) c₀ m c₁ → length c₀ ≡ c → now ≡ w
     → Begun chained s glyphs lookups (take n i₁) (take m c₁) u v p now
-asks-begun {s = s} {glyphs} k {at = at} e z f y h q r t l =
+asks-begun {s = s} {glyphs} k {at = at} e z f y h q r₀ t l =
     let j = k .good in
+    let r = rw (of-glyphs glyphs (j .good-glyphs)) at r₀ in
     let fits = ranks-fit glyphs (tableAt s at) h (omega (arith, k .input, q)) in
     record {
       good = j;
       covers = λ o. z (e ∙ o);
       classed = λ o. y (f ∙ o);
-      ranks = rw f at (filled-back h fits);
+      ranks = rw f at (filled-map h fits);
       few = omega (arith, filled-part h fits, h .few);
-      held = rw (e, f) at (filled-back r (covered-fit j at e z r (omega (arith, k .covered, t))));
+      listed = omega (arith, filled-part h fits, h .used);
+      held = rw (e, f) at (filled-map r (covered-fit j at e z r₀ (omega (arith, k .covered, t))));
       back = k .back;
       ahead = k .ahead;
       slots = k .slots;
@@ -140,8 +144,8 @@ pub begun-mapped : {chained : Bool} {s glyphs lookups i c : List ℕ} {u v p w :
     → Mapped chained s glyphs lookups (take m b) i (take n a) c p w
 begun-mapped {chained} {s} {glyphs} {lookups} k {x} {y} e f h q r t =
     let j = k .good in
-    let remakes-back : Remakes s x glyphs _ _ = record { sound = back-sound j e; good = j .good-glyphs; ranks = filled-back f (ranks-fit glyphs (tableAt s x) f (omega (arith, k .back, h))); fits = k .work } in
-    let remakes-ahead : Remakes s y glyphs _ _ = record { sound = ahead-sound j q; good = j .good-glyphs; ranks = filled-back r (ranks-fit glyphs (tableAt s y) r (omega (arith, k .ahead, t))); fits = k .work } in
+    let remakes-back : Remakes s x glyphs _ _ = record { sound = back-sound j e; good = j .good-glyphs; ranks = filled-map f (ranks-fit glyphs (tableAt s x) f (omega (arith, k .back, h))); fits = k .work } in
+    let remakes-ahead : Remakes s y glyphs _ _ = record { sound = ahead-sound j q; good = j .good-glyphs; ranks = filled-map r (ranks-fit glyphs (tableAt s y) r (omega (arith, k .ahead, t))); fits = k .work } in
     record {
       ready =
           record {
@@ -149,10 +153,11 @@ begun-mapped {chained} {s} {glyphs} {lookups} k {x} {y} e f h q r t =
             cover = all-sound j .cover (k .covers);
             short = k .short;
           };
-      old-lookups = lookups-ascend lookups (j .good-lookups);
+      old-lookups = rw (of-lookups lookups (j .good-lookups)) (lookups-ascend lookups (j .good-lookups));
       covers = k .covers;
       classed = k .classed;
       held = k .held;
       few = k .few;
+      listed = k .listed;
       places = k .slots;
     }

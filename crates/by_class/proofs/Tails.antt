@@ -9,6 +9,7 @@ use lib.ListN.{length, length-append}
 use lib.Seq.{sets}
 use Rattle.meaning.specs.Words.{word, bytes2}
 use Rattle.meaning.specs.Maps.{mapEntries}
+use Rattle.maps.specs.Forms.{mapOf, of-glyphs}
 use Rattle.meaning.specs.Parts.{coverage}
 use Rattle.meaning.specs.Cut.{newCoverage}
 use Rattle.meaning.specs.Layout.{blocks}
@@ -43,8 +44,8 @@ module _ {chained : Bool} {s glyphs b i a : List ℕ} {room now at : ℕ} (k : R
 pub ready-cuts : {chained : Bool} {s glyphs b i a work : List ℕ} {at : ℕ} → Ready chained s glyphs b i a (length work) → at ≡ word s 2 → Cuts s at glyphs work
 ready-cuts {s = s} {glyphs} k e = record {
   sound = rw e (k .cover);
-  ascend = glyphs-ascend glyphs (k .tables .input .good);
-  room = rw e (omega (arith, retained-fit s glyphs (word s 2) (k .cover), k .tables .input .fits));
+  ascend = rw (of-glyphs glyphs (k .tables .input .good)) (glyphs-ascend glyphs (k .tables .input .good));
+  room = rw (e, of-glyphs glyphs (k .tables .input .good)) (omega (arith, retained-fit s glyphs (word s 2) (k .cover), k .tables .input .fits));
   short = k .short;
 }
 
@@ -71,21 +72,21 @@ module _ (g : List (ℕ × ℕ)) (s : List ℕ) where
 
 -- how many bytes the coverage and the class tables take
 pub tail-sized : {chained : Bool} {s glyphs b i a : List ℕ} {room at x r : ℕ} → Ready chained s glyphs b i a room → at ≡ word s 2
-    → x ≡ 2 * length (coverLeft (mapEntries glyphs) (coverage s at)) → Sized (classTables chained (mapEntries glyphs) s) r × (r ≤ 0x20_0000) → Sized (tailOf chained (mapEntries glyphs) s) (x + r)
+    → x ≡ 2 * length (coverLeft (mapOf glyphs) (coverage s at)) → Sized (classTables chained (mapEntries glyphs) s) r × (r ≤ 0x20_0000) → Sized (tailOf chained (mapEntries glyphs) s) (x + r)
 unfolding blocks
 tail-sized {chained} {s} {glyphs} k e f t =
     let g = mapEntries glyphs in
     let c = coverLeft g (coverage s (word s 2)) in
-    let h = rw e at f in
+    let h = rw (e, of-glyphs glyphs (k .tables .input .good)) at f in
     record {
       size = omega (arith, h, t .0 .size, length-append c (blocks (classTables chained g s)));
       few = omega (arith, h, t .1, cover-most (newCoverage g (coverage s (word s 2))), retained-fit s glyphs (word s 2) (k .cover), k .tables .input .fits, k .short);
     }
 
 -- the bytes so far are no hindrance to adding to them
-pub cover-small : {chained : Bool} {s glyphs b i a : List ℕ} {room at x : ℕ} → Ready chained s glyphs b i a room → at ≡ word s 2 → x ≡ 2 * length (coverLeft (mapEntries glyphs) (coverage s at)) → x ≤ 0x2_0000_0000
+pub cover-small : {chained : Bool} {s glyphs b i a : List ℕ} {room at x : ℕ} → Ready chained s glyphs b i a room → at ≡ word s 2 → x ≡ 2 * length (coverLeft (mapOf glyphs) (coverage s at)) → x ≤ 0x2_0000_0000
 cover-small {s = s} {glyphs} k e f =
-    let h = rw e at f in
+    let h = rw (e, of-glyphs glyphs (k .tables .input .good)) at f in
     omega (arith, h, cover-most (newCoverage (mapEntries glyphs) (coverage s (word s 2))), retained-fit s glyphs (word s 2) (k .cover), k .tables .input .fits, k .short)
 
 -- where the first of blocks is laid down, the others can be laid down after it

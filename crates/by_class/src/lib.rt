@@ -21,7 +21,7 @@ use wire::word_at;
 ghost use mathlib.Core.Path.{_≡_};
 ghost use mathlib.Core.Bool.{true};
 ghost use mathlib.Core.List.{[], _∷_};
-ghost use Prim.Native.Nat.{_+_, _*_, _≤_, _<_};
+ghost use Prim.Native.Nat.{_+_, _*_, _%_, _≤_, _<_};
 ghost use lib.ListN.{length};
 ghost use lib.Seq.{sets};
 ghost use Rattle.meaning.specs.Words.{words, flat, keys};
@@ -158,8 +158,8 @@ fn rank_covered(
     work: &mut [u8],
     covered: &mut [u8],
 ) -> usize
-    requires { ⌜ (coverageSound (now src) cover ≡ true) × (classesSound (now src) at ≡ true) × Ascends (now glyphs) × (2 * length (retainedWords (mapEntries (now glyphs)) (coverage (now src) cover)) ≤ length (now work)) ⌝ }
-    ensures { λ r. ⌜ Filled (classMap (retainedEntries (mapEntries (now (glyphs .entry))) (coverage (now (src .entry)) cover)) (classes (now (src .entry)) at)) (now (covered .entry)) r (now (covered .exit)) × (length (now (work .exit)) ≡ length (now (work .entry))) ⌝ }
+    requires { ⌜ (coverageSound (now src) cover ≡ true) × (classesSound (now src) at ≡ true) × Ascends (now glyphs) × (2 * length (retainedWords (mapOf (now glyphs)) (coverage (now src) cover)) ≤ length (now work)) ⌝ }
+    ensures { λ r. ⌜ Filled (classMap (retainedEntries (mapOf (now (glyphs .entry))) (coverage (now (src .entry)) cover)) (classes (now (src .entry)) at)) (now (covered .entry)) r (now (covered .exit)) × (length (now (work .exit)) ≡ length (now (work .entry))) ⌝ }
 {
     let n = retain_entries(src, cover, glyphs, work);
     rank(src, at, &work[..n], covered)

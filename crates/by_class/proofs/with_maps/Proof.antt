@@ -9,7 +9,7 @@ use Rattle.by_class.proofs.with_maps.Tie as tie
 fill-slots-requires : tie.Need-fill-slots-requires
 fill-slots-requires c κs =
     let k = c .before .before .before .before .before .before .before .before .before .before .before .before .before .before .pre in
-    (omega (arith, c .before .before .before .count-slot .ensures .1), c .before .before .word-at .ensures .1, covered-ascends k, maps-ascend k, omega (arith, k .few))
+    (omega (arith, c .before .before .before .count-slot .ensures .1), c .before .before .word-at .ensures .1, covered-ascends k, maps-ascend k, omega (arith, k .few), k .listed)
 
 returns : tie.Need-returns
 returns c =
