@@ -1,5 +1,6 @@
 pub mod Places
 pub mod Tables
+pub mod Context
 pub mod Tail
 pub mod InOrder
-pub mod Context
+pub mod Whole

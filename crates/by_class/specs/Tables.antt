@@ -1,5 +1,5 @@
 -- Class tables that may be null: a null offset reads as place 0, and stays null.
-use Prim.Native.Nat.{ℕ, zero, suc, _+_, _*_, _≤_}
+use Prim.Native.Nat.{ℕ, zero, suc, _+_, _*_, _/_, _≤_}
 use mathlib.Core.Path.{_≡_, refl, sym, ap, _∙_, subst}
 use mathlib.Core.Bool.{Bool, true, false, cond, _&&_}
 use mathlib.Core.Option.{Option, none, some}
@@ -16,6 +16,8 @@ use Rattle.meaning.specs.Maps.{mapEntries, goodGlyphs}
 use Rattle.meaning.specs.Cut.{classMap, classMap?, newClasses, newClasses?}
 use Rattle.meaning.specs.Layout.{block, blocks, classWords, join, runs, spread}
 use Rattle.laws.specs.Stands.{threes-length}
+use Rattle.laws.specs.Left.{entries-length}
+use Rattle.laws.specs.ClassesLeft.{class-map-length, new-classes-length}
 use Rattle.laws.specs.Written.{Wrote}
 use Rattle.laws.specs.Laid.{laid, laid-end, laid-null, laid-block}
 use Rattle.classes.specs.Filled.{Filled, Ranked, filled-back, filled-length}
@@ -37,12 +39,12 @@ newTable g s at = block classWords (newClasses? g (tableAt s at))
 abbrev pub SoundAt : List ℕ → ℕ → Type 0
 SoundAt s at = (at ≡ 0 → ⊥) → classesSound s at ≡ true
 
--- What making a new class table asks: the old one is sound, the glyph map is good, `map` has the class map, and `work` has room for as many entries as there are glyphs.
-pub record Remakes (s : List ℕ) (at : ℕ) (glyphs map work : List ℕ) : Type 0 where
+-- What making a new class table asks: the old one is sound, the glyph map is good, `map` has the class map, and scratch of `room` bytes has room for as many entries as there are glyphs.
+pub record Remakes (s : List ℕ) (at : ℕ) (glyphs map : List ℕ) (room : ℕ) : Type 0 where
   pub sound : SoundAt s at
   pub good : goodGlyphs glyphs ≡ true
   pub ranks : mapEntries map ≡ mapAt (mapEntries glyphs) s at
-  pub room : 262144 ≤ length work
+  pub fits : length glyphs ≤ room
 
 module _ (g : List (ℕ × ℕ)) (s : List ℕ) (at : ℕ) where
   pub map-null : at ≡ 0 → [] ≡ mapAt g s at
@@ -67,7 +69,7 @@ unfolding flat twos
 filled-none = record { used = refl; few = omega arith; bytes = refl; small = tt }
 
 -- a class table that is there is as `list_new` asks
-pub remade : {s : List ℕ} {at : ℕ} {glyphs map work : List ℕ} → Remakes s at glyphs map work → (at ≡ 0 → ⊥) → Ranked s at glyphs map
+pub remade : {s : List ℕ} {at : ℕ} {glyphs map : List ℕ} {room : ℕ} → Remakes s at glyphs map room → (at ≡ 0 → ⊥) → Ranked s at glyphs map
 remade {s} {at} {glyphs} r z = record { sound = r .sound z; good = r .good; ranks = r .ranks ∙ sym (map-there (mapEntries glyphs) s at z) }
 
 module _ {out mid : List ℕ} {slot p : ℕ} where
@@ -116,6 +118,19 @@ class-words-few ((g, c) ∷ r) = step (leb (6 + 2 * length (spread g ((g, c) ∷
     step true e = omega (arith, leb-true (6 + 2 * length (spread g ((g, c) ∷ r))) (4 + 6 * length (runs ((g, c) ∷ r))) e, runs-fewer ((g, c) ∷ r))
     step false e = omega (arith, threes-length (runs ((g, c) ∷ r)), runs-fewer ((g, c) ∷ r))
 
+-- neither the class map nor the new class table takes more bytes than the glyph map
+map-count : (glyphs : List ℕ) → 4 * length (mapEntries glyphs) ≤ length glyphs
+unfolding mapEntries
+map-count glyphs = omega (arith, entries-length glyphs 0 (length glyphs / 4))
+
+pub ranks-fit : (glyphs : List ℕ) (o : Option (List (ℕ × ℕ))) {before after : List ℕ} {r : ℕ} → Filled (classMap? (mapEntries glyphs) o) before r after → r ≤ length glyphs
+unfolding classMap?
+ranks-fit glyphs none f = omega (arith, f .used)
+ranks-fit glyphs (some cs) f = omega (arith, f .used, class-map-length (mapEntries glyphs) cs, map-count glyphs)
+
+pub new-fit : (glyphs : List ℕ) (cs : List (ℕ × ℕ)) {before after : List ℕ} {r : ℕ} → Filled (newClasses (mapEntries glyphs) cs) before r after → length glyphs ≤ length before → r ≤ length before
+new-fit glyphs cs f h = omega (arith, f .used, new-classes-length (mapEntries glyphs) cs, map-count glyphs)
+
 -- how many bytes the block of a class table takes, and that they are few
 pub record TableSize (o : Option (List ℕ)) (r : ℕ) : Type 0 where
   pub size : r ≡ 2 * length (blocks (o ∷ []))
@@ -126,11 +141,11 @@ module _ (g : List (ℕ × ℕ)) (s : List ℕ) (at : ℕ) where
   unfolding blocks
   size-null z = subst (λ (o : Option (List ℕ)). TableSize o 0) (table-null g s at z) (record { size = refl; few = omega arith })
 
-  pub size-there : (at ≡ 0 → ⊥) → {before after : List ℕ} {n r : ℕ} → Filled (newClasses g (classes s at)) before n after → 262144 ≤ length before → r ≡ 2 * length (classWords (mapEntries (take n after))) → TableSize (newTable g s at) r
+  pub size-there : (at ≡ 0 → ⊥) → {before after : List ℕ} {n r : ℕ} → Filled (newClasses g (classes s at)) before n after → n ≤ length before → r ≡ 2 * length (classWords (mapEntries (take n after))) → TableSize (newTable g s at) r
   unfolding blocks
   size-there z {r = r} f h e =
       let es = newClasses g (classes s at) in
-      let k : r ≡ 2 * length (classWords es) = e ∙ ap (λ (l : List (ℕ × ℕ)). 2 * length (classWords l)) (filled-back f (omega (arith, f .few))) in
+      let k : r ≡ 2 * length (classWords es) = e ∙ ap (λ (l : List (ℕ × ℕ)). 2 * length (classWords l)) (filled-back f h) in
       subst (λ (o : Option (List ℕ)). TableSize o r) (table-there g s at z)
       (record { size = omega (arith, k, length-append (classWords es) []); few = omega (arith, k, class-words-few es, f .used, f .few) })
 
@@ -140,16 +155,16 @@ take-length (suc n) [] h = absurd (omega arith)
 take-length (suc n) (x ∷ l) h = ap suc (take-length n l (omega arith))
 
 -- the entries that are filled in are the front of the buffer
-pub filled-part : {es : List (ℕ × ℕ)} {before after : List ℕ} {r : ℕ} → Filled es before r after → 262144 ≤ length before → r ≡ length (take r after)
-filled-part {after = after} {r = r} f h = sym (take-length r after (omega (arith, f .few, filled-length f)))
+pub filled-part : {es : List (ℕ × ℕ)} {before after : List ℕ} {r : ℕ} → Filled es before r after → r ≤ length before → r ≡ length (take r after)
+filled-part {after = after} {r = r} f h = sym (take-length r after (omega (arith, filled-length f)))
 
 -- the offset of a new class table and the table, laid down
 module _ (g : List (ℕ × ℕ)) (s : List ℕ) (at : ℕ) {out mid : List ℕ} {slot p : ℕ} where
   pub lay-null : at ≡ 0 → mid ≡ sets out slot (bytes2 0) → LaidDown (newTable g s at ∷ []) out slot p mid p
   lay-null z e = subst (λ (o : Option (List ℕ)). LaidDown (o ∷ []) out slot p mid p) (table-null g s at z) (laid-down-null e)
 
-  pub lay-there : (at ≡ 0 → ⊥) → slot + 2 ≤ p → mid ≡ sets out slot (bytes2 p) → {before after next : List ℕ} {n r : ℕ} → Filled (newClasses g (classes s at)) before n after → 262144 ≤ length before
+  pub lay-there : (at ≡ 0 → ⊥) → slot + 2 ≤ p → mid ≡ sets out slot (bytes2 p) → {before after next : List ℕ} {n r : ℕ} → Filled (newClasses g (classes s at)) before n after → n ≤ length before
       → Wrote mid p (classWords (mapEntries (take n after))) next r → LaidDown (newTable g s at ∷ []) out slot p next r
   lay-there z h e {next = next} {r = r} f k w =
       subst (λ (o : Option (List ℕ)). LaidDown (o ∷ []) out slot p next r) (table-there g s at z)
-      (laid-down-one (classWords (newClasses g (classes s at))) h e (rw (filled-back f (omega (arith, f .few, k))) at w))
+      (laid-down-one (classWords (newClasses g (classes s at))) h e (rw (filled-back f k) at w))

@@ -9,16 +9,17 @@ use native.Mathlib.Omega.{arith}
 use lib.ListN.{length, take, length-append}
 use lib.Seq.{sets}
 use Rattle.meaning.specs.Words.{word, bytes2, flat, twos}
-use Rattle.meaning.specs.Parts.{coverage}
+use Rattle.meaning.specs.Parts.{coverage, coverageSound}
 use Rattle.meaning.specs.Maps.{mapEntries}
 use Rattle.meaning.specs.Layout.{blocks}
 use Rattle.laws.specs.Stands.{flat-length, twos-length, stands-all, entries-back}
 use Rattle.laws.specs.Pieces.{Gathered}
 use Rattle.laws.specs.Laid.{laid, laid-end, laid-null, laid-block}
 use Rattle.retained.specs.Retained.{retainedEntries, retainedWords}
-use Rattle.retained.specs.Cover.{gathered-front}
+use Rattle.retained.specs.Cover.{coverLeft, gathered-front}
 use Rattle.sets.specs.Sets.{LaidDown}
 use Rattle.by_class.specs.Tables.{newTable, Remakes}
+use Rattle.by_class.specs.Context.{backAt, inputAt, aheadAt}
 
 -- the retained covered glyphs, as their entries are read back from scratch
 pub gathered-entries : {es : List (ℕ × ℕ)} {before after : List ℕ} {r : ℕ} → Gathered (twos es) before r after → 2 * length (twos es) ≤ length before → mapEntries (take r after) ≡ es
@@ -33,14 +34,31 @@ abbrev pub classTables : Bool → List (ℕ × ℕ) → List ℕ → List (Optio
 classTables false g s = newTable g s (word s 4) ∷ []
 classTables true g s = newTable g s (word s 4) ∷ newTable g s (word s 6) ∷ newTable g s (word s 8) ∷ []
 
--- what making them asks
-abbrev pub Remaking : Bool → List ℕ → List ℕ → List ℕ → List ℕ → List ℕ → List ℕ → Type 0
-Remaking false s glyphs back input ahead work = Remakes s (word s 4) glyphs input work
-Remaking true s glyphs back input ahead work = Remakes s (word s 4) glyphs back work × Remakes s (word s 6) glyphs input work × Remakes s (word s 8) glyphs ahead work
+-- the blocks of the coverage and of the class tables
+abbrev pub tailOf : Bool → List (ℕ × ℕ) → List ℕ → List (Option (List ℕ))
+tailOf chained g s = some (coverLeft g (coverage s (word s 2))) ∷ classTables chained g s
 
--- scratch may have other content
-pub remakes-on : {s : List ℕ} {at : ℕ} {glyphs map work next : List ℕ} → Remakes s at glyphs map work → length next ≡ length work → Remakes s at glyphs map next
-remakes-on r e = record { sound = r .sound; good = r .good; ranks = r .ranks; room = omega (arith, r .room, e) }
+-- What making the class tables asks: each of the three can be made, where b, i and a have the class maps of backtrack, input and lookahead.
+pub record Remaking (chained : Bool) (s glyphs b i a : List ℕ) (room : ℕ) : Type 0 where
+  pub back : Remakes s (backAt chained s) glyphs b room
+  pub input : Remakes s (inputAt chained s) glyphs i room
+  pub ahead : Remakes s (aheadAt chained s) glyphs a room
+
+-- What making the coverage and the class tables asks.
+pub record Ready (chained : Bool) (s glyphs b i a : List ℕ) (room : ℕ) : Type 0 where
+  pub tables : Remaking chained s glyphs b i a room
+  pub cover : coverageSound s (word s 2) ≡ true
+  pub short : room ≤ 0x1_0000_0000
+
+-- how many bytes blocks take, and that their number is no hindrance to counting
+pub record Sized (bs : List (Option (List ℕ))) (r : ℕ) : Type 0 where
+  pub size : r ≡ 2 * length (blocks bs)
+  pub few : r < 0x100_0000_0000
+
+-- where blocks can be laid down: their offsets, from `slot` on, end before the blocks, which begin at p and end below 4 GB
+pub record Apart (bs : List (Option (List ℕ))) (slot p : ℕ) : Type 0 where
+  pub before : slot + 2 * length bs ≤ p
+  pub ends : p + 2 * length (blocks bs) ≤ 0x1_0000_0000
 
 -- blocks take what the first takes, and the others
 pub blocks-more : (o : Option (List ℕ)) (bs : List (Option (List ℕ))) → length (blocks (o ∷ bs)) ≡ length (blocks (o ∷ [])) + length (blocks bs)

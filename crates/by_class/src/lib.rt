@@ -6,26 +6,38 @@ use classes::size;
 use classes::write;
 use maps::Found;
 use maps::find;
+use retained::cover_size;
 use retained::retain_entries;
+use retained::write_cover;
+use room::Laid;
+use room::room;
 use sets::Kind;
 use sets::set_survives;
+use sets::sets_size;
+use sets::write_sets;
 use wire::put;
 use wire::word_at;
 ghost use mathlib.Core.Path.{_≡_};
 ghost use mathlib.Core.List.{[], _∷_};
 ghost use Prim.Native.Nat.{_+_, _*_, _/_, _≤_, _<_};
 ghost use lib.ListN.{length};
-ghost use Rattle.meaning.specs.Words.{words, keys};
+ghost use lib.Seq.{sets};
+ghost use Rattle.meaning.specs.Words.{words, flat, keys};
 ghost use Rattle.meaning.specs.Maps.{mapEntries};
 ghost use Rattle.laws.specs.SlotPlaces.{slotPlace};
 ghost use Rattle.sets.specs.Sets.{setStays, LaidDown};
 ghost use Rattle.gsubgpos.specs.Left.{Ascends, NumbersAscend};
 ghost use Rattle.classes.specs.Filled.{Filled};
 ghost use Rattle.by_class.specs.Tables.{mapAt, newTable, SoundAt, Remakes, TableSize};
+ghost use Rattle.by_class.specs.Tail.{classTables, tailOf, Remaking, Ready, Sized, Apart};
 ghost use mathlib.Core.Bool.{true};
 ghost use Rattle.meaning.specs.Parts.{coverage, coverageSound, classes, classesSound};
 ghost use Rattle.meaning.specs.Cut.{classMap};
 ghost use Rattle.retained.specs.Retained.{retainedEntries, retainedWords};
+ghost use Rattle.meaning.specs.Subset.{laidInto};
+ghost use Rattle.room.specs.Laid.{outcomeOf};
+ghost use Rattle.by_class.specs.Context.{countSlot, kindOf};
+ghost use Rattle.by_class.specs.Whole.{contextWords, Lays, Writes};
 ghost use Rattle.by_class.specs.Places.{placesOf, Placed};
 
 // The place of the set of a class, by the `n` offsets from `slot` on, if a retained covered glyph holds the class and something of the set is left; else 0.
@@ -101,7 +113,7 @@ fn rank_at(src: &[u8], at: usize, glyphs: &[u8], map: &mut [u8]) -> usize
 
 // How many bytes the new class table for the one at `at` takes; a null one takes none.
 fn table_size(src: &[u8], at: usize, glyphs: &[u8], map: &[u8], work: &mut [u8]) -> usize
-    requires { ⌜ Remakes (now src) at (now glyphs) (now map) (now work) ⌝ }
+    requires { ⌜ Remakes (now src) at (now glyphs) (now map) (length (now work)) ⌝ }
     ensures { λ r. ⌜ TableSize (newTable (mapEntries (now (glyphs .entry))) (now (src .entry)) at) r × (length (now (work .exit)) ≡ length (now (work .entry))) ⌝ }
 {
     if at == 0 {
@@ -122,7 +134,7 @@ fn lay_table(
     slot: usize,
     p: usize,
 ) -> usize
-    requires { ⌜ Remakes (now src) at (now glyphs) (now map) (now work) × (slot + 2 ≤ p) × (p < 0x8000_0000_0000) ⌝ }
+    requires { ⌜ Remakes (now src) at (now glyphs) (now map) (length (now work)) × (slot + 2 ≤ p) × (p < 0x8000_0000_0000) ⌝ }
     ensures { λ r. ⌜ LaidDown (newTable (mapEntries (now (glyphs .entry))) (now (src .entry)) at ∷ []) (now (out .entry)) slot p (now (out .exit)) r × (length (now (work .exit)) ≡ length (now (work .entry))) ⌝ }
 {
     if at == 0 {
@@ -148,4 +160,170 @@ fn rank_covered(
 {
     let n = retain_entries(src, cover, glyphs, work);
     rank(src, at, &work[..n], covered)
+}
+
+// How many bytes the new class tables take.
+fn tables_size(
+    chained: bool,
+    src: &[u8],
+    glyphs: &[u8],
+    back: &[u8],
+    input: &[u8],
+    ahead: &[u8],
+    work: &mut [u8],
+) -> usize
+    requires { ⌜ Remaking chained (now src) (now glyphs) (now back) (now input) (now ahead) (length (now work)) ⌝ }
+    ensures { λ r. ⌜ Sized (classTables chained (mapEntries (now (glyphs .entry))) (now (src .entry))) r × (r ≤ 0x20_0000) ⌝ }
+{
+    if chained {
+        let b = table_size(src, word_at(src, 4), glyphs, back, work);
+        let i = table_size(src, word_at(src, 6), glyphs, input, work);
+        let a = table_size(src, word_at(src, 8), glyphs, ahead, work);
+        return b + i + a;
+    }
+    table_size(src, word_at(src, 4), glyphs, input, work)
+}
+
+// How many bytes the coverage of the retained glyphs and the new class tables take.
+fn tail_size(
+    chained: bool,
+    src: &[u8],
+    glyphs: &[u8],
+    back: &[u8],
+    input: &[u8],
+    ahead: &[u8],
+    work: &mut [u8],
+) -> usize
+    requires { ⌜ Ready chained (now src) (now glyphs) (now back) (now input) (now ahead) (length (now work)) ⌝ }
+    ensures { λ r. ⌜ Sized (tailOf chained (mapEntries (now (glyphs .entry))) (now (src .entry))) r ⌝ }
+{
+    let cover = cover_size(src, word_at(src, 2), glyphs, work);
+    cover + tables_size(chained, src, glyphs, back, input, ahead, work)
+}
+
+// The offsets of the new class tables, from the fifth byte on, and the tables, from `p` on, where there is room; the place after them.
+fn lay_tables(
+    chained: bool,
+    src: &[u8],
+    glyphs: &[u8],
+    back: &[u8],
+    input: &[u8],
+    ahead: &[u8],
+    work: &mut [u8],
+    out: &mut [u8],
+    p: usize,
+) -> usize
+    requires { ⌜ Remaking chained (now src) (now glyphs) (now back) (now input) (now ahead) (length (now work)) × Apart (classTables chained (mapEntries (now glyphs)) (now src)) 4 p ⌝ }
+    ensures { λ r. ⌜ LaidDown (classTables chained (mapEntries (now (glyphs .entry))) (now (src .entry))) (now (out .entry)) 4 p (now (out .exit)) r ⌝ }
+{
+    if chained {
+        let q = lay_table(src, word_at(src, 4), glyphs, back, work, out, 4, p);
+        let r = lay_table(src, word_at(src, 6), glyphs, input, work, out, 6, q);
+        return lay_table(src, word_at(src, 8), glyphs, ahead, work, out, 8, r);
+    }
+    lay_table(src, word_at(src, 4), glyphs, input, work, out, 4, p)
+}
+
+// The offsets of the coverage and of the class tables, from the third byte on, and these, from `p` on, where there is room; the place after them.
+fn lay_tail(
+    chained: bool,
+    src: &[u8],
+    glyphs: &[u8],
+    back: &[u8],
+    input: &[u8],
+    ahead: &[u8],
+    work: &mut [u8],
+    out: &mut [u8],
+    p: usize,
+) -> usize
+    requires { ⌜ Ready chained (now src) (now glyphs) (now back) (now input) (now ahead) (length (now work)) × Apart (tailOf chained (mapEntries (now glyphs)) (now src)) 2 p ⌝ }
+    ensures { λ r. ⌜ LaidDown (tailOf chained (mapEntries (now (glyphs .entry))) (now (src .entry))) (now (out .entry)) 2 p (now (out .exit)) r ⌝ }
+{
+    put(out, 2, p);
+    let q = write_cover(src, word_at(src, 2), glyphs, work, out, p);
+    lay_tables(chained, src, glyphs, back, input, ahead, work, out, q)
+}
+
+// The sort of the sets of a context.
+fn kind_of(chained: bool) -> Kind
+    ensures { λ r. ⌜ r ≡ kindOf chained ⌝ }
+{
+    if chained {
+        return Kind::ChainedRules;
+    }
+    Kind::Rules
+}
+
+// Where the count of the sets stands; their offsets follow.
+fn count_slot(chained: bool) -> usize
+    ensures { λ r. ⌜ (r ≡ countSlot chained) × (r ≤ 10) ⌝ }
+{
+    if chained {
+        return 10;
+    }
+    6
+}
+
+// What is left of the context, written from the start on: format, coverage and class tables from `start` on with their offsets, and the sets of the first `n` slots with their count and their offsets.
+fn write_context(
+    chained: bool,
+    src: &[u8],
+    glyphs: &[u8],
+    lookups: &[u8],
+    back: &[u8],
+    input: &[u8],
+    ahead: &[u8],
+    slots: &[u8],
+    n: usize,
+    start: usize,
+    work: &mut [u8],
+    out: &mut [u8],
+)
+    requires { ⌜ Writes chained (now src) (now glyphs) (now lookups) (now back) (now input) (now ahead) (now slots) n start (length (now work)) ⌝ }
+    ensures { λ _. ⌜ now (out .exit) ≡ sets (now (out .entry)) 0 (flat (contextWords chained (now (src .entry)) (now (back .entry)) (now (input .entry)) (now (ahead .entry)) (now (lookups .entry)) (now (slots .entry)) n (mapEntries (now (glyphs .entry))))) ⌝ }
+{
+    put(out, 0, 2);
+    lay_tail(chained, src, glyphs, back, input, ahead, work, out, start);
+    let slot = put(out, count_slot(chained), n);
+    write_sets(
+        kind_of(chained),
+        src,
+        slots,
+        n,
+        back,
+        input,
+        ahead,
+        lookups,
+        out,
+        slot,
+        slot + 2 * n,
+    );
+}
+
+// What is left of the context, laid into the buffer if its plain layout has room.
+fn lay(
+    chained: bool,
+    src: &[u8],
+    glyphs: &[u8],
+    lookups: &[u8],
+    back: &[u8],
+    input: &[u8],
+    ahead: &[u8],
+    slots: &[u8],
+    n: usize,
+    work: &mut [u8],
+    out: &mut [u8],
+) -> Laid
+    requires { ⌜ Lays chained (now src) (now glyphs) (now lookups) (now back) (now input) (now ahead) n (length (now work)) ⌝ }
+    ensures { λ r. ⌜ outcomeOf r (now (out .exit)) ≡ laidInto (now (out .entry)) (flat (contextWords chained (now (src .entry)) (now (back .entry)) (now (input .entry)) (now (ahead .entry)) (now (lookups .entry)) (now (slots .entry)) n (mapEntries (now (glyphs .entry))))) ⌝ }
+{
+    let first = count_slot(chained) + 2 + 2 * n;
+    let size = sets_size(kind_of(chained), src, slots, n, back, input, ahead, lookups);
+    let tail = tail_size(chained, src, glyphs, back, input, ahead, work);
+    let r = room(first + size + tail, out.len());
+    let Laid::Kept(_) = r else {
+        return r;
+    };
+    write_context(chained, src, glyphs, lookups, back, input, ahead, slots, n, first + size, work, out);
+    r
 }

@@ -7,22 +7,20 @@ use mathlib.Core.List.{List, [], _∷_, map}
 use native.Mathlib.Nat.{zero-add}
 use native.Mathlib.Omega.{arith}
 use lib.ListN.{length}
-use lib.Dec.{leb, eqb}
-use borrow.Author.Tests.{leb-false, eqb-false, eq-eqb, ne-eqb}
-use Rattle.meaning.specs.Words.{word, words, bind, mapAll, isSome, threes}
+use lib.Dec.{eqb}
+use borrow.Author.Tests.{eqb-false, eq-eqb, ne-eqb}
+use Rattle.meaning.specs.Words.{word, words, bind, mapAll, isSome}
 use Rattle.meaning.specs.Maps.{mapEntries}
 use Rattle.meaning.specs.Parts.{coverage, coverageSound}
 use Rattle.meaning.specs.Tables.{reach, reaches}
 use Rattle.meaning.specs.Fault.{faultThrough, coverageFault}
 use Rattle.meaning.specs.Cut.{unlessEmpty, newCoverage, coversLeft}
-use Rattle.meaning.specs.Layout.{block, runs, indexed, coverageWords}
-use Rattle.laws.specs.Stands.{threes-length}
+use Rattle.meaning.specs.Layout.{block, coverageWords}
 use Rattle.laws.specs.Through.{Opt}
-use Rattle.laws.specs.Runs.{indexed-length}
 use Rattle.laws.specs.CutGood.{opt-bind}
 use Rattle.laws.specs.SoundGood.{part-sound, lowest-none}
 use Rattle.laws.specs.Slots.{slotBlock, slotBlocks, slot-there, SlotSizing, slot-sizing-all, slot-sizing-set, slot-sizing-end}
-use Rattle.retained.specs.Cover.{Cuts, coverWords}
+use Rattle.retained.specs.Cover.{Cuts, coverWords, coverage-size, cover-most}
 use Rattle.rules.specs.declared.Row.{Row}
 use Rattle.by_cover.specs.Rows.{rowLeft, leftAt, Covers, RowRemains}
 use Rattle.by_cover.specs.declared.Remains.the-variants.{Empty, Bytes}
@@ -47,19 +45,6 @@ module _ {s : List ℕ} {row : Row} {glyphs : List ℕ} {room : ℕ} (k : Covers
   pub cuts-at : {work : List ℕ} → length work ≡ room → Cuts s at glyphs work
   cuts-at w = record { sound = sound-at; ascend = k .ascend; room = omega (arith, w, k .roomy .enough at sound-at); short = omega (arith, k .roomy .short) }
 
--- a coverage has words, and at most two more than its glyphs
-coverage-size : (gs : List ℕ) → (0 < length (coverageWords gs)) × (length (coverageWords gs) ≤ 2 + length gs)
-unfolding coverageWords
-coverage-size gs = step (leb (4 + 2 * length gs) (4 + 6 * length rs)) refl
-  where
-    rs : List (ℕ × ℕ × ℕ)
-    rs = runs (map (λ g. (g, 0)) gs)
-
-    step : (b : Bool) → leb (4 + 2 * length gs) (4 + 6 * length rs) ≡ b
-        → (0 < length (cond b (1 ∷ length gs ∷ gs) (2 ∷ length rs ∷ threes (indexed 0 rs)))) × (length (cond b (1 ∷ length gs ∷ gs) (2 ∷ length rs ∷ threes (indexed 0 rs))) ≤ 2 + length gs)
-    step true q = (omega arith, omega arith)
-    step false q = (omega arith, omega (arith, leb-false (4 + 2 * length gs) (4 + 6 * length rs) q, threes-length (indexed 0 rs), indexed-length 0 rs))
-
 -- glyphs that are left, by the size of their coverage: none, or some
 cover-gone : (ns : List ℕ) {w : ℕ} → w ≡ 2 * length (coverWords ns) → w ≡ 0 → isSome (unlessEmpty ns) ≡ false
 unfolding coverWords unlessEmpty isSome
@@ -70,11 +55,6 @@ cover-kept : (ns : List ℕ) {w : ℕ} → w ≡ 2 * length (coverWords ns) → 
 unfolding coverWords unlessEmpty isSome
 cover-kept [] e z = absurd (z e)
 cover-kept (n ∷ ns) e z = refl
-
-cover-most : (ns : List ℕ) → length (coverWords ns) ≤ 2 + length ns
-unfolding coverWords
-cover-most [] = omega arith
-cover-most (n ∷ ns) = coverage-size (n ∷ ns) .1
 
 module _ (g : List (ℕ × ℕ)) (s : List ℕ) where
   -- what is left of one coverage of a row

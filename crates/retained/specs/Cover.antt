@@ -1,17 +1,20 @@
 -- A coverage that is cut to its retained glyphs.
-use Prim.Native.Nat.{ℕ, _*_, _/_, _≤_}
+use Prim.Native.Nat.{ℕ, _+_, _*_, _/_, _≤_, _<_}
 use mathlib.Core.Path.{_≡_, refl, sym, ap, _∙_}
-use mathlib.Core.Bool.{true}
-use mathlib.Core.List.{List, [], _∷_, _++_}
+use mathlib.Core.Bool.{Bool, true, false, cond}
+use mathlib.Core.List.{List, [], _∷_, _++_, map}
 use native.Mathlib.Omega.{arith}
 use lib.ListN.{length, take, drop}
 use lib.Seq.{sets, take-at, length-sets}
-use Rattle.meaning.specs.Words.{words, flat, ascends, keys}
+use lib.Dec.{leb}
+use borrow.Author.Tests.{leb-false}
+use Rattle.meaning.specs.Words.{words, flat, threes, ascends, keys}
 use Rattle.meaning.specs.Maps.{mapEntries}
 use Rattle.meaning.specs.Parts.{coverage, coverageSound}
 use Rattle.meaning.specs.Cut.{newCoverage}
-use Rattle.meaning.specs.Layout.{coverageWords}
-use Rattle.laws.specs.Stands.{All, Word, stands-all, words-back, flat-length}
+use Rattle.meaning.specs.Layout.{runs, indexed, coverageWords}
+use Rattle.laws.specs.Stands.{stands-all, words-back, flat-length, threes-length}
+use Rattle.laws.specs.Runs.{indexed-length}
 use Rattle.laws.specs.Written.{sets-front}
 use Rattle.laws.specs.Pieces.{Gathered}
 
@@ -30,6 +33,25 @@ coverWords (g ∷ gs) = coverageWords (g ∷ gs)
 -- what is left of a coverage
 abbrev pub coverLeft : List (ℕ × ℕ) → List ℕ → List ℕ
 coverLeft g cov = coverWords (newCoverage g cov)
+
+-- a coverage has words, and at most two more than its glyphs
+pub coverage-size : (gs : List ℕ) → (0 < length (coverageWords gs)) × (length (coverageWords gs) ≤ 2 + length gs)
+unfolding coverageWords
+coverage-size gs = step (leb (4 + 2 * length gs) (4 + 6 * length rs)) refl
+  where
+    rs : List (ℕ × ℕ × ℕ)
+    rs = runs (map (λ g. (g, 0)) gs)
+
+    step : (b : Bool) → leb (4 + 2 * length gs) (4 + 6 * length rs) ≡ b
+        → (0 < length (cond b (1 ∷ length gs ∷ gs) (2 ∷ length rs ∷ threes (indexed 0 rs)))) × (length (cond b (1 ∷ length gs ∷ gs) (2 ∷ length rs ∷ threes (indexed 0 rs))) ≤ 2 + length gs)
+    step true q = (omega arith, omega arith)
+    step false q = (omega arith, omega (arith, leb-false (4 + 2 * length gs) (4 + 6 * length rs) q, threes-length (indexed 0 rs), indexed-length 0 rs))
+
+-- what is left of a coverage has at most two words more than glyphs
+pub cover-most : (ns : List ℕ) → length (coverWords ns) ≤ 2 + length ns
+unfolding coverWords
+cover-most [] = omega arith
+cover-most (n ∷ ns) = coverage-size (n ∷ ns) .1
 
 -- what was gathered is what the front of scratch says
 module _ {ws before : List ℕ} {r : ℕ} {after : List ℕ} (g : Gathered ws before r after) (h : 2 * length ws ≤ length before) where

@@ -1,0 +1,112 @@
+-- A context by classes, written from the start on, and laid into the buffer.
+use Prim.Native.Nat.{ℕ, _+_, _*_, _≤_, _<_}
+use mathlib.Core.Path.{_≡_, refl, sym, ap, _∙_}
+use mathlib.Core.Bool.{Bool, true, false}
+use mathlib.Core.Option.{Option, none, some}
+use mathlib.Core.List.{List, []}
+use native.Mathlib.Omega.{arith}
+use lib.ListN.{length, length-map}
+use lib.Seq.{sets}
+use Rattle.meaning.specs.Words.{word, words, bytes2, flat, ascends, keys}
+use Rattle.meaning.specs.Maps.{mapEntries}
+use Rattle.meaning.specs.Cut.{classMap?}
+use Rattle.meaning.specs.Layout.{blocks}
+use Rattle.meaning.specs.Subset.{limit, laidInto}
+use Rattle.laws.specs.Stands.{flat-length}
+use Rattle.laws.specs.Left.{words-length}
+use Rattle.laws.specs.ClassesLeft.{class-map-ascends}
+use Rattle.laws.specs.Slots.{slotBlock, slotBlocks}
+use Rattle.laws.specs.SetsTable.{firstSet, tailStart, table-size}
+use Rattle.gsubgpos.specs.Left.{Ascends, NumbersAscend, AllAscend}
+use Rattle.sets.specs.Sets.{setWordsOf, LaidDown, Fits}
+use Rattle.sets.specs.declared.Kind.{Kind}
+use Rattle.room.specs.Laid.{laidFor, outcomeOf, isKept, refused-room, kept-room, kept-small}
+use Rattle.room.specs.declared.Laid.{Laid}
+use Rattle.by_class.specs.Tables.{tableAt, Remakes}
+use Rattle.by_class.specs.Context.{countSlot, kindOf}
+use Rattle.by_class.specs.Tail.{tailOf, Remaking, Ready, Sized, Apart}
+use Rattle.by_class.specs.InOrder.{written-in-order}
+use Rattle.by_class.specs.Whole.{setBlocks, contextWords, Lays, Writes}
+
+-- a class map can be asked
+map-ascends : (g : List (ℕ × ℕ)) (o : Option (List (ℕ × ℕ))) → ascends (keys (classMap? g o)) ≡ true
+unfolding classMap? keys ascends
+map-ascends g none = refl
+map-ascends g (some cs) = class-map-ascends g cs
+
+ranks-ascend : {s : List ℕ} {at : ℕ} {glyphs map : List ℕ} {room : ℕ} → Remakes s at glyphs map room → Ascends map
+ranks-ascend {s} {at} {glyphs} k = rw (k .ranks) (map-ascends (mapEntries glyphs) (tableAt s at))
+
+pub numbers-ascend : {chained : Bool} {s glyphs b i a : List ℕ} {room : ℕ} → Remaking chained s glyphs b i a room → NumbersAscend b i a
+numbers-ascend k = record { back = ranks-ascend (k .back); input = ranks-ascend (k .input); ahead = ranks-ascend (k .ahead) }
+
+pub all-ascend : {chained : Bool} {s glyphs lookups b i a : List ℕ} {n room : ℕ} → Lays chained s glyphs lookups b i a n room → AllAscend b i a lookups
+all-ascend k = record { numbers = numbers-ascend (k .ready .tables); lookups = k .old-lookups }
+
+-- the count of the sets stands after the format and the offsets of coverage and class tables
+tail-length : (chained : Bool) (g : List (ℕ × ℕ)) (s : List ℕ) → 2 + 2 * length (tailOf chained g s) ≡ countSlot chained
+tail-length true g s = refl
+tail-length false g s = refl
+
+-- there is a block for each slot
+blocks-length : (chained : Bool) (s b i a l slots : List ℕ) (n : ℕ) → length (setBlocks chained s b i a l slots n) ≡ n
+blocks-length chained s b i a l slots n = length-map (words slots 0 n) (slotBlock (setWordsOf (kindOf chained) b i a l s)) ∙ words-length slots 0 n
+
+module _ {chained : Bool} {s glyphs lookups b i a slots : List ℕ} {n start room : ℕ} (k : Writes chained s glyphs lookups b i a slots n start room) where
+  abbrev tail : List (Option (List ℕ))
+  tail = tailOf chained (mapEntries glyphs) s
+
+  abbrev parts : List (Option (List ℕ))
+  parts = setBlocks chained s b i a lookups slots n
+
+  -- the place after the offsets of the sets is that of the first set
+  first-is : firstSet 2 tail [] parts ≡ countSlot chained + 2 + 2 * n
+  first-is = omega (arith, tail-length chained (mapEntries glyphs) s, blocks-length chained s b i a lookups slots n)
+
+  -- coverage and class tables have room
+  pub writes-tail : Apart tail 2 start
+  writes-tail = record { before = omega (arith, k .begins, first-is, tail-length chained (mapEntries glyphs) s); ends = k .ends }
+
+  module _ {kind : Kind} {at p : ℕ} (ek : kind ≡ kindOf chained) (ea : at ≡ countSlot chained) where
+    -- the sets can be laid down
+    pub writes-fit : p ≡ at + 2 → Fits kind b i a lookups s slots n p (p + 2 * n)
+    writes-fit e = rw ek (record { count = k .lays .count; apart = omega arith; ends = omega (arith, k .begins, k .ends, first-is) })
+
+    -- what is written is the context
+    pub context-written : (out : List ℕ) {one two three four : List ℕ} {q r : ℕ} → one ≡ sets out 0 (bytes2 2) → LaidDown tail one 2 start two q → (p ≡ at + 2) × (three ≡ sets two at (bytes2 n))
+        → LaidDown (slotBlocks (setWordsOf kind b i a lookups s) (words slots 0 n)) three p (p + 2 * n) four r → four ≡ sets out 0 (flat (contextWords chained s b i a lookups slots n (mapEntries glyphs)))
+    context-written out {one} {two} {three} {four} e f g h =
+        let l = blocks-length chained s b i a lookups slots n in
+        let t = tail-length chained (mapEntries glyphs) s in
+        let c : at ≡ 2 + 2 * length tail = omega arith in
+        let d : p ≡ 4 + 2 * length tail = omega (arith, g .0) in
+        let w : p + 2 * n ≡ firstSet 2 tail [] parts = omega (arith, first-is, g .0) in
+        let v = rw (ek, w) at (h .bytes) in
+        written-in-order 2 tail parts out e (rw (k .begins) at (f .bytes)) (rw (c, ← l) at (g .1)) (rw d at v)
+
+module _ {chained : Bool} {s glyphs lookups b i a : List ℕ} {n room : ℕ} (k : Lays chained s glyphs lookups b i a n room) (slots : List ℕ) {kind : Kind} {at size tail : ℕ} (ea : at ≡ countSlot chained) (ek : kind ≡ kindOf chained)
+    (es : size ≡ 2 * length (blocks (slotBlocks (setWordsOf kind b i a lookups s) (words slots 0 n)))) (et : Sized (tailOf chained (mapEntries glyphs) s) tail)
+    (out : List ℕ) {t : Laid} (e : t ≡ laidFor (at + 2 + 2 * n + size + tail) (length out)) where
+  -- the layout of what is left, and its length
+  abbrev bytes : List ℕ
+  bytes = flat (contextWords chained s b i a lookups slots n (mapEntries glyphs))
+
+  begins-at : at + 2 + 2 * n + size ≡ tailStart 2 (tailOf chained (mapEntries glyphs) s) [] (setBlocks chained s b i a lookups slots n)
+  begins-at = omega (arith, tail-length chained (mapEntries glyphs) s, blocks-length chained s b i a lookups slots n, rw ek at es)
+
+  total : at + 2 + 2 * n + size + tail ≡ length bytes
+  total =
+      let g = mapEntries glyphs in
+      omega (arith, begins-at, et .size, table-size 2 (tailOf chained g s) [] (setBlocks chained s b i a lookups slots n), flat-length (contextWords chained s b i a lookups slots n g))
+
+  -- it has no room, and nothing is written
+  pub lay-refused : isKept t ≡ false → outcomeOf t out ≡ laidInto out bytes
+  lay-refused h = refused-room out bytes (rw total at e) h
+
+  -- it has room: then it can be written, and it was
+  pub lay-writes : {now : ℕ} → now ≡ room → isKept t ≡ true → Writes chained s glyphs lookups b i a slots n (at + 2 + 2 * n + size) now
+  unfolding limit
+  lay-writes f h = record { lays = rw f k; begins = begins-at; ends = omega (arith, kept-small out bytes (rw total at e) h, total, et .size) }
+
+  pub lay-kept : {after : List ℕ} → isKept t ≡ true → after ≡ sets out 0 bytes → outcomeOf t after ≡ laidInto out bytes
+  lay-kept h f = kept-room out bytes (rw total at e) h f
