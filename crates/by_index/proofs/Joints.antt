@@ -93,7 +93,7 @@ module _ (kind : Kind) (g l s : List ℕ) (slot n : ℕ) (out : List ℕ) where
   laid-null z = rw (eq-eqb (word s 2) 0 z) refl
 
   module _ {cover : ℕ} (ec : cover ≡ word s 2) (z : cover ≡ 0 → ⊥) where
-    kept-from : keptFrom kind g s slot n ≡ keptPlaces (stays kind g s) (mapEntries g) (coverage s cover) (words s slot n)
+    pub kept-from : keptFrom kind g s slot n ≡ keptPlaces (stays kind g s) (mapEntries g) (coverage s cover) (words s slot n)
     unfolding keptFrom
     kept-from = rw (ec, ne-eqb (word s 2) 0 (λ e. z (ec ∙ e))) refl
 

@@ -1,2 +1,4 @@
 pub mod Laying
 pub mod Joints
+pub mod Using
+pub mod PairJoints

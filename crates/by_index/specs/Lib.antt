@@ -1,3 +1,4 @@
 pub mod Kept
 pub mod Tables
 pub mod Whole
+pub mod PairTable

@@ -10,14 +10,17 @@ use lib.ListN.{length}
 use lib.Seq.{sets}
 use lib.Dec.{eqb, leb}
 use borrow.Author.Tests.{eq-eqb, ne-eqb, leb-true}
-use Rattle.meaning.specs.Words.{word, words, flat, keys, values, find, isSome, bind, push}
+use Rattle.meaning.specs.Words.{word, words, inside, flat, keys, values, isSome, bind}
 use Rattle.meaning.specs.Maps.{mapEntries}
 use Rattle.meaning.specs.Parts.{coverage, coverageSound}
 use Rattle.meaning.specs.Tables.{Table, Rule, reach, reaches, ruleSet, ligatureSet}
+use Rattle.meaning.specs.Fault.{faultThrough, coverageFault, enough, headerFault}
 use Rattle.meaning.specs.Cut.{cut, cutSet, cutLigatures, keptSets, glyphsOf, setsOf, keptByGlyph, keptLigatures}
 use Rattle.meaning.specs.Layout.{block, coverageWords, ruleWords, ligatureWords, setWords, setsLayout, tableWords, layout}
 use Rattle.meaning.specs.Subset.{Outcome, refused, laidInto, written}
-use Rattle.laws.specs.KeptPlaces.{keptPlace, keptPlaces, kept-is}
+use Rattle.laws.specs.Runs.{both}
+use Rattle.laws.specs.SoundGood.{part-sound, lowest-none, header-good}
+use Rattle.laws.specs.KeptPlaces.{keptPlaces, kept-is}
 use Rattle.gsubgpos.specs.Left.{mapsOf, set-block, lookups-silent}
 use Rattle.ligature_subst.specs.Left as Ligature
 use Rattle.sets.specs.declared.Kind.{Kind}
@@ -33,6 +36,32 @@ pub record Asks (s g l : List ℕ) (n : ℕ) (to places : List ℕ) : Type 0 whe
   pub glyph-room : 2 * n ≤ length to
   pub place-room : 2 * n ≤ length places
   pub short : length to < 0x1_0000_0000
+
+-- A header without a fault that judges whether there are enough sets is as asked, where scratch is as long as the source.
+module _ (good : Bool) (slot : ℕ) (faultAt : ℕ → Option ℕ) (s : List ℕ) (h : headerFault good 0 slot faultAt s ≡ none) where
+  header-inside : slot + 2 + 2 * word s slot ≤ length s
+  unfolding headerFault inside
+  header-inside =
+      let p = part-sound 0 (inside s 0 (slot + 2) && (inside s (slot + 2) (2 * word s slot) && good)) _ h .0 in
+      leb-true (slot + 2 + 2 * word s slot) (length s) (both (inside s (slot + 2) (2 * word s slot)) good (both (inside s 0 (slot + 2)) _ p .1) .0)
+
+  cover-sound : (word s 2 ≡ 0 → ⊥) → coverageSound s (word s 2) ≡ true
+  unfolding faultThrough coverageFault
+  cover-sound z =
+      let q = lowest-none (cond (eqb (word s 2) 0) none (coverageFault s (0 + word s 2))) _ (header-good s good 0 slot faultAt h .1) .0 in
+      part-sound (word s 2) (coverageSound s (word s 2)) none (rw (ne-eqb (word s 2) 0 z, zero-add) at q) .0
+
+  pub header-asks : (good ≡ true → enough s (word s slot) ≡ true) → {g l to places : List ℕ} → BothAscend g l → length s ≤ length to → length s ≤ length places → length to < 0x1_0000_0000 → Asks s g l (word s slot) to places
+  unfolding enough
+  header-asks e m a b c =
+      record {
+        sound = cover-sound;
+        enough = λ z. leb-true (length (coverage s (word s 2))) (word s slot) (rw (ne-eqb (word s 2) 0 z, cover-sound z) at (e (header-good s good 0 slot faultAt h .0)));
+        maps = m;
+        glyph-room = omega (arith, header-inside);
+        place-room = omega (arith, header-inside);
+        short = c;
+      }
 
 module _ (kind : Kind) (g s : List ℕ) where
   -- the kept sets: for each the new glyph that indexes it and its place, by the n offsets from `slot` on; none where the coverage is null

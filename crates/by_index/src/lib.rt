@@ -5,8 +5,11 @@ use coverage::size;
 use coverage::write;
 use maps::Found;
 use maps::find;
+use pair_pos::keep_if;
+use pair_pos::set_uses;
 use room::Laid;
 use room::room;
+use sets::Formats;
 use sets::Kind;
 use sets::set_survives;
 use sets::sets_size;
@@ -32,6 +35,8 @@ ghost use Rattle.room.specs.Laid.{outcomeOf};
 ghost use Rattle.coverage.specs.Glyphs.{glyphsOf};
 ghost use Rattle.meaning.specs.Cut.{cut};
 ghost use Rattle.by_index.specs.Tables.{moreOf, setBlocks, tableOf, Lays};
+ghost use Rattle.pair_pos.specs.Fields.{isField};
+ghost use Rattle.by_index.specs.PairTable.{usesAt, formatAt, kindAt, pairTable};
 ghost use Rattle.by_index.specs.Whole.{Asks, keptFrom, wordsOf, laidWords, glyphContext, ligatureTable};
 
 // The new number of a covered glyph, if the set at `at` is kept for it.
@@ -206,4 +211,100 @@ pub fn ligatures(
     ensures { λ r. ⌜ outcomeOf r (now (out .exit)) ≡ written (now (out .entry)) (cut (mapEntries (now (glyphs .entry))) (mapEntries (now (lookups .entry))) (ligatureTable (now (src .entry)))) ⌝ }
 {
     lay_kept(Kind::Ligatures, src, glyphs, lookups, to, places, out)
+}
+
+// Whether a kept pair set has a surviving pair whose field `k` (1, 2, 4 or 8) is nonzero in the value record of its first glyph, or of its second. The places of the `n` kept sets are the words of `places`.
+fn uses(
+    src: &[u8],
+    f1: usize,
+    f2: usize,
+    second: bool,
+    k: usize,
+    places: &[u8],
+    n: usize,
+    glyphs: &[u8],
+) -> bool
+    requires { ⌜ (n < 65536) × (isField k ≡ true) × (ascends (keys (mapEntries (now glyphs))) ≡ true) ⌝ }
+    ensures { λ r. ⌜ r ≡ usesAt (now (glyphs .entry)) f1 f2 (now (src .entry)) second k (words (now (places .entry)) 0 n) ⌝ }
+{
+    let mut i = 0;
+    'sets: while i < n {
+        if set_uses(src, word_at(places, 2 * i), f1, f2, second, k, glyphs) {
+            return true;
+        }
+        i += 1;
+    }
+    false
+}
+
+// The new value format of the first glyph, or of the second: a field stays if some surviving pair of the whole table has it nonzero.
+fn new_format(
+    src: &[u8],
+    f1: usize,
+    f2: usize,
+    second: bool,
+    places: &[u8],
+    n: usize,
+    glyphs: &[u8],
+) -> usize
+    requires { ⌜ (n < 65536) × (ascends (keys (mapEntries (now glyphs))) ≡ true) ⌝ }
+    ensures { λ r. ⌜ r ≡ formatAt (now (glyphs .entry)) f1 f2 (now (src .entry)) second (words (now (places .entry)) 0 n) ⌝ }
+{
+    let a = keep_if(uses(src, f1, f2, second, 1, places, n, glyphs), 1);
+    let b = keep_if(uses(src, f1, f2, second, 2, places, n, glyphs), 2);
+    let c = keep_if(uses(src, f1, f2, second, 4, places, n, glyphs), 4);
+    let d = keep_if(uses(src, f1, f2, second, 8, places, n, glyphs), 8);
+    a + b + c + d
+}
+
+// What is left of a pair table, as `lay` lays it, with the value formats that its kept sets ask for.
+fn lay_pairs(
+    src: &[u8],
+    f1: usize,
+    f2: usize,
+    glyphs: &[u8],
+    lookups: &[u8],
+    to: &[u8],
+    places: &[u8],
+    n: usize,
+    out: &mut [u8],
+) -> Laid
+    requires { ⌜ Lays (now glyphs) (now lookups) (now to) n ⌝ }
+    ensures { λ r. ⌜ outcomeOf r (now (out .exit)) ≡ laidInto (now (out .entry)) (flat (tableOf (kindAt (now (glyphs .entry)) f1 f2 (now (src .entry)) (words (now (places .entry)) 0 n)) (glyphsOf (now (to .entry))) (setBlocks (kindAt (now (glyphs .entry)) f1 f2 (now (src .entry)) (words (now (places .entry)) 0 n)) (now (glyphs .entry)) (now (lookups .entry)) (now (src .entry)) (words (now (places .entry)) 0 n)))) ⌝ }
+{
+    let n1 = new_format(src, f1, f2, false, places, n, glyphs);
+    let n2 = new_format(src, f1, f2, true, places, n, glyphs);
+    let kind = Kind::Pairs(Formats { f1, f2, n1, n2 });
+    lay(kind, src, glyphs, lookups, to, places, n, out)
+}
+
+// The same as `rules` for a table of pairs; it has no lookups. The count of the sets stands at 8, after the value formats.
+pub fn pairs(
+    src: &[u8],
+    glyphs: &[u8],
+    lookups: &[u8],
+    to: &mut [u8],
+    places: &mut [u8],
+    out: &mut [u8],
+) -> Laid
+    requires { ⌜ Asks (now src) (now glyphs) (now lookups) (word (now src) 8) (now to) (now places) ⌝ }
+    ensures { λ r. ⌜ outcomeOf r (now (out .exit)) ≡ written (now (out .entry)) (cut (mapEntries (now (glyphs .entry))) (mapEntries (now (lookups .entry))) (pairTable (now (src .entry)))) ⌝ }
+{
+    let cover = word_at(src, 2);
+    if cover == 0 {
+        return Laid::Nothing;
+    }
+    let f1 = word_at(src, 4);
+    let f2 = word_at(src, 6);
+    let kind = Kind::Pairs(Formats {
+        f1,
+        f2,
+        n1: 0,
+        n2: 0,
+    });
+    let k = keep_sets(kind, src, cover, 10, word_at(src, 8), glyphs, to, places);
+    if k == 0 {
+        return Laid::Nothing;
+    }
+    lay_pairs(src, f1, f2, glyphs, lookups, &to[..2 * k], places, k, out)
 }
