@@ -1,2 +1,4 @@
 pub mod Tails
 pub mod Laid
+pub mod Kept
+pub mod Asked

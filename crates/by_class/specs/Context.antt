@@ -40,12 +40,16 @@ abbrev pub kindOf : Bool → Kind
 kindOf false = Rules
 kindOf true = ChainedRules
 
--- What `by_class` asks: the source has no fault and its format is 2, both maps are good, and scratch has room for as many entries as there are glyphs; b, i, a, c, p and w are the lengths of `back`, `input`, `ahead`, `covered`, `slots` and `work`.
-pub record Asks (chained : Bool) (s glyphs lookups : List ℕ) (b i a c p w : ℕ) : Type 0 where
+-- The source has no fault and its format is 2, and both maps are good.
+pub record Good (chained : Bool) (s glyphs lookups : List ℕ) : Type 0 where
   pub sound : contextFault chained s ≡ none
   pub format : word s 0 ≡ 2
-  pub good : goodGlyphs glyphs ≡ true
+  pub good-glyphs : goodGlyphs glyphs ≡ true
   pub good-lookups : goodLookups lookups ≡ true
+
+-- What `by_class` asks: all is good, and scratch has room for as many entries as there are glyphs, or words in `slots`; b, i, a, c, p and w are the lengths of `back`, `input`, `ahead`, `covered`, `slots` and `work`.
+pub record Asks (chained : Bool) (s glyphs lookups : List ℕ) (b i a c p w : ℕ) : Type 0 where
+  pub good : Good chained s glyphs lookups
   pub back : length glyphs ≤ b
   pub input : length glyphs ≤ i
   pub ahead : length glyphs ≤ a

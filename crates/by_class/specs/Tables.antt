@@ -123,10 +123,10 @@ map-count : (glyphs : List ℕ) → 4 * length (mapEntries glyphs) ≤ length gl
 unfolding mapEntries
 map-count glyphs = omega (arith, entries-length glyphs 0 (length glyphs / 4))
 
-pub ranks-fit : (glyphs : List ℕ) (o : Option (List (ℕ × ℕ))) {before after : List ℕ} {r : ℕ} → Filled (classMap? (mapEntries glyphs) o) before r after → r ≤ length glyphs
+pub ranks-fit : (glyphs : List ℕ) (o : Option (List (ℕ × ℕ))) {before after : List ℕ} {r : ℕ} → Filled (classMap? (mapEntries glyphs) o) before r after → length glyphs ≤ length before → r ≤ length before
 unfolding classMap?
-ranks-fit glyphs none f = omega (arith, f .used)
-ranks-fit glyphs (some cs) f = omega (arith, f .used, class-map-length (mapEntries glyphs) cs, map-count glyphs)
+ranks-fit glyphs none f h = omega (arith, f .used)
+ranks-fit glyphs (some cs) f h = omega (arith, f .used, class-map-length (mapEntries glyphs) cs, map-count glyphs)
 
 pub new-fit : (glyphs : List ℕ) (cs : List (ℕ × ℕ)) {before after : List ℕ} {r : ℕ} → Filled (newClasses (mapEntries glyphs) cs) before r after → length glyphs ≤ length before → r ≤ length before
 new-fit glyphs cs f h = omega (arith, f .used, new-classes-length (mapEntries glyphs) cs, map-count glyphs)
@@ -157,6 +157,9 @@ take-length (suc n) (x ∷ l) h = ap suc (take-length n l (omega arith))
 -- the entries that are filled in are the front of the buffer
 pub filled-part : {es : List (ℕ × ℕ)} {before after : List ℕ} {r : ℕ} → Filled es before r after → r ≤ length before → r ≡ length (take r after)
 filled-part {after = after} {r = r} f h = sym (take-length r after (omega (arith, filled-length f)))
+
+pub filled-within : {es : List (ℕ × ℕ)} {before after : List ℕ} {r : ℕ} → Filled es before r after → r ≤ length before → r ≤ length after
+filled-within f h = omega (arith, filled-length f)
 
 -- the offset of a new class table and the table, laid down
 module _ (g : List (ℕ × ℕ)) (s : List ℕ) (at : ℕ) {out mid : List ℕ} {slot p : ℕ} where

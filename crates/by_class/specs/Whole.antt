@@ -15,7 +15,8 @@ use Rattle.laws.specs.SetsTable.{tailStart}
 use Rattle.retained.specs.Retained.{retainedEntries}
 use Rattle.gsubgpos.specs.Left.{Ascends}
 use Rattle.sets.specs.Sets.{setWordsOf}
-use Rattle.by_class.specs.Context.{inputAt, kindOf}
+use Rattle.by_class.specs.Tables.{mapAt}
+use Rattle.by_class.specs.Context.{inputAt, kindOf, Good}
 use Rattle.by_class.specs.Tail.{tailOf, Ready}
 
 module _ (chained : Bool) (s b i a l slots : List ℕ) (n : ℕ) where
@@ -48,3 +49,17 @@ pub record Mapped (chained : Bool) (s glyphs lookups b i a c : List ℕ) (slots 
   pub held : mapEntries c ≡ classMap (retainedEntries (mapEntries glyphs) (coverage s (word s 2))) (classes s (inputAt chained s))
   pub few : length i ≤ 262144
   pub places : length glyphs ≤ 2 * slots
+
+-- What is known once the classes of the input are ranked: neither the coverage nor the input's class table is null, `i` has its class map and `c` the classes that retained covered glyphs hold, and there is room for the rest; u, v, p and w are the lengths of `back`, `ahead`, `slots` and `work`.
+pub record Begun (chained : Bool) (s glyphs lookups i c : List ℕ) (u v p w : ℕ) : Type 0 where
+  pub good : Good chained s glyphs lookups
+  pub covers : word s 2 ≡ 0 → ⊥
+  pub classed : inputAt chained s ≡ 0 → ⊥
+  pub ranks : mapEntries i ≡ mapAt (mapEntries glyphs) s (inputAt chained s)
+  pub few : length i ≤ 262144
+  pub held : mapEntries c ≡ classMap (retainedEntries (mapEntries glyphs) (coverage s (word s 2))) (classes s (inputAt chained s))
+  pub back : length glyphs ≤ u
+  pub ahead : length glyphs ≤ v
+  pub slots : length glyphs ≤ 2 * p
+  pub work : length glyphs ≤ w
+  pub short : w ≤ 0x1_0000_0000

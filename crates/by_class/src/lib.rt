@@ -32,12 +32,13 @@ ghost use Rattle.by_class.specs.Tables.{mapAt, newTable, SoundAt, Remake
 ghost use Rattle.by_class.specs.Tail.{classTables, tailOf, Remaking, Ready, Sized, Apart};
 ghost use mathlib.Core.Bool.{true};
 ghost use Rattle.meaning.specs.Parts.{coverage, coverageSound, classes, classesSound};
-ghost use Rattle.meaning.specs.Cut.{classMap};
+ghost use Rattle.meaning.specs.Cut.{classMap, cut};
 ghost use Rattle.retained.specs.Retained.{retainedEntries, retainedWords};
-ghost use Rattle.meaning.specs.Subset.{laidInto};
+ghost use Rattle.meaning.specs.Tables.{classContext};
+ghost use Rattle.meaning.specs.Subset.{laidInto, written};
 ghost use Rattle.room.specs.Laid.{outcomeOf};
-ghost use Rattle.by_class.specs.Context.{countSlot, kindOf};
-ghost use Rattle.by_class.specs.Whole.{contextWords, Lays, Writes};
+ghost use Rattle.by_class.specs.Context.{backAt, inputAt, aheadAt, countSlot, kindOf, Asks};
+ghost use Rattle.by_class.specs.Whole.{contextWords, Lays, Writes, Mapped, Begun};
 ghost use Rattle.by_class.specs.Places.{placesOf, Placed};
 
 // The place of the set of a class, by the `n` offsets from `slot` on, if a retained covered glyph holds the class and something of the set is left; else 0.
@@ -324,6 +325,175 @@ fn lay(
     let Laid::Kept(_) = r else {
         return r;
     };
-    write_context(chained, src, glyphs, lookups, back, input, ahead, slots, n, first + size, work, out);
+    write_context(
+        chained,
+        src,
+        glyphs,
+        lookups,
+        back,
+        input,
+        ahead,
+        slots,
+        n,
+        first + size,
+        work,
+        out,
+    );
     r
+}
+
+// What is left of a context whose classes are ranked, laid into the buffer if its plain layout has room. Nothing is left if no slot is kept.
+fn with_maps(
+    chained: bool,
+    src: &[u8],
+    glyphs: &[u8],
+    lookups: &[u8],
+    back: &[u8],
+    input: &[u8],
+    ahead: &[u8],
+    covered: &[u8],
+    slots: &mut [u8],
+    work: &mut [u8],
+    out: &mut [u8],
+) -> Laid
+    requires { ⌜ Mapped chained (now src) (now glyphs) (now lookups) (now back) (now input) (now ahead) (now covered) (length (now slots)) (length (now work)) ⌝ }
+    ensures { λ r. ⌜ outcomeOf r (now (out .exit)) ≡ written (now (out .entry)) (cut (mapEntries (now (glyphs .entry))) (mapEntries (now (lookups .entry))) (classContext chained (now (src .entry)))) ⌝ }
+{
+    let slot = count_slot(chained);
+    let count = word_at(src, slot);
+    let n = fill_slots(
+        kind_of(chained),
+        src,
+        slot + 2,
+        count,
+        covered,
+        back,
+        input,
+        ahead,
+        slots,
+    );
+    if n == 0 {
+        return Laid::Nothing;
+    }
+    lay(
+        chained,
+        src,
+        glyphs,
+        lookups,
+        back,
+        input,
+        ahead,
+        slots,
+        n,
+        work,
+        out,
+    )
+}
+
+// Where the class table of the backtrack stands; 0 if there is none.
+fn back_at(chained: bool, src: &[u8]) -> usize
+    ensures { λ r. ⌜ r ≡ backAt chained (now (src .entry)) ⌝ }
+{
+    if chained {
+        return word_at(src, 4);
+    }
+    0
+}
+
+// Where the class table of the input stands; 0 if there is none.
+fn input_at(chained: bool, src: &[u8]) -> usize
+    ensures { λ r. ⌜ r ≡ inputAt chained (now (src .entry)) ⌝ }
+{
+    if chained {
+        return word_at(src, 6);
+    }
+    word_at(src, 4)
+}
+
+// Where the class table of the lookahead stands; 0 if there is none.
+fn ahead_at(chained: bool, src: &[u8]) -> usize
+    ensures { λ r. ⌜ r ≡ aheadAt chained (now (src .entry)) ⌝ }
+{
+    if chained {
+        return word_at(src, 8);
+    }
+    0
+}
+
+// What is left of a context where the classes of the input are ranked: those of backtrack and lookahead are ranked into `back` and `ahead`.
+fn with_input(
+    chained: bool,
+    src: &[u8],
+    glyphs: &[u8],
+    lookups: &[u8],
+    back: &mut [u8],
+    input: &[u8],
+    ahead: &mut [u8],
+    covered: &[u8],
+    slots: &mut [u8],
+    work: &mut [u8],
+    out: &mut [u8],
+) -> Laid
+    requires { ⌜ Begun chained (now src) (now glyphs) (now lookups) (now input) (now covered) (length (now back)) (length (now ahead)) (length (now slots)) (length (now work)) ⌝ }
+    ensures { λ r. ⌜ outcomeOf r (now (out .exit)) ≡ written (now (out .entry)) (cut (mapEntries (now (glyphs .entry))) (mapEntries (now (lookups .entry))) (classContext chained (now (src .entry)))) ⌝ }
+{
+    let b = rank_at(src, back_at(chained, src), glyphs, back);
+    let a = rank_at(src, ahead_at(chained, src), glyphs, ahead);
+    with_maps(
+        chained,
+        src,
+        glyphs,
+        lookups,
+        &back[..b],
+        input,
+        &ahead[..a],
+        covered,
+        slots,
+        work,
+        out,
+    )
+}
+
+// What is left of a context by classes, plain or chained, under a glyph map and a lookup map, laid into the buffer if it is not over the limit and the buffer is not shorter.
+// Nothing is left if the coverage or the input's class table is null, or if no slot is kept; then, and if there is no room, the buffer is untouched.
+// `back`, `input`, `ahead`, `covered` and `work` are scratch as long as the glyph map, `slots` half as long.
+pub fn by_class(
+    chained: bool,
+    src: &[u8],
+    glyphs: &[u8],
+    lookups: &[u8],
+    back: &mut [u8],
+    input: &mut [u8],
+    ahead: &mut [u8],
+    covered: &mut [u8],
+    slots: &mut [u8],
+    work: &mut [u8],
+    out: &mut [u8],
+) -> Laid
+    requires { ⌜ Asks chained (now src) (now glyphs) (now lookups) (length (now back)) (length (now input)) (length (now ahead)) (length (now covered)) (length (now slots)) (length (now work)) ⌝ }
+    ensures { λ r. ⌜ outcomeOf r (now (out .exit)) ≡ written (now (out .entry)) (cut (mapEntries (now (glyphs .entry))) (mapEntries (now (lookups .entry))) (classContext chained (now (src .entry)))) ⌝ }
+{
+    let cover = word_at(src, 2);
+    if cover == 0 {
+        return Laid::Nothing;
+    }
+    let at = input_at(chained, src);
+    if at == 0 {
+        return Laid::Nothing;
+    }
+    let n = rank_at(src, at, glyphs, input);
+    let k = rank_covered(src, cover, at, glyphs, work, covered);
+    with_input(
+        chained,
+        src,
+        glyphs,
+        lookups,
+        back,
+        &input[..n],
+        ahead,
+        &covered[..k],
+        slots,
+        work,
+        out,
+    )
 }

@@ -1,8 +1,7 @@
 -- `by_class::lay_table` meets its contract: the offset leads to the new class table, or is null. Assumes nothing.
 use mathlib.Core.Path.{refl}
-use native.Mathlib.Omega.{arith}
 use borrow.Author.Needs.{needs}
-use Rattle.by_class.specs.Tables.{lay-null, lay-there, filled-part, new-fit, remade}
+use Rattle.by_class.specs.Tables.{lay-null, lay-there, filled-part, filled-within, new-fit, remade}
 use Rattle.classes.specs.Filled.{filled-length, new-ascends}
 use Rattle.by_class.proofs.lay_table.Statement.{statement}
 use Rattle.by_class.proofs.lay_table.Tie as tie
@@ -17,7 +16,7 @@ slice-reshare-prefix-write : tie.Need-slice-reshare-prefix-write
 slice-reshare-prefix-write c =
     let s = c .before .before .before .before .before .before .before .before .before .before .before .before .before .before in
     let l = c .before .before .list-new .ensures in
-    omega (arith, new-fit (s .args .glyphs .now) _ l (s .pre .0 .fits), filled-length l)
+    filled-within l (new-fit (s .args .glyphs .now) _ l (s .pre .0 .fits))
 
 slice-aggregate-write : tie.Need-slice-aggregate-write
 slice-aggregate-write c =

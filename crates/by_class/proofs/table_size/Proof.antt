@@ -1,8 +1,7 @@
 -- `by_class::table_size` meets its contract: the new entries at the front of scratch are those of the new class table. Assumes nothing.
 use mathlib.Core.Path.{refl}
-use native.Mathlib.Omega.{arith}
 use borrow.Author.Needs.{needs}
-use Rattle.by_class.specs.Tables.{size-null, size-there, filled-part, new-fit, remade}
+use Rattle.by_class.specs.Tables.{size-null, size-there, filled-part, filled-within, new-fit, remade}
 use Rattle.classes.specs.Filled.{filled-length, new-ascends}
 use Rattle.by_class.proofs.table_size.Statement.{statement}
 use Rattle.by_class.proofs.table_size.Tie as tie
@@ -17,7 +16,7 @@ slice-reshare-prefix-size : tie.Need-slice-reshare-prefix-size
 slice-reshare-prefix-size c =
     let s = c .before .before .before .before .before .before .before .before .before in
     let l = c .before .before .list-new .ensures in
-    omega (arith, new-fit (s .args .glyphs .now) _ l (s .pre .fits), filled-length l)
+    filled-within l (new-fit (s .args .glyphs .now) _ l (s .pre .fits))
 
 slice-aggregate-size : tie.Need-slice-aggregate-size
 slice-aggregate-size c =
