@@ -31,6 +31,14 @@ sound-inside kind s h = step (inside s 0 2) refl
     step true e = e
     step false e = absurd (true≢false (ap isSome (sym (source-short kind s e) ∙ h)))
 
+-- none of the answers 1 to 5 applies
+pub record Tested (kind : ℕ) (s g l : List ℕ) : Type 0 where
+  pub good-kind : goodKind kind ≡ true
+  pub good-glyphs : goodGlyphs g ≡ true
+  pub good-lookups : goodLookups l ≡ true
+  pub short : length s ≤ limit
+  pub format : inside s 0 2 && not (hasFormat kind (word s 0)) ≡ false
+
 -- Each refusal, where none before it applies.
 module _ (kind : ℕ) (s g l out : List ℕ) where
   pub at-kind : goodKind kind ≡ false → refused out 1 ≡ subset kind s g l out
@@ -48,28 +56,26 @@ module _ (kind : ℕ) (s g l out : List ℕ) where
         pub at-long : limit < length s → refused out 4 ≡ subset kind s g l out
         at-long d = rw (subset-is kind s g l out, a, b, c, lt-ltb limit (length s) d)
 
-        module _ (d : length s ≤ limit) where
-          pub at-format : inside s 0 2 && not (hasFormat kind (word s 0)) ≡ true → refused out 5 ≡ subset kind s g l out
-          at-format e = rw (subset-is kind s g l out, a, b, c, le-ltb limit (length s) d, e)
+        pub at-format : length s ≤ limit → inside s 0 2 && not (hasFormat kind (word s 0)) ≡ true → refused out 5 ≡ subset kind s g l out
+        at-format d e = rw (subset-is kind s g l out, a, b, c, le-ltb limit (length s) d, e)
 
-          module _ (e : inside s 0 2 && not (hasFormat kind (word s 0)) ≡ false) where
-            pub at-malformed : {p : ℕ} → fault kind s ≡ some p → refused out 6 ≡ subset kind s g l out
-            unfolding isSome
-            at-malformed f = rw (subset-is kind s g l out, a, b, c, le-ltb limit (length s) d, e, f)
+  module _ (t : Tested kind s g l) where
+    pub at-malformed : {p : ℕ} → fault kind s ≡ some p → refused out 6 ≡ subset kind s g l out
+    unfolding isSome
+    at-malformed f = rw (subset-is kind s g l out, t .good-kind, t .good-glyphs, t .good-lookups, le-ltb limit (length s) (t .short), t .format, f)
 
-            module _ (f : fault kind s ≡ none) where
-              pub at-device : eqb kind 4 && (hasDevice (word s 4) || hasDevice (word s 6)) ≡ true → refused out 7 ≡ subset kind s g l out
-              unfolding isSome
-              at-device h = rw (subset-is kind s g l out, a, b, c, le-ltb limit (length s) d, e, f, h)
+    module _ (f : fault kind s ≡ none) where
+      pub at-device : eqb kind 4 && (hasDevice (word s 4) || hasDevice (word s 6)) ≡ true → refused out 7 ≡ subset kind s g l out
+      unfolding isSome
+      at-device h = rw (subset-is kind s g l out, t .good-kind, t .good-glyphs, t .good-lookups, le-ltb limit (length s) (t .short), t .format, f, h)
 
-              module _ (h : eqb kind 4 && (hasDevice (word s 4) || hasDevice (word s 6)) ≡ false) where
-                -- what was laid is the call's outcome
-                pub at-end : (r : Laid) {x : Answer} {after : List ℕ} → outcomeOf r after ≡ written out (cut (mapEntries g) (mapEntries l) (table kind s)) → x ≡ answerOf r
-                    → outcome x after ≡ subset kind s g l out
-                unfolding isSome
-                at-end r {x} {after} i j =
-                    ap (λ (y : Answer). outcome y after) j ∙ same-outcome r after ∙ i
-                    ∙ rw (subset-is kind s g l out, a, b, c, le-ltb limit (length s) d, e, f, h)
+      -- none applies: what was laid is the call's outcome
+      pub at-end : eqb kind 4 && (hasDevice (word s 4) || hasDevice (word s 6)) ≡ false → (r : Laid) {x : Answer} {after : List ℕ}
+          → outcomeOf r after ≡ written out (cut (mapEntries g) (mapEntries l) (table kind s)) → x ≡ answerOf r → outcome x after ≡ subset kind s g l out
+      unfolding isSome
+      at-end h r {x} {after} i j =
+          ap (λ (y : Answer). outcome y after) j ∙ same-outcome r after ∙ i
+          ∙ rw (subset-is kind s g l out, t .good-kind, t .good-glyphs, t .good-lookups, le-ltb limit (length s) (t .short), t .format, f, h)
 
 -- What the cutting of a sound source asks, by its kind.
 module _ (kind : ℕ) {s g l : List ℕ} (c : Cuts (fault kind s) s g l) where

@@ -1,15 +1,14 @@
 -- `subset::subset` meets its contract: the refusals in 01's order, each by one test, and what was laid where none applies. Assumes nothing.
 use mathlib.Core.Path.{_≡_, sym, _∙_}
-use mathlib.Core.Bool.{true, false, _&&_, not}
+use mathlib.Core.Bool.{true}
 use mathlib.Core.Option.{none}
 use borrow.Author.Needs.{needs}
-use Rattle.meaning.specs.Words.{word, inside}
 use Rattle.meaning.specs.Maps.{goodGlyphs, goodLookups}
 use Rattle.meaning.specs.Fault.{fault}
-use Rattle.meaning.specs.Subset.{limit, goodKind, hasFormat}
+use Rattle.meaning.specs.Subset.{limit, goodKind}
 use Rattle.wire.specs.Reached.{refused, passed}
 use Rattle.wire.specs.Fault.{is-at, is-sound}
-use Rattle.subset.proofs.Judged.{at-kind, at-glyphs, at-lookups, at-long, at-format, at-malformed, at-device, at-end}
+use Rattle.subset.proofs.Judged.{Tested, at-kind, at-glyphs, at-lookups, at-long, at-format, at-malformed, at-device, at-end}
 use Rattle.subset.proofs.subset.Statement.{statement}
 use Rattle.subset.proofs.subset.Tie as tie
 
@@ -23,8 +22,20 @@ glyphs-good c = passed (c .before .good-glyphs .ensures) (c .if2 .left)
 lookups-good : (c : tie.Else3) → goodLookups (c .before .before .before .before .before .before .before .before .before .before .args .lookups .now) ≡ true
 lookups-good c = passed (c .before .good-lookups .ensures) (c .if3 .left)
 
-format-good : (c : tie.Else5) → inside (c .before .before .before .before .before .before .before .before .before .before .before .before .before .args .source .now) 0 2 && not (hasFormat (c .before .before .before .before .before .before .before .before .before .before .before .before .before .args .kind) (word (c .before .before .before .before .before .before .before .before .before .before .before .before .before .args .source .now) 0)) ≡ false
-format-good c = sym (c .before .other-format .ensures) ∙ c .if5 .left
+past-tests : (c : tie.Else5) → Tested (c .before .before .before .before .before .before .before .before .before .before .before .before .before .args .kind) (c .before .before .before .before .before .before .before .before .before .before .before .before .before .args .source .now) (c .before .before .before .before .before .before .before .before .before .before .before .before .before .args .glyphs .now) (c .before .before .before .before .before .before .before .before .before .before .before .before .before .args .lookups .now)
+unfolding limit
+past-tests c =
+    let s = c .before .before in
+    let l = s .before in
+    let g = l .before .before in
+    record { good-kind = kind-good (g .before .before); good-glyphs = glyphs-good g; good-lookups = lookups-good l; short = s .if4 .left; format = sym (c .before .other-format .ensures) ∙ c .if5 .left }
+
+-- the check found no fault
+no-fault : (c : tie.After-enum-told) → fault (c .before .before .before .before .before .before .before .before .before .before .before .before .before .before .before .before .args .kind) (c .before .before .before .before .before .before .before .before .before .before .before .before .before .before .before .before .args .source .now) ≡ none
+no-fault c =
+    let t = c .before .before in
+    let a = t .before .before .before .before .before .before .before .before .before .before .before .before .before .before .args in
+    is-sound (fault (a .kind) (a .source .now)) (c .enum-told .given .1) (t .check .ensures)
 
 returns : tie.Need-returns
 returns c =
@@ -64,59 +75,32 @@ returns-5 c =
     at-format (a .kind) (a .source .now) (a .glyphs .now) (a .lookups .now) (a .out .now) (kind-good k) (glyphs-good g) (lookups-good l) (s .if4 .left) (sym (c .before .other-format .ensures) ∙ c .if5 .taken)
 
 returns-6 : tie.Need-returns-6
-unfolding limit
 returns-6 c =
     let t = c .before .before in
-    let f = t .before in
-    let s = f .before .before in
-    let l = s .before in
-    let g = l .before .before in
-    let k = g .before .before in
-    let a = k .before .before .before .before .before .before .args in
-    at-malformed (a .kind) (a .source .now) (a .glyphs .now) (a .lookups .now) (a .out .now) (kind-good k) (glyphs-good g) (lookups-good l) (s .if4 .left) (format-good f)
-    (is-at (fault (a .kind) (a .source .now)) (c .enum-told2 .given .1) (t .check .ensures))
+    let a = t .before .before .before .before .before .before .before .before .before .before .before .before .before .before .args in
+    at-malformed (a .kind) (a .source .now) (a .glyphs .now) (a .lookups .now) (a .out .now) (past-tests (t .before)) (is-at (fault (a .kind) (a .source .now)) (c .enum-told2 .given .1) (t .check .ensures))
 
 returns-7 : tie.Need-returns-7
-unfolding limit
 returns-7 c =
     let m = c .before .before in
     let t = m .before .before in
-    let f = t .before in
-    let s = f .before .before in
-    let l = s .before in
-    let g = l .before .before in
-    let k = g .before .before in
-    let a = k .before .before .before .before .before .before .args in
-    at-device (a .kind) (a .source .now) (a .glyphs .now) (a .lookups .now) (a .out .now) (kind-good k) (glyphs-good g) (lookups-good l) (s .if4 .left) (format-good f)
-    (is-sound (fault (a .kind) (a .source .now)) (m .enum-told .given .1) (t .check .ensures)) (sym (c .before .pair-device .ensures) ∙ c .if6 .taken)
+    let a = t .before .before .before .before .before .before .before .before .before .before .before .before .before .before .args in
+    at-device (a .kind) (a .source .now) (a .glyphs .now) (a .lookups .now) (a .out .now) (past-tests (t .before)) (no-fault m) (sym (c .before .pair-device .ensures) ∙ c .if6 .taken)
 
 cut-into-requires : tie.Need-cut-into-requires
-unfolding limit
 cut-into-requires c κs =
     let m = c .before .before .before in
-    let t = m .before .before in
-    let s = t .before .before .before in
-    let l = s .before in
-    let g = l .before .before in
-    let a = g .before .before .before .before .before .before .before .before .args in
-    record { sound = is-sound (fault (a .kind) (a .source .now)) (m .enum-told .given .1) (t .check .ensures); good-glyphs = glyphs-good g; good-lookups = lookups-good l; short = s .if4 .left }
+    let p = past-tests (m .before .before .before) in
+    record { sound = no-fault m; good-glyphs = p .good-glyphs; good-lookups = p .good-lookups; short = p .short }
 
 returns-8 : tie.Need-returns-8
-unfolding limit
 returns-8 c =
     let i = c .before .before .before in
     let d = i .before .before in
     let m = d .before .before in
     let t = m .before .before in
-    let f = t .before in
-    let s = f .before .before in
-    let l = s .before in
-    let g = l .before .before in
-    let k = g .before .before in
-    let a = k .before .before .before .before .before .before .args in
-    at-end (a .kind) (a .source .now) (a .glyphs .now) (a .lookups .now) (a .out .now) (kind-good k) (glyphs-good g) (lookups-good l) (s .if4 .left) (format-good f)
-    (is-sound (fault (a .kind) (a .source .now)) (m .enum-told .given .1) (t .check .ensures)) (sym (d .before .pair-device .ensures) ∙ d .if6 .left)
-    (i .cut-into .result) (i .cut-into .ensures) (c .answer-for .ensures)
+    let a = t .before .before .before .before .before .before .before .before .before .before .before .before .before .before .args in
+    at-end (a .kind) (a .source .now) (a .glyphs .now) (a .lookups .now) (a .out .now) (past-tests (t .before)) (no-fault m) (sym (d .before .pair-device .ensures) ∙ d .if6 .left) (i .cut-into .result) (i .cut-into .ensures) (c .answer-for .ensures)
 
 pub subset-spec : {M : Type 1} → statement M
 subset-spec =
