@@ -1,16 +1,15 @@
 -- What a source without a fault gives: its coverage and its class tables are sound, and their class maps are at the front of scratch.
 use Prim.Native.Nat.{ℕ, _+_, _*_, _≤_}
-use mathlib.Core.Path.{_≡_, refl, sym, ap, _∙_}
-use mathlib.Core.Bool.{Bool, true, false, cond}
+use mathlib.Core.Path.{_≡_, refl, sym, _∙_}
+use mathlib.Core.Bool.{Bool, true, false}
 use mathlib.Core.Option.{Option, none, some}
 use mathlib.Core.List.{List}
 use native.Mathlib.Nat.{zero-add}
 use native.Mathlib.Numerals.{add-one}
 use native.Mathlib.Omega.{arith}
 use lib.ListN.{length, take}
-use lib.Dec.{eqb}
 use borrow.Author.Tests.{eq-eqb, ne-eqb}
-use Rattle.meaning.specs.Words.{word, bind}
+use Rattle.meaning.specs.Words.{word}
 use Rattle.meaning.specs.Maps.{mapEntries}
 use Rattle.meaning.specs.Parts.{coverage, coverageSound, classes, classesSound}
 use Rattle.meaning.specs.Tables.{Rule, Table, reach, reaches, ruleSet, classContext}
@@ -22,13 +21,12 @@ use Rattle.laws.specs.Through.{Opt}
 use Rattle.laws.specs.SoundGood.{part-sound, one-good, header-good}
 use Rattle.laws.specs.ClassesLeft.{class-map-length}
 use Rattle.laws.specs.Ascends.{glyphs-ascend, lookups-ascend}
-use Rattle.classes.specs.Filled.{Filled, filled-back, filled-length}
+use Rattle.classes.specs.Filled.{Filled, filled-back}
 use Rattle.retained.specs.Retained.{retainedEntries, retainedWords}
 use Rattle.retained.specs.Few.{entries-count, retained-fit}
 use Rattle.gsubgpos.specs.Left.{Ascends}
 use Rattle.by_class.specs.Tables.{tableAt, mapAt, SoundAt, Remakes, ranks-fit, filled-part}
 use Rattle.by_class.specs.Context.{backAt, inputAt, aheadAt, countSlot, Good, Asks, context-is}
-use Rattle.by_class.specs.Tail.{Remaking}
 use Rattle.by_class.specs.Whole.{Mapped, Begun}
 
 -- the part that an offset leads to is sound, if the offset is not null

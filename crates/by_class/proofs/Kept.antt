@@ -1,20 +1,20 @@
 -- What `cut` and `layout` make of a context by classes, said by the places of its sets.
-use Prim.Native.Nat.{ℕ, zero, suc, _+_, _-_, _*_, _/_, _≤_, _<_}
+use Prim.Native.Nat.{ℕ, suc, _+_, _-_, _/_, _≤_, _<_}
 use mathlib.Core.Path.{_≡_, refl, sym, ap, _∙_}
 use mathlib.Core.Bool.{Bool, true, false, cond}
-use mathlib.Core.Option.{Option, none, some}
+use mathlib.Core.Option.{Option, some}
 use mathlib.Core.List.{List, [], _∷_, map}
 use native.Mathlib.Decide.{decLt}
 use native.Mathlib.Nat.{zero-add}
 use native.Mathlib.Omega.{arith}
-use lib.ListN.{length, take}
+use lib.ListN.{length}
 use lib.Dec.{eqb}
 use borrow.Author.Tests.{ne-eqb, eq-eqb}
-use Rattle.meaning.specs.Words.{word, words, flat, keys, isSome, bind, member}
+use Rattle.meaning.specs.Words.{word, words, flat, keys, isSome, member}
 use Rattle.meaning.specs.Maps.{mapEntries}
 use Rattle.meaning.specs.Parts.{coverage, classes}
 use Rattle.meaning.specs.Tables.{Rule, Table, reach, reaches, ruleSet, classContext}
-use Rattle.meaning.specs.Cut.{RuleMaps, heldBy, classMap, classMap?, newClasses?, newCoverage, retained, cutRule, unlessEmpty, cutSet, slots, trim, keptByClass, cut}
+use Rattle.meaning.specs.Cut.{RuleMaps, heldBy, classMap, classMap?, newClasses?, newCoverage, retained, unlessEmpty, cutSet, slots, trim, keptByClass, cut}
 use Rattle.meaning.specs.Layout.{block, setWords, ruleWords, coverageWords, classWords, setsLayout, tableWords, layout}
 use Rattle.meaning.specs.Subset.{refused, laidInto, written}
 use Rattle.laws.specs.Runs.{Up}
@@ -22,8 +22,8 @@ use Rattle.laws.specs.Left.{entries-length}
 use Rattle.laws.specs.SoundGood.{ascends-up}
 use Rattle.laws.specs.ClassesLeft.{class-map-ascends, class-map-length}
 use Rattle.laws.specs.Slots.{slotBlocks}
-use Rattle.laws.specs.SlotPlaces.{slotPlace, keptOrNull, keepPlace, trimmed, trim-are, trimmed-take, scratch-first}
-use Rattle.retained.specs.Cover.{coverLeft, coverWords}
+use Rattle.laws.specs.SlotPlaces.{slotPlace, keepPlace, trimmed, trim-are, trimmed-take, scratch-first}
+use Rattle.retained.specs.Cover.{coverWords}
 use Rattle.retained.specs.Retained.{retainedEntries}
 use Rattle.retained.specs.Few.{entries-count}
 use Rattle.gsubgpos.specs.Left.{Ascends, NumbersAscend, mapsOf, setLeft, lookups-silent}
@@ -33,7 +33,7 @@ use Rattle.by_class.specs.Places.{placesOf, places-length, place-past, P
 use Rattle.by_class.specs.Tables.{tableAt, newTable, map-there}
 use Rattle.by_class.specs.Context.{backAt, inputAt, aheadAt, countSlot, kindOf, context-is, map-keys, covered-held}
 use Rattle.by_class.specs.Tail.{tailOf}
-use Rattle.by_class.specs.Whole.{contextWords, Lays, Mapped}
+use Rattle.by_class.specs.Whole.{contextWords, Mapped}
 use Rattle.by_class.proofs.Laid.{numbers-ascend}
 
 -- Places of sets, without the zeros at the end.

@@ -1,13 +1,13 @@
 -- A context by classes, written from the start on, and laid into the buffer.
-use Prim.Native.Nat.{ℕ, _+_, _*_, _≤_, _<_}
-use mathlib.Core.Path.{_≡_, refl, sym, ap, _∙_}
+use Prim.Native.Nat.{ℕ, _+_, _*_}
+use mathlib.Core.Path.{_≡_, refl, _∙_}
 use mathlib.Core.Bool.{Bool, true, false}
 use mathlib.Core.Option.{Option, none, some}
 use mathlib.Core.List.{List, []}
 use native.Mathlib.Omega.{arith}
 use lib.ListN.{length, length-map}
 use lib.Seq.{sets}
-use Rattle.meaning.specs.Words.{word, words, bytes2, flat, ascends, keys}
+use Rattle.meaning.specs.Words.{words, bytes2, flat, ascends, keys}
 use Rattle.meaning.specs.Maps.{mapEntries}
 use Rattle.meaning.specs.Cut.{classMap?}
 use Rattle.meaning.specs.Layout.{blocks}
@@ -24,7 +24,7 @@ use Rattle.room.specs.Laid.{laidFor, outcomeOf, isKept, refused-room, kept-room
 use Rattle.room.specs.declared.Laid.{Laid}
 use Rattle.by_class.specs.Tables.{tableAt, Remakes}
 use Rattle.by_class.specs.Context.{countSlot, kindOf}
-use Rattle.by_class.specs.Tail.{tailOf, Remaking, Ready, Sized, Apart}
+use Rattle.by_class.specs.Tail.{tailOf, Remaking, Sized, Apart}
 use Rattle.by_class.specs.InOrder.{written-in-order}
 use Rattle.by_class.specs.Whole.{setBlocks, contextWords, Lays, Writes}
 

@@ -1,6 +1,6 @@
 -- Format 2 as it is written: its format, the tail with its offsets, the count, and the sets with their offsets.
 use Prim.Native.Nat.{ℕ, _+_, _*_}
-use mathlib.Core.Path.{_≡_, refl, sym, ap, _∙_}
+use mathlib.Core.Path.{_≡_, refl, ap, _∙_}
 use mathlib.Core.Option.{Option}
 use mathlib.Core.List.{List, [], _∷_, _++_}
 use native.Mathlib.Omega.{arith}
@@ -10,7 +10,7 @@ use Rattle.meaning.specs.Words.{bytes2, flat}
 use Rattle.meaning.specs.Layout.{offsets, blocks, setsLayout}
 use Rattle.laws.specs.Through.{offsets-length}
 use Rattle.laws.specs.Laid.{laid, laid-row}
-use Rattle.laws.specs.Grown.{Grown, grown-none, grown-word, grown-words, grown-laid, grown-end}
+use Rattle.laws.specs.Grown.{grown-none, grown-word, grown-words, grown-laid, grown-end}
 use Rattle.laws.specs.SetsTable.{firstSet, tailStart}
 
 -- the words in one row

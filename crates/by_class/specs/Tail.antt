@@ -1,10 +1,9 @@
 -- The coverage and the class tables of format 2: what stands after the sets.
 use Prim.Native.Nat.{ℕ, _+_, _*_, _/_, _≤_, _<_}
-use mathlib.Core.Path.{_≡_, refl, sym, ap, _∙_, subst}
+use mathlib.Core.Path.{_≡_, sym, _∙_}
 use mathlib.Core.Bool.{Bool, true, false}
 use mathlib.Core.Option.{Option, none, some}
-use mathlib.Core.List.{List, [], _∷_, _++_}
-use native.Mathlib.Nat.{zero-add}
+use mathlib.Core.List.{List, [], _∷_}
 use native.Mathlib.Omega.{arith}
 use lib.ListN.{length, take, length-append}
 use lib.Seq.{sets}
@@ -15,7 +14,6 @@ use Rattle.meaning.specs.Layout.{blocks}
 use Rattle.laws.specs.Stands.{flat-length, twos-length, stands-all, entries-back}
 use Rattle.laws.specs.Pieces.{Gathered}
 use Rattle.laws.specs.Laid.{laid, laid-end, laid-null, laid-block}
-use Rattle.retained.specs.Retained.{retainedEntries, retainedWords}
 use Rattle.retained.specs.Cover.{coverLeft, gathered-front}
 use Rattle.sets.specs.Sets.{LaidDown}
 use Rattle.by_class.specs.Tables.{newTable, Remakes}

@@ -1,5 +1,6 @@
-// Format 2 of contexts, plain and chained: sets of rules by class.
-// `back`, `input` and `ahead` are the class maps of the three class tables, and `covered` has the classes that retained covered glyphs hold.
+// Format 2 of contexts, plain and chained: sets of rules by class. From bytes to bytes.
+// `back`, `input` and `ahead` are the class maps of the three class tables, `covered` has the classes that retained covered glyphs hold, and `slots` has the places of the sets in the source.
+// All of these are lent scratch, and so is `work`.
 use classes::list_new;
 use classes::rank;
 use classes::size;
@@ -18,28 +19,28 @@ use sets::write_sets;
 use wire::put;
 use wire::word_at;
 ghost use mathlib.Core.Path.{_≡_};
+ghost use mathlib.Core.Bool.{true};
 ghost use mathlib.Core.List.{[], _∷_};
-ghost use Prim.Native.Nat.{_+_, _*_, _/_, _≤_, _<_};
+ghost use Prim.Native.Nat.{_+_, _*_, _≤_, _<_};
 ghost use lib.ListN.{length};
 ghost use lib.Seq.{sets};
 ghost use Rattle.meaning.specs.Words.{words, flat, keys};
 ghost use Rattle.meaning.specs.Maps.{mapEntries};
-ghost use Rattle.laws.specs.SlotPlaces.{slotPlace};
-ghost use Rattle.sets.specs.Sets.{setStays, LaidDown};
-ghost use Rattle.gsubgpos.specs.Left.{Ascends, NumbersAscend};
-ghost use Rattle.classes.specs.Filled.{Filled};
-ghost use Rattle.by_class.specs.Tables.{mapAt, newTable, SoundAt, Remakes, TableSize};
-ghost use Rattle.by_class.specs.Tail.{classTables, tailOf, Remaking, Ready, Sized, Apart};
-ghost use mathlib.Core.Bool.{true};
 ghost use Rattle.meaning.specs.Parts.{coverage, coverageSound, classes, classesSound};
-ghost use Rattle.meaning.specs.Cut.{classMap, cut};
-ghost use Rattle.retained.specs.Retained.{retainedEntries, retainedWords};
 ghost use Rattle.meaning.specs.Tables.{classContext};
+ghost use Rattle.meaning.specs.Cut.{classMap, cut};
 ghost use Rattle.meaning.specs.Subset.{laidInto, written};
+ghost use Rattle.laws.specs.SlotPlaces.{slotPlace};
+ghost use Rattle.classes.specs.Filled.{Filled};
+ghost use Rattle.retained.specs.Retained.{retainedEntries, retainedWords};
+ghost use Rattle.gsubgpos.specs.Left.{Ascends, NumbersAscend};
+ghost use Rattle.sets.specs.Sets.{setStays, LaidDown};
 ghost use Rattle.room.specs.Laid.{outcomeOf};
-ghost use Rattle.by_class.specs.Context.{backAt, inputAt, aheadAt, countSlot, kindOf, Asks};
-ghost use Rattle.by_class.specs.Whole.{contextWords, Lays, Writes, Mapped, Begun};
 ghost use Rattle.by_class.specs.Places.{placesOf, Placed};
+ghost use Rattle.by_class.specs.Tables.{mapAt, newTable, SoundAt, Remakes, TableSize};
+ghost use Rattle.by_class.specs.Context.{backAt, inputAt, aheadAt, countSlot, kindOf, Asks};
+ghost use Rattle.by_class.specs.Tail.{classTables, tailOf, Remaking, Ready, Sized, Apart};
+ghost use Rattle.by_class.specs.Whole.{contextWords, Lays, Writes, Mapped, Begun};
 
 // The place of the set of a class, by the `n` offsets from `slot` on, if a retained covered glyph holds the class and something of the set is left; else 0.
 fn slot_place(
@@ -73,7 +74,7 @@ fn slot_place(
 }
 
 // The places of the sets of all surviving classes, in the order of `input`, as words at the front of `slots`. The answer is one past the last that is not 0.
-pub fn fill_slots(
+fn fill_slots(
     kind: Kind,
     src: &[u8],
     slot: usize,

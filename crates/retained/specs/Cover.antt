@@ -1,11 +1,11 @@
 -- A coverage that is cut to its retained glyphs.
 use Prim.Native.Nat.{ℕ, _+_, _*_, _/_, _≤_, _<_}
-use mathlib.Core.Path.{_≡_, refl, sym, ap, _∙_}
+use mathlib.Core.Path.{_≡_, refl, ap, _∙_}
 use mathlib.Core.Bool.{Bool, true, false, cond}
-use mathlib.Core.List.{List, [], _∷_, _++_, map}
+use mathlib.Core.List.{List, [], _∷_, map}
 use native.Mathlib.Omega.{arith}
 use lib.ListN.{length, take, drop}
-use lib.Seq.{sets, take-at, length-sets}
+use lib.Seq.{take-at, length-sets}
 use lib.Dec.{leb}
 use borrow.Author.Tests.{leb-false}
 use Rattle.meaning.specs.Words.{words, flat, threes, ascends, keys}

@@ -6,10 +6,10 @@ use mathlib.Core.Logic.{⊎-elim}
 use native.Mathlib.Omega.{arith}
 use types.Run.{OneOf}
 use denote.Enum.Declared.{tagOf}
-use Rattle.room.proofs.Laid.{the-type}
 use Rattle.room.specs.Laid.{isKept}
 use Rattle.room.specs.declared.Laid.{Laid}
 use Rattle.room.specs.declared.Laid.the-variants.{Nothing, TooBig, NoRoom, Kept}
+use Rattle.room.proofs.Laid.{the-type}
 
 -- the first three answers are refusals
 pub not-kept : (t : Laid) → OneOf (0 ∷ 1 ∷ 2 ∷ []) (tagOf the-type t) → isKept t ≡ false

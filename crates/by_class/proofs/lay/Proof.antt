@@ -1,6 +1,5 @@
 -- `by_class::lay` meets its contract: the size is exact, so whether there is room is known before anything is written. Assumes nothing.
 use mathlib.Core.Path.{ap}
-use native.Mathlib.Omega.{arith}
 use borrow.Author.Needs.{needs}
 use Rattle.room.specs.Laid.{isKept}
 use Rattle.room.proofs.Refused.{not-kept}

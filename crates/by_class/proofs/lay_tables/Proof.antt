@@ -1,6 +1,5 @@
 -- `by_class::lay_tables` meets its contract: each table begins where the one before it ends. Assumes nothing.
 use mathlib.Core.Path.{refl, _∙_}
-use native.Mathlib.Omega.{arith}
 use borrow.Author.Needs.{needs}
 use Rattle.by_class.proofs.Tails.{plain-remakes, back-remakes, input-remakes, ahead-remakes, first-place, input-place, ahead-place, plain-laid, chained-laid}
 use Rattle.by_class.proofs.lay_tables.Statement.{statement}

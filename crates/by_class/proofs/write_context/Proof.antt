@@ -1,5 +1,4 @@
 -- `by_class::write_context` meets its contract: the four writes, in the order of the header, give the layout. Assumes nothing.
-use native.Mathlib.Omega.{arith}
 use borrow.Author.Needs.{needs}
 use Rattle.by_class.proofs.Laid.{all-ascend, writes-tail, writes-fit, context-written}
 use Rattle.by_class.proofs.write_context.Statement.{statement}
