@@ -31,6 +31,7 @@ ghost use Rattle.subset.specs.Asked.{Cuts, CutsByClass};
 ghost use Rattle.subset.specs.Indexed.{indexedFault, indexedTable, Spacious};
 
 // The answers of document 01. With `Kept` comes the number of bytes written, with `NoRoom` the length needed; the length of any other is 0.
+// `BadJob` is given by the label job alone.
 pub enum Answer {
     Kept(usize),
     BadKind,
@@ -54,9 +55,10 @@ enum Indexed {
     Pairs,
 }
 
-// Scratch comes in two sizes, so that no large array is cleared for a small table. The large sizes are those of the longest glyph map and the longest source.
+// Scratch comes in two sizes, so that no large array is cleared for a small table. This is the small one, in bytes.
 const SMALL: usize = 2048;
 
+// The bytes of the longest glyph map, 65,536 entries. Scratch that is as long as the map has this for its large size, and scratch that is as long as the source has `LIMIT`.
 const LONGEST_MAP: usize = 262144;
 
 // Whether the kind is 1 context, 2 chained, 3 ligature or 4 pair.
