@@ -1,0 +1,36 @@
+// The program: reads a label job from standard input, and prints what is kept of its table, or the number of the refusal.
+use job::run;
+use report::report;
+use subset::length_of;
+use subset::number_of;
+ghost use Prim.Native.Nat.{_≤_};
+ghost use lib.ListN.{length};
+ghost use Rattle.report.specs.Lengths.{textRoom};
+ghost use Rattle.label_job.specs.Answered.{Answered};
+
+// One byte more than the longest job file has, so that a longer one is seen.
+const FILE: usize = 65537;
+
+// The bytes that are lent for the result.
+const RESULT: usize = 65536;
+
+// Room for the longest text.
+const TEXT: usize = 135200;
+
+// What the program prints for a file, at the front of `text`; how long it is.
+fn answer(file: &[u8], text: &mut [u8]) -> usize
+    requires { ⌜ textRoom ≤ length (now text) ⌝ }
+    ensures { λ r. ⌜ Answered (now (file .entry)) (now (text .entry)) (now (text .exit)) r ⌝ }
+{
+    let mut result = [0u8; RESULT];
+    let a = run(file, &mut result);
+    report(number_of(a), length_of(a), &result, text)
+}
+
+fn main() {
+    let mut file = [0u8; FILE];
+    let n = io::read_full(0, &mut file);
+    let mut text = [0u8; TEXT];
+    let k = answer(&file[..n], &mut text);
+    io::write_all(1, &text[..k]);
+}

@@ -1,0 +1,4 @@
+pub mod Writing
+pub mod Spelling
+pub mod Lines
+pub mod Whole

@@ -1,0 +1,428 @@
+// The call: a kind, a source, a glyph map, a lookup map and a lent buffer, and the lowest of document 01's answers that applies.
+use by_class::by_class;
+use by_cover::by_cover;
+use by_index::ligatures;
+use by_index::pairs;
+use by_index::rules;
+use checks::check;
+use maps::good_glyphs;
+use maps::good_lookups;
+use room::LIMIT;
+use room::Laid;
+use wire::Fault;
+use wire::inside;
+use wire::word_at;
+ghost use mathlib.Core.Path.{_≡_};
+ghost use mathlib.Core.Bool.{_&&_, _||_, not};
+ghost use Prim.Native.Nat.{_≤_};
+ghost use lib.ListN.{length};
+ghost use lib.Dec.{eqb};
+ghost use Rattle.meaning.specs.Words.{word, inside};
+ghost use Rattle.meaning.specs.Maps.{mapEntries};
+ghost use Rattle.meaning.specs.Tables.{table, context, classContext, coverContext};
+ghost use Rattle.meaning.specs.Fault.{fault, contextFault, coversFault};
+ghost use Rattle.meaning.specs.Cut.{cut};
+ghost use Rattle.meaning.specs.Subset.{goodKind, hasFormat, hasDevice, written, subset};
+ghost use Rattle.room.specs.Laid.{outcomeOf};
+ghost use Rattle.checks.specs.Parts.{byGlyphFault};
+ghost use Rattle.by_index.specs.Whole.{glyphContext};
+ghost use Rattle.subset.specs.Answers.{numberOf, lengthOf, outcome, decoded, answerOf};
+ghost use Rattle.subset.specs.Asked.{Cuts, CutsByClass};
+ghost use Rattle.subset.specs.Indexed.{indexedFault, indexedTable, Spacious};
+
+// The answers of document 01. With `Kept` comes the number of bytes written, with `NoRoom` the length needed; the length of any other is 0.
+// `BadJob` is given by the label job alone.
+pub enum Answer {
+    Kept(usize),
+    BadKind,
+    BadGlyphs,
+    BadLookups,
+    LongSource,
+    BadFormat,
+    Malformed,
+    Device,
+    Nothing,
+    TooBig,
+    NoRoom(usize),
+    BadJob,
+}
+
+// The tables of format 1: their sets stand by coverage index.
+enum Indexed {
+    Rules,
+    ChainedRules,
+    Ligatures,
+    Pairs,
+}
+
+// Scratch comes in two sizes, so that no large array is cleared for a small table. This is the small one, in bytes.
+const SMALL: usize = 2048;
+
+// The bytes of the longest glyph map, 65,536 entries. Scratch that is as long as the map has this for its large size, and scratch that is as long as the source has `LIMIT`.
+const LONGEST_MAP: usize = 262144;
+
+// Whether the kind is 1 context, 2 chained, 3 ligature or 4 pair.
+fn good_kind(kind: usize) -> bool
+    ensures { λ r. ⌜ r ≡ goodKind kind ⌝ }
+{
+    if kind < 1 {
+        return false;
+    }
+    kind <= 4
+}
+
+// Whether the kind has this format: contexts have 1, 2 and 3, ligatures and pairs have 1.
+fn has_format(kind: usize, format: usize) -> bool
+    ensures { λ r. ⌜ r ≡ hasFormat kind format ⌝ }
+{
+    if 2 < kind {
+        return format == 1;
+    }
+    if format < 1 {
+        return false;
+    }
+    format <= 3
+}
+
+// Whether the first two bytes stand and hold a format the kind hasn't.
+fn other_format(kind: usize, source: &[u8]) -> bool
+    ensures { λ r. ⌜ r ≡ inside (now (source .entry)) 0 2 && not (hasFormat kind (word (now (source .entry)) 0)) ⌝ }
+{
+    if !inside(source, 0, 2) {
+        return false;
+    }
+    !has_format(kind, word_at(source, 0))
+}
+
+// Whether a value format has a bit of 0x00F0.
+fn has_device(format: usize) -> bool
+    ensures { λ r. ⌜ r ≡ hasDevice format ⌝ }
+{
+    format / 16 % 16 != 0
+}
+
+// Whether the kind is pair, and one of the two value formats has such a bit.
+fn pair_device(kind: usize, source: &[u8]) -> bool
+    ensures { λ r. ⌜ r ≡ eqb kind 4 && (hasDevice (word (now (source .entry)) 4) || hasDevice (word (now (source .entry)) 6)) ⌝ }
+{
+    if kind != 4 {
+        return false;
+    }
+    if has_device(word_at(source, 4)) {
+        return true;
+    }
+    has_device(word_at(source, 6))
+}
+
+// Format 3 of contexts, with scratch for a small glyph map.
+fn by_cover_small(
+    chained: bool,
+    source: &[u8],
+    glyphs: &[u8],
+    lookups: &[u8],
+    out: &mut [u8],
+) -> Laid
+    requires { ⌜ Cuts (coversFault chained (now source)) (now source) (now glyphs) (now lookups) × (length (now glyphs) ≤ 2048) ⌝ }
+    ensures { λ r. ⌜ outcomeOf r (now (out .exit)) ≡ written (now (out .entry)) (cut (mapEntries (now (glyphs .entry))) (mapEntries (now (lookups .entry))) (coverContext chained (now (source .entry)))) ⌝ }
+{
+    let mut work = [0u8; SMALL];
+    by_cover(chained, source, glyphs, lookups, &mut work, out)
+}
+
+// Format 3 of contexts, with scratch for the longest glyph map.
+fn by_cover_large(
+    chained: bool,
+    source: &[u8],
+    glyphs: &[u8],
+    lookups: &[u8],
+    out: &mut [u8],
+) -> Laid
+    requires { ⌜ Cuts (coversFault chained (now source)) (now source) (now glyphs) (now lookups) ⌝ }
+    ensures { λ r. ⌜ outcomeOf r (now (out .exit)) ≡ written (now (out .entry)) (cut (mapEntries (now (glyphs .entry))) (mapEntries (now (lookups .entry))) (coverContext chained (now (source .entry)))) ⌝ }
+{
+    let mut work = [0u8; LONGEST_MAP];
+    by_cover(chained, source, glyphs, lookups, &mut work, out)
+}
+
+// Format 3 of contexts.
+fn cut_by_cover(chained: bool, source: &[u8], glyphs: &[u8], lookups: &[u8], out: &mut [u8]) -> Laid
+    requires { ⌜ Cuts (coversFault chained (now source)) (now source) (now glyphs) (now lookups) ⌝ }
+    ensures { λ r. ⌜ outcomeOf r (now (out .exit)) ≡ written (now (out .entry)) (cut (mapEntries (now (glyphs .entry))) (mapEntries (now (lookups .entry))) (coverContext chained (now (source .entry)))) ⌝ }
+{
+    if glyphs.len() <= SMALL {
+        return by_cover_small(chained, source, glyphs, lookups, out);
+    }
+    by_cover_large(chained, source, glyphs, lookups, out)
+}
+
+// Format 2 of contexts, with scratch for a small glyph map.
+fn by_class_small(
+    chained: bool,
+    source: &[u8],
+    glyphs: &[u8],
+    lookups: &[u8],
+    out: &mut [u8],
+) -> Laid
+    requires { ⌜ CutsByClass chained (now source) (now glyphs) (now lookups) × (length (now glyphs) ≤ 2048) ⌝ }
+    ensures { λ r. ⌜ outcomeOf r (now (out .exit)) ≡ written (now (out .entry)) (cut (mapEntries (now (glyphs .entry))) (mapEntries (now (lookups .entry))) (classContext chained (now (source .entry)))) ⌝ }
+{
+    let mut back = [0u8; SMALL];
+    let mut input = [0u8; SMALL];
+    let mut ahead = [0u8; SMALL];
+    let mut covered = [0u8; SMALL];
+    let mut slots = [0u8; SMALL / 2];
+    let mut work = [0u8; SMALL];
+    by_class(
+        chained,
+        source,
+        glyphs,
+        lookups,
+        &mut back,
+        &mut input,
+        &mut ahead,
+        &mut covered,
+        &mut slots,
+        &mut work,
+        out,
+    )
+}
+
+// Format 2 of contexts, with scratch for the longest glyph map.
+fn by_class_large(
+    chained: bool,
+    source: &[u8],
+    glyphs: &[u8],
+    lookups: &[u8],
+    out: &mut [u8],
+) -> Laid
+    requires { ⌜ CutsByClass chained (now source) (now glyphs) (now lookups) ⌝ }
+    ensures { λ r. ⌜ outcomeOf r (now (out .exit)) ≡ written (now (out .entry)) (cut (mapEntries (now (glyphs .entry))) (mapEntries (now (lookups .entry))) (classContext chained (now (source .entry)))) ⌝ }
+{
+    let mut back = [0u8; LONGEST_MAP];
+    let mut input = [0u8; LONGEST_MAP];
+    let mut ahead = [0u8; LONGEST_MAP];
+    let mut covered = [0u8; LONGEST_MAP];
+    let mut slots = [0u8; LONGEST_MAP / 2];
+    let mut work = [0u8; LONGEST_MAP];
+    by_class(
+        chained,
+        source,
+        glyphs,
+        lookups,
+        &mut back,
+        &mut input,
+        &mut ahead,
+        &mut covered,
+        &mut slots,
+        &mut work,
+        out,
+    )
+}
+
+// Format 2 of contexts.
+fn cut_by_class(chained: bool, source: &[u8], glyphs: &[u8], lookups: &[u8], out: &mut [u8]) -> Laid
+    requires { ⌜ CutsByClass chained (now source) (now glyphs) (now lookups) ⌝ }
+    ensures { λ r. ⌜ outcomeOf r (now (out .exit)) ≡ written (now (out .entry)) (cut (mapEntries (now (glyphs .entry))) (mapEntries (now (lookups .entry))) (classContext chained (now (source .entry)))) ⌝ }
+{
+    if glyphs.len() <= SMALL {
+        return by_class_small(chained, source, glyphs, lookups, out);
+    }
+    by_class_large(chained, source, glyphs, lookups, out)
+}
+
+// Format 1 of each kind, with lent scratch as long as the source.
+fn by_index(
+    kind: Indexed,
+    source: &[u8],
+    glyphs: &[u8],
+    lookups: &[u8],
+    to: &mut [u8],
+    places: &mut [u8],
+    out: &mut [u8],
+) -> Laid
+    requires { ⌜ Cuts (indexedFault kind (now source)) (now source) (now glyphs) (now lookups) × Spacious (now source) (now to) (now places) ⌝ }
+    ensures { λ r. ⌜ outcomeOf r (now (out .exit)) ≡ written (now (out .entry)) (cut (mapEntries (now (glyphs .entry))) (mapEntries (now (lookups .entry))) (indexedTable kind (now (source .entry)))) ⌝ }
+{
+    match kind {
+        Indexed::Rules => rules(false, source, glyphs, lookups, to, places, out),
+        Indexed::ChainedRules => rules(true, source, glyphs, lookups, to, places, out),
+        Indexed::Ligatures => ligatures(source, glyphs, lookups, to, places, out),
+        Indexed::Pairs => pairs(source, glyphs, lookups, to, places, out),
+    }
+}
+
+// Format 1 of each kind, with scratch for a small source.
+fn by_index_small(
+    kind: Indexed,
+    source: &[u8],
+    glyphs: &[u8],
+    lookups: &[u8],
+    out: &mut [u8],
+) -> Laid
+    requires { ⌜ Cuts (indexedFault kind (now source)) (now source) (now glyphs) (now lookups) × (length (now source) ≤ 2048) ⌝ }
+    ensures { λ r. ⌜ outcomeOf r (now (out .exit)) ≡ written (now (out .entry)) (cut (mapEntries (now (glyphs .entry))) (mapEntries (now (lookups .entry))) (indexedTable kind (now (source .entry)))) ⌝ }
+{
+    let mut to = [0u8; SMALL];
+    let mut places = [0u8; SMALL];
+    by_index(kind, source, glyphs, lookups, &mut to, &mut places, out)
+}
+
+// Format 1 of each kind, with scratch for the longest source.
+fn by_index_large(
+    kind: Indexed,
+    source: &[u8],
+    glyphs: &[u8],
+    lookups: &[u8],
+    out: &mut [u8],
+) -> Laid
+    requires { ⌜ Cuts (indexedFault kind (now source)) (now source) (now glyphs) (now lookups) ⌝ }
+    ensures { λ r. ⌜ outcomeOf r (now (out .exit)) ≡ written (now (out .entry)) (cut (mapEntries (now (glyphs .entry))) (mapEntries (now (lookups .entry))) (indexedTable kind (now (source .entry)))) ⌝ }
+{
+    let mut to = [0u8; LIMIT];
+    let mut places = [0u8; LIMIT];
+    by_index(kind, source, glyphs, lookups, &mut to, &mut places, out)
+}
+
+// Format 1 of each kind.
+fn cut_by_index(kind: Indexed, source: &[u8], glyphs: &[u8], lookups: &[u8], out: &mut [u8]) -> Laid
+    requires { ⌜ Cuts (indexedFault kind (now source)) (now source) (now glyphs) (now lookups) ⌝ }
+    ensures { λ r. ⌜ outcomeOf r (now (out .exit)) ≡ written (now (out .entry)) (cut (mapEntries (now (glyphs .entry))) (mapEntries (now (lookups .entry))) (indexedTable kind (now (source .entry)))) ⌝ }
+{
+    if source.len() <= SMALL {
+        return by_index_small(kind, source, glyphs, lookups, out);
+    }
+    by_index_large(kind, source, glyphs, lookups, out)
+}
+
+// Format 1 of contexts.
+fn cut_by_glyph(chained: bool, source: &[u8], glyphs: &[u8], lookups: &[u8], out: &mut [u8]) -> Laid
+    requires { ⌜ Cuts (byGlyphFault chained (now source)) (now source) (now glyphs) (now lookups) ⌝ }
+    ensures { λ r. ⌜ outcomeOf r (now (out .exit)) ≡ written (now (out .entry)) (cut (mapEntries (now (glyphs .entry))) (mapEntries (now (lookups .entry))) (glyphContext chained (now (source .entry)))) ⌝ }
+{
+    if chained {
+        return cut_by_index(Indexed::ChainedRules, source, glyphs, lookups, out);
+    }
+    cut_by_index(Indexed::Rules, source, glyphs, lookups, out)
+}
+
+// A context, plain or chained, by its format.
+fn cut_context(chained: bool, source: &[u8], glyphs: &[u8], lookups: &[u8], out: &mut [u8]) -> Laid
+    requires { ⌜ Cuts (contextFault chained (now source)) (now source) (now glyphs) (now lookups) ⌝ }
+    ensures { λ r. ⌜ outcomeOf r (now (out .exit)) ≡ written (now (out .entry)) (cut (mapEntries (now (glyphs .entry))) (mapEntries (now (lookups .entry))) (context chained (now (source .entry)))) ⌝ }
+{
+    let format = word_at(source, 0);
+    match format {
+        1 => cut_by_glyph(chained, source, glyphs, lookups, out),
+        2 => cut_by_class(chained, source, glyphs, lookups, out),
+        _ => cut_by_cover(chained, source, glyphs, lookups, out),
+    }
+}
+
+// What is left of a sound source, laid into the buffer if its plain layout has room: 1 context, 2 chained, 3 ligature, and pair for any other.
+fn cut_into(kind: usize, source: &[u8], glyphs: &[u8], lookups: &[u8], out: &mut [u8]) -> Laid
+    requires { ⌜ Cuts (fault kind (now source)) (now source) (now glyphs) (now lookups) ⌝ }
+    ensures { λ r. ⌜ outcomeOf r (now (out .exit)) ≡ written (now (out .entry)) (cut (mapEntries (now (glyphs .entry))) (mapEntries (now (lookups .entry))) (table kind (now (source .entry)))) ⌝ }
+{
+    match kind {
+        1 => cut_context(false, source, glyphs, lookups, out),
+        2 => cut_context(true, source, glyphs, lookups, out),
+        3 => cut_by_index(Indexed::Ligatures, source, glyphs, lookups, out),
+        _ => cut_by_index(Indexed::Pairs, source, glyphs, lookups, out),
+    }
+}
+
+// The answer for what was laid.
+fn answer_for(laid: Laid) -> Answer
+    ensures { λ r. ⌜ r ≡ answerOf laid ⌝ }
+{
+    match laid {
+        Laid::Nothing => Answer::Nothing,
+        Laid::TooBig => Answer::TooBig,
+        Laid::NoRoom(n) => Answer::NoRoom(n),
+        Laid::Kept(n) => Answer::Kept(n),
+    }
+}
+
+// The call: what is left of a source of this kind under a glyph map and a lookup map, laid into the buffer, or the lowest of document 01's refusals that applies.
+// A refusal leaves the buffer untouched, and bytes past those that are kept keep their old content.
+pub fn subset(kind: usize, source: &[u8], glyphs: &[u8], lookups: &[u8], out: &mut [u8]) -> Answer
+    ensures { λ r. ⌜ outcome r (now (out .exit)) ≡ subset kind (now (source .entry)) (now (glyphs .entry)) (now (lookups .entry)) (now (out .entry)) ⌝ }
+{
+    if !good_kind(kind) {
+        return Answer::BadKind;
+    }
+    if !good_glyphs(glyphs) {
+        return Answer::BadGlyphs;
+    }
+    if !good_lookups(lookups) {
+        return Answer::BadLookups;
+    }
+    if LIMIT < source.len() {
+        return Answer::LongSource;
+    }
+    if other_format(kind, source) {
+        return Answer::BadFormat;
+    }
+    let Fault::Sound = check(kind, source) else {
+        return Answer::Malformed;
+    };
+    if pair_device(kind, source) {
+        return Answer::Device;
+    }
+    answer_for(cut_into(kind, source, glyphs, lookups, out))
+}
+
+// Document 01's number for an answer.
+pub fn number_of(a: Answer) -> usize
+    ensures { λ r. ⌜ r ≡ numberOf a ⌝ }
+{
+    match a {
+        Answer::Kept(_) => 0,
+        Answer::BadKind => 1,
+        Answer::BadGlyphs => 2,
+        Answer::BadLookups => 3,
+        Answer::LongSource => 4,
+        Answer::BadFormat => 5,
+        Answer::Malformed => 6,
+        Answer::Device => 7,
+        Answer::Nothing => 8,
+        Answer::TooBig => 9,
+        Answer::NoRoom(_) => 10,
+        Answer::BadJob => 11,
+    }
+}
+
+// The length that comes with an answer.
+pub fn length_of(a: Answer) -> usize
+    ensures { λ r. ⌜ r ≡ lengthOf a ⌝ }
+{
+    match a {
+        Answer::Kept(n) => n,
+        Answer::BadKind => 0,
+        Answer::BadGlyphs => 0,
+        Answer::BadLookups => 0,
+        Answer::LongSource => 0,
+        Answer::BadFormat => 0,
+        Answer::Malformed => 0,
+        Answer::Device => 0,
+        Answer::Nothing => 0,
+        Answer::TooBig => 0,
+        Answer::NoRoom(n) => n,
+        Answer::BadJob => 0,
+    }
+}
+
+// The call for other languages, on numbers and byte slices. The answer is one number: document 01's number times 2^32, plus the length.
+#[no_mangle]
+pub extern "C" fn gillcurtain_subset(
+    kind: u64,
+    source: &[u8],
+    glyphs: &[u8],
+    lookups: &[u8],
+    out: &mut [u8],
+) -> u64
+    ensures { λ r. ⌜ decoded r (now (out .exit)) ≡ subset kind (now (source .entry)) (now (glyphs .entry)) (now (lookups .entry)) (now (out .entry)) ⌝ }
+{
+    let a = subset(kind as usize, source, glyphs, lookups, out);
+    number_of(a) as u64 * 0x1_0000_0000 + length_of(a) as u64
+}
