@@ -3,6 +3,7 @@ use job::run;
 use report::report;
 use subset::length_of;
 use subset::number_of;
+ghost use mathlib.Core.Path.{_≡_};
 ghost use Prim.Native.Nat.{_≤_};
 ghost use lib.ListN.{length};
 ghost use Rattle.report.specs.Lengths.{textRoom};
@@ -17,6 +18,13 @@ const RESULT: usize = 65536;
 // Room for the longest text.
 const TEXT: usize = 135200;
 
+// A buffer for the text. Its contract says how long it is, and nothing of what is in it.
+fn blank() -> [u8; TEXT]
+    ensures { λ r. ⌜ length r ≡ textRoom ⌝ }
+{
+    [0u8; TEXT]
+}
+
 // What the program prints for a file, at the front of `text`; how long it is.
 fn answer(file: &[u8], text: &mut [u8]) -> usize
     requires { ⌜ textRoom ≤ length (now text) ⌝ }
@@ -30,7 +38,7 @@ fn answer(file: &[u8], text: &mut [u8]) -> usize
 fn main() {
     let mut file = [0u8; FILE];
     let n = io::read_full(0, &mut file);
-    let mut text = [0u8; TEXT];
+    let mut text = blank();
     let k = answer(&file[..n], &mut text);
     io::write_all(1, &text[..k]);
 }

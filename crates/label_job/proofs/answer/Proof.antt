@@ -1,0 +1,31 @@
+use borrow.Author.Needs.{needs}
+use Rattle.label_job.proofs.Answering.{printable, answered}
+use Rattle.label_job.proofs.answer.Statement.{statement}
+use Rattle.label_job.proofs.answer.Tie as tie
+
+report-requires : tie.Need-report-requires
+report-requires c κs =
+    let number = c .before .before .before in
+    let ran = number .before .before in
+    printable (ran .before .before .before .before .args .file .now) (ran .run .result) (number .number-of .ensures) (c .before .before .length-of .ensures) (ran .run .ensures) (search needs)
+
+returns : tie.Need-returns
+returns c =
+    let put = c .before .before in
+    let long = put .before .before .before in
+    let ran = long .before .before .before in
+    let start = ran .before .before .before .before in
+    answered (start .args .file .now) (ran .run .result) (long .before .number-of .ensures) (long .length-of .ensures) (ran .run .ensures) (search needs) (start .pre) (put .report .ensures)
+
+pub answer-spec : {M : Type 1} → statement M
+answer-spec =
+    tie.close
+    (tie.spec
+    (λ c. search needs)
+    (λ c κs. search needs)
+    (λ c κs. search needs)
+    (λ c κs. search needs)
+    (λ c. search needs)
+    report-requires
+    (λ c. search needs)
+    returns)
