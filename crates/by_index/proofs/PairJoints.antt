@@ -49,10 +49,10 @@ module _ (g l s out : List ℕ) where
     pairs-none e = laid-none (kindAt g f1 f2 s (values kept)) g l s 10 (word s 8) out ec z here e ∙ laid-at (values kept) refl _ _
 
     -- some are: what is laid is their table
-    pub pairs-some : (k ≡ 0 → ⊥) → 2 * n ≤ length to₀ → 2 * n ≤ length at₀ → {r : Outcome}
+    pub pairs-some : (k ≡ 0 → ⊥) → 2 * k ≤ length to₀ → 2 * k ≤ length at₀ → {r : Outcome}
         → r ≡ laidInto out (flat (tableOf (kindAt g a b s (words at 0 k)) (glyphsOf (take (2 * k) to)) (setBlocks (kindAt g a b s (words at 0 k)) g l s (words at 0 k))))
         → r ≡ written out (cut (mapOf g) (mapOf l) (pairTable s))
     pairs-some nz rt rp {r} e =
         let places : words at 0 k ≡ values kept =
-        places-back (stays (pairKind f1 f2 0 0) g s) (mapOf g) (coverage s cover) s 10 (word s 8) here (rw en at rp) ∙ ap values (sym (kept-from (pairKind f1 f2 0 0) g l s 10 (word s 8) out ec z)) in
-        laid-some (kindAt g f1 f2 s (words at 0 k)) g l s 10 (word s 8) out ec z here nz (rw en at rt) (rw en at rp) (rw (ea, eb) at e) ∙ laid-at (words at 0 k) places _ _
+        places-back (stays (pairKind f1 f2 0 0) g s) (mapOf g) (coverage s cover) s 10 (word s 8) here rp ∙ ap values (sym (kept-from (pairKind f1 f2 0 0) g l s 10 (word s 8) out ec z)) in
+        laid-some (kindAt g f1 f2 s (words at 0 k)) g l s 10 (word s 8) out ec z here nz rt rp (rw (ea, eb) at e) ∙ laid-at (words at 0 k) places _ _

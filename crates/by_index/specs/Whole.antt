@@ -28,38 +28,32 @@ use Rattle.sets.specs.declared.Kind.the-variants.{Rules, ChainedRules, Ligature
 use Rattle.by_index.specs.Kept.{stays}
 use Rattle.by_index.specs.Tables.{setBlocks, tableOf, wordsAt, BothAscend}
 
--- What is asked of a source whose coverage's offset stands at 2 and that has n sets: the coverage is sound and has a set for each glyph, the maps can be asked, and scratch has room for a word a set.
+-- What is asked of a source whose coverage's offset stands at 2 and that has n sets: the coverage is sound and has a set for each glyph, the maps can be asked, and scratch has room for a word for each entry of the glyph map.
 pub record Asks (s g l : List ℕ) (n : ℕ) (to places : List ℕ) : Type 0 where
   pub sound : (word s 2 ≡ 0 → ⊥) → coverageSound s (word s 2) ≡ true
   pub enough : (word s 2 ≡ 0 → ⊥) → length (coverage s (word s 2)) ≤ n
   pub maps : BothAscend g l
-  pub glyph-room : 2 * n ≤ length to
-  pub place-room : 2 * n ≤ length places
+  pub glyph-room : 2 * length (mapOf g) ≤ length to
+  pub place-room : 2 * length (mapOf g) ≤ length places
   pub short : length to < 0x1_0000_0000
 
--- A header without a fault that judges whether there are enough sets is as asked, where scratch is as long as the source.
+-- A header without a fault that judges whether there are enough sets is as asked.
 module _ (good : Bool) (slot : ℕ) (faultAt : ℕ → Option ℕ) (s : List ℕ) (h : headerFault good 0 slot faultAt s ≡ none) where
-  header-inside : slot + 2 + 2 * word s slot ≤ length s
-  unfolding headerFault inside
-  header-inside =
-      let p = part-sound 0 (inside s 0 (slot + 2) && (inside s (slot + 2) (2 * word s slot) && good)) _ h .0 in
-      leb-true (slot + 2 + 2 * word s slot) (length s) (both (inside s (slot + 2) (2 * word s slot)) good (both (inside s 0 (slot + 2)) _ p .1) .0)
-
   cover-sound : (word s 2 ≡ 0 → ⊥) → coverageSound s (word s 2) ≡ true
   unfolding faultThrough coverageFault
   cover-sound z =
       let q = lowest-none (cond (eqb (word s 2) 0) none (coverageFault s (0 + word s 2))) _ (header-good s good 0 slot faultAt h .1) .0 in
       part-sound (word s 2) (coverageSound s (word s 2)) none (rw (ne-eqb (word s 2) 0 z, zero-add) at q) .0
 
-  pub header-asks : (good ≡ true → enough s (word s slot) ≡ true) → {g l to places : List ℕ} → BothAscend g l → length s ≤ length to → length s ≤ length places → length to < 0x1_0000_0000 → Asks s g l (word s slot) to places
+  pub header-asks : (good ≡ true → enough s (word s slot) ≡ true) → {g l to places : List ℕ} → BothAscend g l → 2 * length (mapOf g) ≤ length to → 2 * length (mapOf g) ≤ length places → length to < 0x1_0000_0000 → Asks s g l (word s slot) to places
   unfolding enough
   header-asks e m a b c =
       record {
         sound = cover-sound;
         enough = λ z. leb-true (length (coverage s (word s 2))) (word s slot) (rw (ne-eqb (word s 2) 0 z, cover-sound z) at (e (header-good s good 0 slot faultAt h .0)));
         maps = m;
-        glyph-room = omega (arith, header-inside);
-        place-room = omega (arith, header-inside);
+        glyph-room = a;
+        place-room = b;
         short = c;
       }
 

@@ -8,7 +8,7 @@ use Rattle.meaning.specs.Words.{word}
 use Rattle.maps.specs.Forms.{mapOf}
 use Rattle.meaning.specs.Parts.{coverage}
 use Rattle.by_index.specs.Kept.{stays}
-use Rattle.by_index.proofs.Joints.{kept-count, kept-length, part-length, laid-null, laid-none, laid-some}
+use Rattle.by_index.proofs.Joints.{kept-count, kept-length, part-length, scratch-fits, laid-null, laid-none, laid-some}
 use Rattle.by_index.proofs.lay_kept.Statement.{statement}
 use Rattle.by_index.proofs.lay_kept.Tie as tie
 
@@ -48,7 +48,7 @@ slice-reshare-prefix-lay c =
     let v = k .before .before .before in
     let w = v .before .before in
     let a = w .before .before .before .before .before .before .before in
-    omega (arith, kept-count (stays (a .args .kind) (a .args .glyphs .now) (a .args .src .now)) (mapOf (a .args .glyphs .now)) (coverage (a .args .src .now) (w .word-at .result)) (a .args .src .now) 6 (v .word-at2 .result) (k .keep-sets .ensures), v .word-at2 .ensures .0, a .pre .glyph-room, kept-length (stays (a .args .kind) (a .args .glyphs .now) (a .args .src .now)) (mapOf (a .args .glyphs .now)) (coverage (a .args .src .now) (w .word-at .result)) (a .args .src .now) 6 (v .word-at2 .result) (k .keep-sets .ensures))
+    omega (arith, kept-count (stays (a .args .kind) (a .args .glyphs .now) (a .args .src .now)) (mapOf (a .args .glyphs .now)) (coverage (a .args .src .now) (w .word-at .result)) (a .args .src .now) 6 (v .word-at2 .result) (k .keep-sets .ensures), (scratch-fits (a .pre) (w .word-at .ensures .0) (v .before .if1 .left) (k .keep-sets .ensures) .0), kept-length (stays (a .args .kind) (a .args .glyphs .now) (a .args .src .now)) (mapOf (a .args .glyphs .now)) (coverage (a .args .src .now) (w .word-at .result)) (a .args .src .now) 6 (v .word-at2 .result) (k .keep-sets .ensures))
 
 slice-aggregate-lay : tie.Need-slice-aggregate-lay
 slice-aggregate-lay c =
@@ -56,7 +56,7 @@ slice-aggregate-lay c =
     let v = k .before .before .before in
     let w = v .before .before in
     let a = w .before .before .before .before .before .before .before in
-    sym (part-length (stays (a .args .kind) (a .args .glyphs .now) (a .args .src .now)) (mapOf (a .args .glyphs .now)) (coverage (a .args .src .now) (w .word-at .result)) (a .args .src .now) 6 (v .word-at2 .result) (k .keep-sets .ensures) (rw (sym (v .word-at2 .ensures .0)) at (a .pre .glyph-room)))
+    sym (part-length (stays (a .args .kind) (a .args .glyphs .now) (a .args .src .now)) (mapOf (a .args .glyphs .now)) (coverage (a .args .src .now) (w .word-at .result)) (a .args .src .now) 6 (v .word-at2 .result) (k .keep-sets .ensures) (scratch-fits (a .pre) (w .word-at .ensures .0) (v .before .if1 .left) (k .keep-sets .ensures) .0))
 
 lay-requires : tie.Need-lay-requires
 lay-requires c κs =
@@ -64,7 +64,7 @@ lay-requires c κs =
     let v = k .before .before .before in
     let w = v .before .before in
     let a = w .before .before .before .before .before .before .before in
-    record { maps = a .pre .maps; count = omega (arith, kept-count (stays (a .args .kind) (a .args .glyphs .now) (a .args .src .now)) (mapOf (a .args .glyphs .now)) (coverage (a .args .src .now) (w .word-at .result)) (a .args .src .now) 6 (v .word-at2 .result) (k .keep-sets .ensures), v .word-at2 .ensures .1); short = omega (arith, part-length (stays (a .args .kind) (a .args .glyphs .now) (a .args .src .now)) (mapOf (a .args .glyphs .now)) (coverage (a .args .src .now) (w .word-at .result)) (a .args .src .now) 6 (v .word-at2 .result) (k .keep-sets .ensures) (rw (sym (v .word-at2 .ensures .0)) at (a .pre .glyph-room)), kept-count (stays (a .args .kind) (a .args .glyphs .now) (a .args .src .now)) (mapOf (a .args .glyphs .now)) (coverage (a .args .src .now) (w .word-at .result)) (a .args .src .now) 6 (v .word-at2 .result) (k .keep-sets .ensures), v .word-at2 .ensures .1) }
+    record { maps = a .pre .maps; count = omega (arith, kept-count (stays (a .args .kind) (a .args .glyphs .now) (a .args .src .now)) (mapOf (a .args .glyphs .now)) (coverage (a .args .src .now) (w .word-at .result)) (a .args .src .now) 6 (v .word-at2 .result) (k .keep-sets .ensures), v .word-at2 .ensures .1); short = omega (arith, part-length (stays (a .args .kind) (a .args .glyphs .now) (a .args .src .now)) (mapOf (a .args .glyphs .now)) (coverage (a .args .src .now) (w .word-at .result)) (a .args .src .now) 6 (v .word-at2 .result) (k .keep-sets .ensures) (scratch-fits (a .pre) (w .word-at .ensures .0) (v .before .if1 .left) (k .keep-sets .ensures) .0), kept-count (stays (a .args .kind) (a .args .glyphs .now) (a .args .src .now)) (mapOf (a .args .glyphs .now)) (coverage (a .args .src .now) (w .word-at .result)) (a .args .src .now) 6 (v .word-at2 .result) (k .keep-sets .ensures), v .word-at2 .ensures .1) }
 
 returns-3 : tie.Need-returns-3
 returns-3 c =
@@ -72,7 +72,7 @@ returns-3 c =
     let v = k .before .before .before in
     let w = v .before .before in
     let a = w .before .before .before .before .before .before .before in
-    rw (v .word-at2 .ensures .0) at (laid-some (a .args .kind) (a .args .glyphs .now) (a .args .lookups .now) (a .args .src .now) 6 (v .word-at2 .result) (a .args .out .now) (w .word-at .ensures .0) (v .before .if1 .left) (k .keep-sets .ensures) (c .before .before .before .before .before .before .if2 .left) (rw (sym (v .word-at2 .ensures .0)) at (a .pre .glyph-room)) (rw (sym (v .word-at2 .ensures .0)) at (a .pre .place-room)) (c .before .before .lay .ensures))
+    rw (v .word-at2 .ensures .0) at (laid-some (a .args .kind) (a .args .glyphs .now) (a .args .lookups .now) (a .args .src .now) 6 (v .word-at2 .result) (a .args .out .now) (w .word-at .ensures .0) (v .before .if1 .left) (k .keep-sets .ensures) (c .before .before .before .before .before .before .if2 .left) (scratch-fits (a .pre) (w .word-at .ensures .0) (v .before .if1 .left) (k .keep-sets .ensures) .0) (scratch-fits (a .pre) (w .word-at .ensures .0) (v .before .if1 .left) (k .keep-sets .ensures) .1) (c .before .before .lay .ensures))
 
 pub lay-kept-spec : {M : Type 1} → statement M
 lay-kept-spec =

@@ -8,7 +8,7 @@ use Rattle.maps.specs.Forms.{mapOf}
 use Rattle.meaning.specs.Parts.{coverage}
 use Rattle.by_index.specs.Kept.{stays}
 use Rattle.by_index.specs.PairTable.{pairKind}
-use Rattle.by_index.proofs.Joints.{kept-count, kept-length, part-length}
+use Rattle.by_index.proofs.Joints.{kept-count, kept-length, part-length, scratch-fits}
 use Rattle.by_index.proofs.PairJoints.{pairs-null, pairs-none, pairs-some}
 use Rattle.by_index.proofs.pairs.Statement.{statement}
 use Rattle.by_index.proofs.pairs.Tie as tie
@@ -53,7 +53,7 @@ slice-reshare-prefix-lay-pairs c =
     let x = v .before .before in
     let w = x .before .before in
     let a = w .before .before .before .before .before .before .before in
-    omega (arith, kept-count (stays (pairKind (x .word-at2 .result) (v .before .word-at3 .result) 0 0) (a .args .glyphs .now) (a .args .src .now)) (mapOf (a .args .glyphs .now)) (coverage (a .args .src .now) (w .word-at .result)) (a .args .src .now) 10 (v .word-at4 .result) (k .keep-sets .ensures), v .word-at4 .ensures .0, a .pre .glyph-room, kept-length (stays (pairKind (x .word-at2 .result) (v .before .word-at3 .result) 0 0) (a .args .glyphs .now) (a .args .src .now)) (mapOf (a .args .glyphs .now)) (coverage (a .args .src .now) (w .word-at .result)) (a .args .src .now) 10 (v .word-at4 .result) (k .keep-sets .ensures))
+    omega (arith, kept-count (stays (pairKind (x .word-at2 .result) (v .before .word-at3 .result) 0 0) (a .args .glyphs .now) (a .args .src .now)) (mapOf (a .args .glyphs .now)) (coverage (a .args .src .now) (w .word-at .result)) (a .args .src .now) 10 (v .word-at4 .result) (k .keep-sets .ensures), (scratch-fits (a .pre) (w .word-at .ensures .0) (x .before .if1 .left) (k .keep-sets .ensures) .0), kept-length (stays (pairKind (x .word-at2 .result) (v .before .word-at3 .result) 0 0) (a .args .glyphs .now) (a .args .src .now)) (mapOf (a .args .glyphs .now)) (coverage (a .args .src .now) (w .word-at .result)) (a .args .src .now) 10 (v .word-at4 .result) (k .keep-sets .ensures))
 
 slice-aggregate-lay-pairs : tie.Need-slice-aggregate-lay-pairs
 slice-aggregate-lay-pairs c =
@@ -62,7 +62,7 @@ slice-aggregate-lay-pairs c =
     let x = v .before .before in
     let w = x .before .before in
     let a = w .before .before .before .before .before .before .before in
-    sym (part-length (stays (pairKind (x .word-at2 .result) (v .before .word-at3 .result) 0 0) (a .args .glyphs .now) (a .args .src .now)) (mapOf (a .args .glyphs .now)) (coverage (a .args .src .now) (w .word-at .result)) (a .args .src .now) 10 (v .word-at4 .result) (k .keep-sets .ensures) (rw (sym (v .word-at4 .ensures .0)) at (a .pre .glyph-room)))
+    sym (part-length (stays (pairKind (x .word-at2 .result) (v .before .word-at3 .result) 0 0) (a .args .glyphs .now) (a .args .src .now)) (mapOf (a .args .glyphs .now)) (coverage (a .args .src .now) (w .word-at .result)) (a .args .src .now) 10 (v .word-at4 .result) (k .keep-sets .ensures) (scratch-fits (a .pre) (w .word-at .ensures .0) (x .before .if1 .left) (k .keep-sets .ensures) .0))
 
 lay-pairs-requires : tie.Need-lay-pairs-requires
 lay-pairs-requires c κs =
@@ -71,7 +71,7 @@ lay-pairs-requires c κs =
     let x = v .before .before in
     let w = x .before .before in
     let a = w .before .before .before .before .before .before .before in
-    record { maps = a .pre .maps; count = omega (arith, kept-count (stays (pairKind (x .word-at2 .result) (v .before .word-at3 .result) 0 0) (a .args .glyphs .now) (a .args .src .now)) (mapOf (a .args .glyphs .now)) (coverage (a .args .src .now) (w .word-at .result)) (a .args .src .now) 10 (v .word-at4 .result) (k .keep-sets .ensures), v .word-at4 .ensures .1); short = omega (arith, part-length (stays (pairKind (x .word-at2 .result) (v .before .word-at3 .result) 0 0) (a .args .glyphs .now) (a .args .src .now)) (mapOf (a .args .glyphs .now)) (coverage (a .args .src .now) (w .word-at .result)) (a .args .src .now) 10 (v .word-at4 .result) (k .keep-sets .ensures) (rw (sym (v .word-at4 .ensures .0)) at (a .pre .glyph-room)), kept-count (stays (pairKind (x .word-at2 .result) (v .before .word-at3 .result) 0 0) (a .args .glyphs .now) (a .args .src .now)) (mapOf (a .args .glyphs .now)) (coverage (a .args .src .now) (w .word-at .result)) (a .args .src .now) 10 (v .word-at4 .result) (k .keep-sets .ensures), v .word-at4 .ensures .1) }
+    record { maps = a .pre .maps; count = omega (arith, kept-count (stays (pairKind (x .word-at2 .result) (v .before .word-at3 .result) 0 0) (a .args .glyphs .now) (a .args .src .now)) (mapOf (a .args .glyphs .now)) (coverage (a .args .src .now) (w .word-at .result)) (a .args .src .now) 10 (v .word-at4 .result) (k .keep-sets .ensures), v .word-at4 .ensures .1); short = omega (arith, part-length (stays (pairKind (x .word-at2 .result) (v .before .word-at3 .result) 0 0) (a .args .glyphs .now) (a .args .src .now)) (mapOf (a .args .glyphs .now)) (coverage (a .args .src .now) (w .word-at .result)) (a .args .src .now) 10 (v .word-at4 .result) (k .keep-sets .ensures) (scratch-fits (a .pre) (w .word-at .ensures .0) (x .before .if1 .left) (k .keep-sets .ensures) .0), kept-count (stays (pairKind (x .word-at2 .result) (v .before .word-at3 .result) 0 0) (a .args .glyphs .now) (a .args .src .now)) (mapOf (a .args .glyphs .now)) (coverage (a .args .src .now) (w .word-at .result)) (a .args .src .now) 10 (v .word-at4 .result) (k .keep-sets .ensures), v .word-at4 .ensures .1) }
 
 returns-3 : tie.Need-returns-3
 returns-3 c =
@@ -80,7 +80,7 @@ returns-3 c =
     let x = v .before .before in
     let w = x .before .before in
     let a = w .before .before .before .before .before .before .before in
-    pairs-some (a .args .glyphs .now) (a .args .lookups .now) (a .args .src .now) (a .args .out .now) (x .word-at2 .ensures .0) (v .before .word-at3 .ensures .0) (v .word-at4 .ensures .0) (w .word-at .ensures .0) (x .before .if1 .left) (k .keep-sets .ensures) (c .before .before .before .before .before .before .if2 .left) (rw (sym (v .word-at4 .ensures .0)) at (a .pre .glyph-room)) (rw (sym (v .word-at4 .ensures .0)) at (a .pre .place-room)) (c .before .before .lay-pairs .ensures)
+    pairs-some (a .args .glyphs .now) (a .args .lookups .now) (a .args .src .now) (a .args .out .now) (x .word-at2 .ensures .0) (v .before .word-at3 .ensures .0) (v .word-at4 .ensures .0) (w .word-at .ensures .0) (x .before .if1 .left) (k .keep-sets .ensures) (c .before .before .before .before .before .before .if2 .left) (scratch-fits (a .pre) (w .word-at .ensures .0) (x .before .if1 .left) (k .keep-sets .ensures) .0) (scratch-fits (a .pre) (w .word-at .ensures .0) (x .before .if1 .left) (k .keep-sets .ensures) .1) (c .before .before .lay-pairs .ensures)
 
 pub pairs-spec : {M : Type 1} → statement M
 pairs-spec =
