@@ -1,0 +1,154 @@
+// Tables whose numbers are glyphs, formats 1 and 3 of each kind, with scratch of their own.
+// Scratch comes in two sizes, so that no large array is cleared for a small glyph map. Where the source is long enough to pay for it, the glyph map is laid out by number first: then each question to it is one reading.
+use by_cover::by_cover;
+use by_index::ligatures;
+use by_index::pairs;
+use by_index::rules;
+use maps::by_number;
+use room::Laid;
+use wire::word_at;
+ghost use Prim.Native.Nat.{_*_, _≤_};
+ghost use mathlib.Core.Path.{_≡_};
+ghost use mathlib.Core.Bool.{true};
+ghost use lib.ListN.{length};
+ghost use Rattle.meaning.specs.Maps.{mapEntries};
+ghost use Rattle.meaning.specs.Cut.{cut};
+ghost use Rattle.meaning.specs.Subset.{written};
+ghost use Rattle.maps.specs.Forms.{mapOf};
+ghost use Rattle.room.specs.Laid.{outcomeOf};
+ghost use Rattle.glyph_tables.specs.Sorts.{sortTable, Asked, Ready, Spacious, Below, Cuts};
+
+// The tables whose numbers are glyphs: contexts by glyph, ligatures and pairs, and contexts by coverages.
+pub enum Sort {
+    Rules,
+    ChainedRules,
+    Ligatures,
+    Pairs,
+    Covers,
+    ChainedCovers,
+}
+
+// Bytes for the glyph map of a small job, and for any.
+const SMALL_MAP: usize = 2048;
+const LONGEST_MAP: usize = 262144;
+
+// Old numbers that a small map by number has places for.
+const FEW_NUMBERS: usize = 2048;
+
+// The shortest sources that pay for a small map by number, and for one of all numbers.
+const PAYS_FOR_FEW: usize = 512;
+const PAYS_FOR_ALL: usize = 16384;
+
+// What is left of a table, with lent scratch.
+fn cut_sort(
+    sort: Sort,
+    source: &[u8],
+    glyphs: &[u8],
+    lookups: &[u8],
+    to: &mut [u8],
+    places: &mut [u8],
+    out: &mut [u8],
+) -> Laid
+    requires { ⌜ Asked sort (now source) (now glyphs) (now lookups) × Spacious (now glyphs) (now to) (now places) ⌝ }
+    ensures { λ r. ⌜ outcomeOf r (now (out .exit)) ≡ written (now (out .entry)) (cut (mapOf (now (glyphs .entry))) (mapOf (now (lookups .entry))) (sortTable sort (now (source .entry)))) ⌝ }
+{
+    match sort {
+        Sort::Rules => rules(false, source, glyphs, lookups, to, places, out),
+        Sort::ChainedRules => rules(true, source, glyphs, lookups, to, places, out),
+        Sort::Ligatures => ligatures(source, glyphs, lookups, to, places, out),
+        Sort::Pairs => pairs(source, glyphs, lookups, to, places, out),
+        Sort::Covers => by_cover(false, source, glyphs, lookups, to, out),
+        Sort::ChainedCovers => by_cover(true, source, glyphs, lookups, to, out),
+    }
+}
+
+// The same with scratch for a small glyph map.
+fn cut_small(sort: Sort, source: &[u8], glyphs: &[u8], lookups: &[u8], out: &mut [u8]) -> Laid
+    requires { ⌜ Asked sort (now source) (now glyphs) (now lookups) × (4 * length (mapOf (now glyphs)) ≤ 2048) ⌝ }
+    ensures { λ r. ⌜ outcomeOf r (now (out .exit)) ≡ written (now (out .entry)) (cut (mapOf (now (glyphs .entry))) (mapOf (now (lookups .entry))) (sortTable sort (now (source .entry)))) ⌝ }
+{
+    let mut to = [0u8; SMALL_MAP];
+    let mut places = [0u8; SMALL_MAP / 2];
+    cut_sort(sort, source, glyphs, lookups, &mut to, &mut places, out)
+}
+
+// The same with scratch for the longest glyph map.
+fn cut_large(sort: Sort, source: &[u8], glyphs: &[u8], lookups: &[u8], out: &mut [u8]) -> Laid
+    requires { ⌜ Asked sort (now source) (now glyphs) (now lookups) × (4 * length (mapOf (now glyphs)) ≤ 262144) ⌝ }
+    ensures { λ r. ⌜ outcomeOf r (now (out .exit)) ≡ written (now (out .entry)) (cut (mapOf (now (glyphs .entry))) (mapOf (now (lookups .entry))) (sortTable sort (now (source .entry)))) ⌝ }
+{
+    let mut to = [0u8; LONGEST_MAP];
+    let mut places = [0u8; LONGEST_MAP / 2];
+    cut_sort(sort, source, glyphs, lookups, &mut to, &mut places, out)
+}
+
+// The same with the scratch that fits; the glyph map has `size` bytes where it is listed.
+fn cut_sized(
+    sort: Sort,
+    source: &[u8],
+    glyphs: &[u8],
+    lookups: &[u8],
+    size: usize,
+    out: &mut [u8],
+) -> Laid
+    requires { ⌜ Ready sort (now source) (now glyphs) (now lookups) size ⌝ }
+    ensures { λ r. ⌜ outcomeOf r (now (out .exit)) ≡ written (now (out .entry)) (cut (mapOf (now (glyphs .entry))) (mapOf (now (lookups .entry))) (sortTable sort (now (source .entry)))) ⌝ }
+{
+    if size <= SMALL_MAP {
+        return cut_small(sort, source, glyphs, lookups, out);
+    }
+    cut_large(sort, source, glyphs, lookups, out)
+}
+
+// Whether each old number of a listed map is below `n`: the last one tells.
+fn all_below(m: &[u8], n: usize) -> bool
+    ensures { λ r. ⌜ Below (now (m .entry)) n r ⌝ }
+{
+    if m.len() < 4 {
+        return true;
+    }
+    word_at(m, m.len() - 4) < n
+}
+
+// What is left of a table whose glyph map has few numbers, laid out by number.
+fn cut_few(sort: Sort, source: &[u8], glyphs: &[u8], lookups: &[u8], out: &mut [u8]) -> Laid
+    requires { ⌜ Cuts sort (now source) (now glyphs) (now lookups) × Below (now glyphs) 2048 true ⌝ }
+    ensures { λ r. ⌜ outcomeOf r (now (out .exit)) ≡ written (now (out .entry)) (cut (mapEntries (now (glyphs .entry))) (mapEntries (now (lookups .entry))) (sortTable sort (now (source .entry)))) ⌝ }
+{
+    let mut table = [0u8; 4 * FEW_NUMBERS + 1];
+    by_number(glyphs, &mut table);
+    cut_sized(sort, source, &table, lookups, glyphs.len(), out)
+}
+
+// What is left of a table whose glyph map is laid out by number, with a place for every number.
+fn cut_all(sort: Sort, source: &[u8], glyphs: &[u8], lookups: &[u8], out: &mut [u8]) -> Laid
+    requires { ⌜ Cuts sort (now source) (now glyphs) (now lookups) ⌝ }
+    ensures { λ r. ⌜ outcomeOf r (now (out .exit)) ≡ written (now (out .entry)) (cut (mapEntries (now (glyphs .entry))) (mapEntries (now (lookups .entry))) (sortTable sort (now (source .entry)))) ⌝ }
+{
+    let mut table = [0u8; LONGEST_MAP + 1];
+    by_number(glyphs, &mut table);
+    cut_sized(sort, source, &table, lookups, glyphs.len(), out)
+}
+
+// What is left of a table whose numbers are glyphs, under a glyph map and a lookup map, laid into the buffer if it is not over the limit and the buffer is not shorter.
+pub fn cut_glyphs(
+    sort: Sort,
+    source: &[u8],
+    glyphs: &[u8],
+    lookups: &[u8],
+    out: &mut [u8],
+) -> Laid
+    requires { ⌜ Cuts sort (now source) (now glyphs) (now lookups) ⌝ }
+    ensures { λ r. ⌜ outcomeOf r (now (out .exit)) ≡ written (now (out .entry)) (cut (mapEntries (now (glyphs .entry))) (mapEntries (now (lookups .entry))) (sortTable sort (now (source .entry)))) ⌝ }
+{
+    if source.len() < PAYS_FOR_FEW {
+        return cut_sized(sort, source, glyphs, lookups, glyphs.len(), out);
+    }
+    if all_below(glyphs, FEW_NUMBERS) {
+        return cut_few(sort, source, glyphs, lookups, out);
+    }
+    if source.len() < PAYS_FOR_ALL {
+        return cut_sized(sort, source, glyphs, lookups, glyphs.len(), out);
+    }
+    cut_all(sort, source, glyphs, lookups, out)
+}
