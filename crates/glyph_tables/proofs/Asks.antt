@@ -16,7 +16,8 @@ use Rattle.meaning.specs.Fault.{ruleFault, ligatureFault, setFault, pairSetFaul
 use Rattle.laws.specs.Runs.{both}
 use Rattle.laws.specs.Ascends.{ascends-rise, glyphs-ascend, lookups-ascend, map-length, map-key}
 use Rattle.laws.specs.ClassesLeft.{index-low}
-use Rattle.maps.specs.Forms.{mapOf, of-glyphs, of-lookups, Clear, entry-count}
+use Rattle.laws.specs.Left.{entries-length}
+use Rattle.maps.specs.Forms.{mapOf, of-glyphs, of-lookups, Clear}
 use Rattle.checks.specs.Parts.{pairFields}
 use Rattle.by_cover.specs.Roomy.{map-roomy}
 use Rattle.by_cover.specs.Context.{Asks as CoverAsks}
@@ -73,6 +74,7 @@ glyphs-short g h k = step (decLt 65536 (length g / 4))
 module _ {sort : Sort} {s g l : List ℕ} (c : Cuts sort s g l) (bytes : (i : ℕ) → getD g i 0 < 256) where
   -- a map of the same entries serves as well as the glyph map itself
   pub other-ready : {t : List ℕ} → mapOf t ≡ mapEntries g → Ready sort s t l (length g)
+  unfolding mapEntries
   other-ready {t} e = record {
     asked = record {
       sound = c .sound;
@@ -81,7 +83,7 @@ module _ {sort : Sort} {s g l : List ℕ} (c : Cuts sort s g l) (bytes : (i : �
         lookups = rw (of-lookups l (c .good-lookups)) (lookups-ascend l (c .good-lookups));
       };
     };
-    entries = rw e (omega (arith, entry-count g));
+    entries = rw e (omega (arith, entries-length g 0 (length g / 4)));
     most = glyphs-short g bytes (c .good-glyphs);
   }
 
@@ -92,14 +94,14 @@ module _ {sort : Sort} {s g l : List ℕ} (c : Cuts sort s g l) (bytes : (i : �
   pub table-clear : (n : ℕ) → n % 4 ≡ 1 → ((k : ℕ) → k < length g / 4 → word g (4 * k) < n / 4) → Clear g (replicate n 0)
   table-clear n e h = record {
     zeros = λ j. zero j (decLt j n);
-    form = rw (length-replicate n 0) e;
+    form = rw (length-replicate {A = ℕ} n 0) e;
     ascend = glyphs-ascend g (c .good-glyphs);
-    fits = rw (length-replicate n 0) h;
+    fits = rw (length-replicate {A = ℕ} n 0) h;
   }
     where
-      zero : (j : ℕ) → Dec (j < n) → getD (replicate n 0) j 0 ≡ 0
+      zero : (j : ℕ) → Dec (j < n) → _≡_ {A = ℕ} (getD (replicate n 0) j 0) 0
       zero j (yes l) = getD-replicate n j 0 0 l
-      zero j (no l) = List·getD-eq-default (replicate n 0) 0 (omega (arith, length-replicate n 0))
+      zero j (no l) = List·getD-eq-default (replicate n 0) 0 (omega (arith, length-replicate {A = ℕ} n 0))
 
   -- any glyph has a place among all
   pub all-places : (k : ℕ) → k < length g / 4 → word g (4 * k) < 262145 / 4

@@ -30,6 +30,7 @@ pub enum Sort {
 
 // Bytes for the glyph map of a small job, and for any.
 const SMALL_MAP: usize = 2048;
+
 const LONGEST_MAP: usize = 262144;
 
 // Old numbers that a small map by number has places for.
@@ -37,6 +38,7 @@ const FEW_NUMBERS: usize = 2048;
 
 // The shortest sources that pay for a small map by number, and for one of all numbers.
 const PAYS_FOR_FEW: usize = 512;
+
 const PAYS_FOR_ALL: usize = 16384;
 
 // What is left of a table, with lent scratch.
@@ -131,13 +133,7 @@ fn cut_all(sort: Sort, source: &[u8], glyphs: &[u8], lookups: &[u8], out: &mut [
 }
 
 // What is left of a table whose numbers are glyphs, under a glyph map and a lookup map, laid into the buffer if it is not over the limit and the buffer is not shorter.
-pub fn cut_glyphs(
-    sort: Sort,
-    source: &[u8],
-    glyphs: &[u8],
-    lookups: &[u8],
-    out: &mut [u8],
-) -> Laid
+pub fn cut_glyphs(sort: Sort, source: &[u8], glyphs: &[u8], lookups: &[u8], out: &mut [u8]) -> Laid
     requires { ⌜ Cuts sort (now source) (now glyphs) (now lookups) ⌝ }
     ensures { λ r. ⌜ outcomeOf r (now (out .exit)) ≡ written (now (out .entry)) (cut (mapEntries (now (glyphs .entry))) (mapEntries (now (lookups .entry))) (sortTable sort (now (source .entry)))) ⌝ }
 {

@@ -214,7 +214,7 @@ present-set i (suc x) v (e ∷ es) l h = step (eqb (e .0) 0) (present-set (i + 1
     step false r = let q : i + suc x ≡ i + 1 + x = omega arith in rw q (ap (λ (es : List (ℕ × ℕ)). (i, e .1) ∷ es) r)
 
 -- a map's entries, as many as there are and one of them
-pub entry-count : (m : List ℕ) → length (mapEntries m) ≡ length m / 4
+entry-count : (m : List ℕ) → length (mapEntries m) ≡ length m / 4
 unfolding mapEntries
 entry-count m = entries-length m 0 (length m / 4)
 

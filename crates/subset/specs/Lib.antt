@@ -1,4 +1,3 @@
 pub mod Answers
 pub mod Tables
 pub mod Asked
-pub mod Indexed

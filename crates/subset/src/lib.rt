@@ -1,10 +1,8 @@
 // The call: a kind, a source, a glyph map, a lookup map and a lent buffer, and the lowest of document 01's answers that applies.
 use by_class::by_class;
-use by_cover::by_cover;
-use by_index::ligatures;
-use by_index::pairs;
-use by_index::rules;
 use checks::check;
+use glyph_tables::Sort;
+use glyph_tables::cut_glyphs;
 use maps::good_glyphs;
 use maps::good_lookups;
 use room::LIMIT;
@@ -28,7 +26,6 @@ ghost use Rattle.checks.specs.Parts.{byGlyphFault};
 ghost use Rattle.by_index.specs.Whole.{glyphContext};
 ghost use Rattle.subset.specs.Answers.{numberOf, lengthOf, outcome, decoded, answerOf};
 ghost use Rattle.subset.specs.Asked.{Cuts, CutsByClass};
-ghost use Rattle.subset.specs.Indexed.{indexedFault, indexedTable, Spacious};
 
 // The answers of document 01. With `Kept` comes the number of bytes written, with `NoRoom` the length needed; the length of any other is 0.
 // `BadJob` is given by the label job alone.
@@ -47,18 +44,9 @@ pub enum Answer {
     BadJob,
 }
 
-// The tables of format 1: their sets stand by coverage index.
-enum Indexed {
-    Rules,
-    ChainedRules,
-    Ligatures,
-    Pairs,
-}
-
-// Scratch comes in two sizes, so that no large array is cleared for a small table. This is the small one, in bytes.
+// Scratch for class maps comes in two sizes, so that no large array is cleared for a small glyph map. The large size is that of the longest map.
 const SMALL: usize = 2048;
 
-// The bytes of the longest glyph map, 65,536 entries. Scratch that is as long as the map has this for its large size, and scratch that is as long as the source has `LIMIT`.
 const LONGEST_MAP: usize = 262144;
 
 // Whether the kind is 1 context, 2 chained, 3 ligature or 4 pair.
@@ -112,47 +100,6 @@ fn pair_device(kind: usize, source: &[u8]) -> bool
         return true;
     }
     has_device(word_at(source, 6))
-}
-
-// Format 3 of contexts, with scratch for a small glyph map.
-fn by_cover_small(
-    chained: bool,
-    source: &[u8],
-    glyphs: &[u8],
-    lookups: &[u8],
-    out: &mut [u8],
-) -> Laid
-    requires { ⌜ Cuts (coversFault chained (now source)) (now source) (now glyphs) (now lookups) × (length (now glyphs) ≤ 2048) ⌝ }
-    ensures { λ r. ⌜ outcomeOf r (now (out .exit)) ≡ written (now (out .entry)) (cut (mapEntries (now (glyphs .entry))) (mapEntries (now (lookups .entry))) (coverContext chained (now (source .entry)))) ⌝ }
-{
-    let mut work = [0u8; SMALL];
-    by_cover(chained, source, glyphs, lookups, &mut work, out)
-}
-
-// Format 3 of contexts, with scratch for the longest glyph map.
-fn by_cover_large(
-    chained: bool,
-    source: &[u8],
-    glyphs: &[u8],
-    lookups: &[u8],
-    out: &mut [u8],
-) -> Laid
-    requires { ⌜ Cuts (coversFault chained (now source)) (now source) (now glyphs) (now lookups) ⌝ }
-    ensures { λ r. ⌜ outcomeOf r (now (out .exit)) ≡ written (now (out .entry)) (cut (mapEntries (now (glyphs .entry))) (mapEntries (now (lookups .entry))) (coverContext chained (now (source .entry)))) ⌝ }
-{
-    let mut work = [0u8; LONGEST_MAP];
-    by_cover(chained, source, glyphs, lookups, &mut work, out)
-}
-
-// Format 3 of contexts.
-fn cut_by_cover(chained: bool, source: &[u8], glyphs: &[u8], lookups: &[u8], out: &mut [u8]) -> Laid
-    requires { ⌜ Cuts (coversFault chained (now source)) (now source) (now glyphs) (now lookups) ⌝ }
-    ensures { λ r. ⌜ outcomeOf r (now (out .exit)) ≡ written (now (out .entry)) (cut (mapEntries (now (glyphs .entry))) (mapEntries (now (lookups .entry))) (coverContext chained (now (source .entry)))) ⌝ }
-{
-    if glyphs.len() <= SMALL {
-        return by_cover_small(chained, source, glyphs, lookups, out);
-    }
-    by_cover_large(chained, source, glyphs, lookups, out)
 }
 
 // Format 2 of contexts, with scratch for a small glyph map.
@@ -230,79 +177,26 @@ fn cut_by_class(chained: bool, source: &[u8], glyphs: &[u8], lookups: &[u8], out
     by_class_large(chained, source, glyphs, lookups, out)
 }
 
-// Format 1 of each kind, with lent scratch as long as the source.
-fn by_index(
-    kind: Indexed,
-    source: &[u8],
-    glyphs: &[u8],
-    lookups: &[u8],
-    to: &mut [u8],
-    places: &mut [u8],
-    out: &mut [u8],
-) -> Laid
-    requires { ⌜ Cuts (indexedFault kind (now source)) (now source) (now glyphs) (now lookups) × Spacious (now source) (now to) (now places) ⌝ }
-    ensures { λ r. ⌜ outcomeOf r (now (out .exit)) ≡ written (now (out .entry)) (cut (mapEntries (now (glyphs .entry))) (mapEntries (now (lookups .entry))) (indexedTable kind (now (source .entry)))) ⌝ }
-{
-    match kind {
-        Indexed::Rules => rules(false, source, glyphs, lookups, to, places, out),
-        Indexed::ChainedRules => rules(true, source, glyphs, lookups, to, places, out),
-        Indexed::Ligatures => ligatures(source, glyphs, lookups, to, places, out),
-        Indexed::Pairs => pairs(source, glyphs, lookups, to, places, out),
-    }
-}
-
-// Format 1 of each kind, with scratch for a small source.
-fn by_index_small(
-    kind: Indexed,
-    source: &[u8],
-    glyphs: &[u8],
-    lookups: &[u8],
-    out: &mut [u8],
-) -> Laid
-    requires { ⌜ Cuts (indexedFault kind (now source)) (now source) (now glyphs) (now lookups) × (length (now source) ≤ 2048) ⌝ }
-    ensures { λ r. ⌜ outcomeOf r (now (out .exit)) ≡ written (now (out .entry)) (cut (mapEntries (now (glyphs .entry))) (mapEntries (now (lookups .entry))) (indexedTable kind (now (source .entry)))) ⌝ }
-{
-    let mut to = [0u8; SMALL];
-    let mut places = [0u8; SMALL];
-    by_index(kind, source, glyphs, lookups, &mut to, &mut places, out)
-}
-
-// Format 1 of each kind, with scratch for the longest source.
-fn by_index_large(
-    kind: Indexed,
-    source: &[u8],
-    glyphs: &[u8],
-    lookups: &[u8],
-    out: &mut [u8],
-) -> Laid
-    requires { ⌜ Cuts (indexedFault kind (now source)) (now source) (now glyphs) (now lookups) ⌝ }
-    ensures { λ r. ⌜ outcomeOf r (now (out .exit)) ≡ written (now (out .entry)) (cut (mapEntries (now (glyphs .entry))) (mapEntries (now (lookups .entry))) (indexedTable kind (now (source .entry)))) ⌝ }
-{
-    let mut to = [0u8; LIMIT];
-    let mut places = [0u8; LIMIT];
-    by_index(kind, source, glyphs, lookups, &mut to, &mut places, out)
-}
-
-// Format 1 of each kind.
-fn cut_by_index(kind: Indexed, source: &[u8], glyphs: &[u8], lookups: &[u8], out: &mut [u8]) -> Laid
-    requires { ⌜ Cuts (indexedFault kind (now source)) (now source) (now glyphs) (now lookups) ⌝ }
-    ensures { λ r. ⌜ outcomeOf r (now (out .exit)) ≡ written (now (out .entry)) (cut (mapEntries (now (glyphs .entry))) (mapEntries (now (lookups .entry))) (indexedTable kind (now (source .entry)))) ⌝ }
-{
-    if source.len() <= SMALL {
-        return by_index_small(kind, source, glyphs, lookups, out);
-    }
-    by_index_large(kind, source, glyphs, lookups, out)
-}
-
 // Format 1 of contexts.
 fn cut_by_glyph(chained: bool, source: &[u8], glyphs: &[u8], lookups: &[u8], out: &mut [u8]) -> Laid
     requires { ⌜ Cuts (byGlyphFault chained (now source)) (now source) (now glyphs) (now lookups) ⌝ }
     ensures { λ r. ⌜ outcomeOf r (now (out .exit)) ≡ written (now (out .entry)) (cut (mapEntries (now (glyphs .entry))) (mapEntries (now (lookups .entry))) (glyphContext chained (now (source .entry)))) ⌝ }
 {
     if chained {
-        return cut_by_index(Indexed::ChainedRules, source, glyphs, lookups, out);
+        return cut_glyphs(Sort::ChainedRules, source, glyphs, lookups, out);
     }
-    cut_by_index(Indexed::Rules, source, glyphs, lookups, out)
+    cut_glyphs(Sort::Rules, source, glyphs, lookups, out)
+}
+
+// Format 3 of contexts.
+fn cut_by_cover(chained: bool, source: &[u8], glyphs: &[u8], lookups: &[u8], out: &mut [u8]) -> Laid
+    requires { ⌜ Cuts (coversFault chained (now source)) (now source) (now glyphs) (now lookups) ⌝ }
+    ensures { λ r. ⌜ outcomeOf r (now (out .exit)) ≡ written (now (out .entry)) (cut (mapEntries (now (glyphs .entry))) (mapEntries (now (lookups .entry))) (coverContext chained (now (source .entry)))) ⌝ }
+{
+    if chained {
+        return cut_glyphs(Sort::ChainedCovers, source, glyphs, lookups, out);
+    }
+    cut_glyphs(Sort::Covers, source, glyphs, lookups, out)
 }
 
 // A context, plain or chained, by its format.
@@ -326,8 +220,8 @@ fn cut_into(kind: usize, source: &[u8], glyphs: &[u8], lookups: &[u8], out: &mut
     match kind {
         1 => cut_context(false, source, glyphs, lookups, out),
         2 => cut_context(true, source, glyphs, lookups, out),
-        3 => cut_by_index(Indexed::Ligatures, source, glyphs, lookups, out),
-        _ => cut_by_index(Indexed::Pairs, source, glyphs, lookups, out),
+        3 => cut_glyphs(Sort::Ligatures, source, glyphs, lookups, out),
+        _ => cut_glyphs(Sort::Pairs, source, glyphs, lookups, out),
     }
 }
 

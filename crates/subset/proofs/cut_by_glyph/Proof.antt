@@ -1,35 +1,37 @@
 -- `subset::cut_by_glyph` meets its contract: a chained context has chained rules. Assumes nothing.
+use mathlib.Core.Path.{refl}
 use borrow.Author.Needs.{needs}
+use Rattle.subset.proofs.Scratch.{sort-asks}
 use Rattle.subset.proofs.cut_by_glyph.Statement.{statement}
 use Rattle.subset.proofs.cut_by_glyph.Tie as tie
 
-cut-by-index-requires : tie.Need-cut-by-index-requires
-cut-by-index-requires c κs =
+cut-glyphs-requires : tie.Need-cut-glyphs-requires
+cut-glyphs-requires c κs =
     let a = c .before .before .before .before .before .before in
-    rw (c .before .if1 .taken) at (a .pre)
+    sort-asks refl (rw (c .before .if1 .taken) at (a .pre))
 
 returns : tie.Need-returns
 returns c =
     let k = c .before .before in
-    rw (k .before .before .if1 .taken) (k .cut-by-index .ensures)
+    rw (k .before .before .if1 .taken) (k .cut-glyphs .ensures)
 
-cut-by-index-requires-2 : tie.Need-cut-by-index-requires-2
-cut-by-index-requires-2 c κs =
+cut-glyphs-requires-2 : tie.Need-cut-glyphs-requires-2
+cut-glyphs-requires-2 c κs =
     let a = c .before .before .before .before .before .before in
-    rw (c .before .if1 .left) at (a .pre)
+    sort-asks refl (rw (c .before .if1 .left) at (a .pre))
 
 returns-2 : tie.Need-returns-2
 returns-2 c =
     let k = c .before .before in
-    rw (k .before .before .if1 .left) (k .cut-by-index2 .ensures)
+    rw (k .before .before .if1 .left) (k .cut-glyphs2 .ensures)
 
 pub cut-by-glyph-spec : {M : Type 1} → statement M
 cut-by-glyph-spec =
     tie.close
     (tie.spec
-    cut-by-index-requires
+    cut-glyphs-requires
     (λ c. search needs)
     returns
-    cut-by-index-requires-2
+    cut-glyphs-requires-2
     (λ c. search needs)
     returns-2)

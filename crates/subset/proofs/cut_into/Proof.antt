@@ -1,6 +1,8 @@
 -- `subset::cut_into` meets its contract: what the source says, and what it asks, by its kind. Assumes nothing.
 use native.Mathlib.Omega.{arith}
+use mathlib.Core.Path.{refl}
 use borrow.Author.Needs.{needs}
+use Rattle.subset.proofs.Scratch.{sort-asks}
 use Rattle.subset.specs.Tables.{says-plain, says-chained, says-ligatures, says-pairs}
 use Rattle.subset.proofs.Judged.{asks-plain, asks-chained, asks-ligatures, asks-pairs}
 use Rattle.subset.proofs.cut_into.Statement.{statement}
@@ -16,15 +18,15 @@ cut-context-requires-2 c κs =
     let a = c .before .before .before .before .before .before in
     asks-chained (a .args .kind) (a .pre) (omega arith)
 
-cut-by-index-requires : tie.Need-cut-by-index-requires
-cut-by-index-requires c κs =
+cut-glyphs-requires : tie.Need-cut-glyphs-requires
+cut-glyphs-requires c κs =
     let a = c .before .before .before .before .before .before in
-    asks-ligatures (a .args .kind) (a .pre) (omega arith)
+    sort-asks refl (asks-ligatures (a .args .kind) (a .pre) (omega arith))
 
-cut-by-index-requires-2 : tie.Need-cut-by-index-requires-2
-cut-by-index-requires-2 c κs =
+cut-glyphs-requires-2 : tie.Need-cut-glyphs-requires-2
+cut-glyphs-requires-2 c κs =
     let a = c .before .before .before .before .before .before in
-    asks-pairs (a .args .kind) (a .pre) (omega arith) (omega arith) (omega arith)
+    sort-asks refl (asks-pairs (a .args .kind) (a .pre) (omega arith) (omega arith) (omega arith))
 
 returns : tie.Need-returns
 returns c =
@@ -42,13 +44,13 @@ returns-3 : tie.Need-returns-3
 returns-3 c =
     let k = c .before .before in
     let a = k .before .before .before .before .before .before .before .args in
-    rw (says-ligatures (a .kind) (a .source .now) (omega arith)) (k .cut-by-index .ensures)
+    rw (says-ligatures (a .kind) (a .source .now) (omega arith)) (k .cut-glyphs .ensures)
 
 returns-4 : tie.Need-returns-4
 returns-4 c =
     let k = c .before .before in
     let a = k .before .before .before .before .before .before .before .args in
-    rw (says-pairs (a .kind) (a .source .now) (omega arith) (omega arith) (omega arith)) (k .cut-by-index2 .ensures)
+    rw (says-pairs (a .kind) (a .source .now) (omega arith) (omega arith) (omega arith)) (k .cut-glyphs2 .ensures)
 
 pub cut-into-spec : {M : Type 1} → statement M
 cut-into-spec =
@@ -56,8 +58,8 @@ cut-into-spec =
     (tie.spec
     cut-context-requires
     cut-context-requires-2
-    cut-by-index-requires
-    cut-by-index-requires-2
+    cut-glyphs-requires
+    cut-glyphs-requires-2
     (λ c. search needs)
     returns
     (λ c. search needs)
