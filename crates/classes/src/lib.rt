@@ -127,22 +127,28 @@ fn array_class(src: &[u8], at: usize, glyph: usize) -> usize
     word_at(src, at + 6 + 2 * i)
 }
 
-// The class of a glyph in the `n` class ranges from `at` on, which ascend: the first range that ends at the glyph or later decides.
+// The class of a glyph in the `n` class ranges from `at` on, which ascend: by halving, the first range that ends at the glyph or later is found, and decides.
 fn range_class(src: &[u8], at: usize, n: usize, glyph: usize) -> usize
     requires { ⌜ (at + 6 * n < 0x1_0000_0000_0000_0000) × (rangesAscend 0 (triples (now src) at n) ≡ true) ⌝ }
     ensures { λ r. ⌜ (r ≡ classOf (rangeClasses (triples (now (src .entry)) at n)) glyph) × (r < 65536) ⌝ }
 {
-    let mut i = 0;
-    while i < n {
-        if glyph <= word_at(src, at + 6 * i + 2) {
-            if glyph < word_at(src, at + 6 * i) {
-                return 0;
-            }
-            return word_at(src, at + 6 * i + 4);
+    let mut lo = 0;
+    let mut hi = n;
+    while lo < hi {
+        let mid = lo + (hi - lo) / 2;
+        if word_at(src, at + 6 * mid + 2) < glyph {
+            lo = mid + 1;
+        } else {
+            hi = mid;
         }
-        i += 1;
     }
-    0
+    if n <= lo {
+        return 0;
+    }
+    if glyph < word_at(src, at + 6 * lo) {
+        return 0;
+    }
+    word_at(src, at + 6 * lo + 4)
 }
 
 // The class map of a sound class table, in `scratch`: the classes that retained glyphs hold, each with its rank from 0, four bytes an entry.
