@@ -1,7 +1,7 @@
 -- The ways through the ranking of classes: marks at the classes that glyphs hold, and the numbering of the marked places.
 use Prim.Native.Nat.{ℕ, zero, suc, _+_, _-_, _*_, _/_, _≤_, _<_}
 use mathlib.Core.Path.{_≡_, refl, sym, ap, _∙_}
-use mathlib.Core.Bool.{Bool, true, false, cond}
+use mathlib.Core.Bool.{Bool, true, false, cond, true≢false}
 use mathlib.Core.List.{List, [], _∷_}
 use native.Mathlib.Nat.{add-zero, zero-add}
 use native.Mathlib.Numerals.{add-one}
@@ -11,10 +11,9 @@ use lib.Seq.{sets, drop-cons, drop-length}
 use lib.Dec.{eqb}
 use borrow.Author.Tests.{lt-ltb, le-ltb, eq-eqb, ne-eqb}
 use Rattle.meaning.specs.Words.{word, keys, flat}
-use Rattle.meaning.specs.Parts.{classOf}
 use Rattle.meaning.specs.Maps.{mapEntries}
 use Rattle.meaning.specs.Cut.{insertUp, heldBy, numbered, classMap}
-use Rattle.classes.specs.Marks.{marked, Unmarked}
+use Rattle.classes.specs.Marks.{marked, Marked}
 use Rattle.classes.specs.Filled.{Filled}
 use Rattle.laws.specs.ClassesLeft.{entriesFrom, from-all, from-left, from-none}
 use Rattle.classes.proofs.Reading.{Says}
@@ -55,40 +54,38 @@ unfolding marked
 marked-none k zero = refl
 marked-none k (suc n) = marked-none (k + 1) n
 
--- 65,536 places, all 0, serve any class table
-pub unmarked-all : {cs : List (ℕ × ℕ)} → Unmarked cs (replicate 65536 0)
-unmarked-all = record { none = marked-none 0 65536; few = omega (arith, length-replicate {A = ℕ} 65536 0); room = λ g h. omega (arith, length-replicate {A = ℕ} 65536 0) }
-
 -- What the loop of `mark` keeps, which goes from the last entry to the first: the marks are at the classes of the glyphs from the i-th on.
 pub record Marking (cs : List (ℕ × ℕ)) (glyphs marks₀ marks : List ℕ) (i : ℕ) : Type 0 where
   pub within : i ≤ length glyphs / 4
   pub same : length marks ≡ length marks₀
-  pub room : (g : ℕ) → classOf cs g < 65536 → classOf cs g < length marks₀
   pub held : marked 0 marks ≡ heldBy cs (keys (entriesFrom glyphs i))
 
 module _ {cs : List (ℕ × ℕ)} {glyphs marks₀ : List ℕ} where
-  pub marking-all : Unmarked cs marks₀ → Marking cs glyphs marks₀ marks₀ (length glyphs / 4)
+  pub marking-all : marked 0 marks₀ ≡ [] → Marking cs glyphs marks₀ marks₀ (length glyphs / 4)
   unfolding heldBy keys
-  marking-all u = record { within = omega arith; same = refl; room = u .room; held = rw (from-none glyphs (length glyphs / 4) (omega arith)) (u .none) }
+  marking-all u = record { within = omega arith; same = refl; held = rw (from-none glyphs (length glyphs / 4) (omega arith)) u }
 
-  pub marking-turn : {marks next : List ℕ} {i x c : ℕ} → Marking cs glyphs marks₀ marks i → 0 < i
-      → x ≡ word glyphs (4 * (i - 1)) → Says cs x c → next ≡ set marks c 1 → Marking cs glyphs marks₀ next (i - 1)
-  unfolding heldBy keys
-  marking-turn {marks} {next} {i} {x} {c} k h e f g =
-      let back : i - 1 + 1 ≡ i = omega arith in
-      let first = from-left glyphs (i - 1) (omega (arith, k .within)) in
-      let place : c < length marks = rw (k .same, f .0) (k .room x (rw (← (f .0)) (f .1))) in
-      record {
-        within = omega (arith, k .within);
-        same = ap length g ∙ length-set marks c 1 ∙ k .same;
-        room = k .room;
-        held = rw (g, first, back) (rw zero-add at (marked-set 0 c marks place) ∙ rw (k .held, f .0, e));
-      }
+  module _ {marks : List ℕ} {i x c : ℕ} (k : Marking cs glyphs marks₀ marks i) (h : 0 < i) (e : x ≡ word glyphs (4 * (i - 1))) (f : Says cs x c) where
+    -- the class has a place
+    pub marking-turn : {next : List ℕ} → c < length marks → next ≡ set marks c 1 → Marking cs glyphs marks₀ next (i - 1)
+    unfolding heldBy keys
+    marking-turn place g =
+        let back : i - 1 + 1 ≡ i = omega arith in
+        let first = from-left glyphs (i - 1) (omega (arith, k .within)) in
+        record {
+          within = omega (arith, k .within);
+          same = ap length g ∙ length-set marks c 1 ∙ k .same;
+          held = rw (g, first, back) (rw zero-add at (marked-set 0 c marks place) ∙ rw (k .held, f .0, e));
+        }
 
-  pub marking-end : {marks : List ℕ} {i : ℕ} → Marking cs glyphs marks₀ marks i → i ≤ 0 → marked 0 marks ≡ heldBy cs (keys (mapEntries glyphs))
+    -- it has none: there are fewer places than words
+    pub marking-short : {g : List (ℕ × ℕ)} → length marks ≤ c → Marked cs g marks₀ false marks
+    marking-short l = record { held = λ b. absurd (true≢false (sym b)); enough = λ b. absurd (omega (arith, f .1, k .same)) }
+
+  pub marking-end : {marks : List ℕ} {i : ℕ} → Marking cs glyphs marks₀ marks i → i ≤ 0 → Marked cs (mapEntries glyphs) marks₀ true marks
   marking-end {i = i} k h =
       let e : i ≡ 0 = omega arith in
-      rw (e, from-all glyphs) at (k .held)
+      record { held = λ b. rw (e, from-all glyphs) at (k .held); enough = λ b. refl }
 
 -- What the loop of `number` keeps: the marked places from c on are left, with the ranks from r on.
 pub record Numbering (marks out₀ out : List ℕ) (r c : ℕ) : Type 0 where
@@ -137,7 +134,11 @@ module _ {marks out₀ : List ℕ} where
       filling-end (filling-said (k .filling) (rw (e, drop-length marks))) (omega (arith, k .near, k .few))
 
 -- marks at the classes that the glyphs of a map hold give the map's class map
-pub marked-ranked : (g cs : List (ℕ × ℕ)) (marks : List ℕ) {before after : List ℕ} {r : ℕ} → marked 0 marks ≡ heldBy cs (keys g)
+pub marked-ranked : {g cs : List (ℕ × ℕ)} {start marks before after : List ℕ} {b : Bool} {r : ℕ} → Marked cs g start b marks → b ≡ true
     → Filled (numbered 0 (marked 0 marks)) before r after → Filled (classMap g cs) before r after
 unfolding classMap
-marked-ranked g cs marks e h = rw e at h
+marked-ranked m e h = rw (m .held e) at h
+
+-- with 65,536 places, all 0, each class has a mark
+pub marked-large : {g cs : List (ℕ × ℕ)} {marks : List ℕ} {b : Bool} → Marked cs g (replicate 65536 0) b marks → b ≡ true
+marked-large m = m .enough (omega (arith, length-replicate {A = ℕ} 65536 0))

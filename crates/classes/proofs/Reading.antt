@@ -1,6 +1,6 @@
 -- The ways through the reading of a class.
-use Prim.Native.Nat.{ℕ, _+_, _-_, _*_, _≤_, _<_}
-use mathlib.Core.Path.{_≡_, sym, _∙_}
+use Prim.Native.Nat.{ℕ, zero, suc, _+_, _-_, _*_, _≤_, _<_}
+use mathlib.Core.Path.{_≡_, refl, sym, _∙_}
 use mathlib.Core.Bool.{true}
 use mathlib.Core.List.{List, _∷_}
 use native.Mathlib.Omega.{arith}
@@ -67,7 +67,22 @@ module _ (s : List ℕ) (at x : ℕ) {first : ℕ} (f : first ≡ word s (at + 2
     pub array-in : x - first < n → word s (at + 6 + 2 * (x - first)) ≡ said
     array-in l = sym (at-place ∙ words-at s (at + 6) n (x - first) l)
 
--- What the walk over ranges keeps: those that are left ascend, and say of the glyph x what all say.
+-- ranges that ascend from `low` on end there or later
+end-least : (s : List ℕ) (k n at low : ℕ) → k < n → rangesAscend low (triples s at n) ≡ true → low ≤ word s (at + 6 * k + 2)
+unfolding triples rangesAscend
+end-least s k zero at low d h = absurd (omega arith)
+end-least s zero (suc n) at low d h =
+    let e : at + 6 * 0 + 2 ≡ at + 2 = omega arith in
+    let p = both (leb low (word s at)) _ h in
+    let q = both (leb (word s at) (word s (at + 2))) _ (p .1) in
+    rw e (omega (arith, leb-true low (word s at) (p .0), leb-true (word s at) (word s (at + 2)) (q .0)))
+end-least s (suc k) (suc n) at low d h =
+    let e : at + 6 * suc k ≡ at + 6 + 6 * k = omega arith in
+    let p = both (leb low (word s at)) _ h in
+    let q = both (leb (word s at) (word s (at + 2))) _ (p .1) in
+    rw e (omega (arith, leb-true low (word s at) (p .0), leb-true (word s at) (word s (at + 2)) (q .0), end-least s k n (at + 6) (word s (at + 2) + 1) (omega arith) (q .1)))
+
+-- What is kept where ranges are passed: those that are left ascend, and say of the glyph x what all say.
 pub record Walking (s : List ℕ) (at n x i : ℕ) : Type 0 where
   pub within : i ≤ n
   pub rise : rangesAscend 0 (triples s (at + 6 * i) (n - i)) ≡ true
@@ -95,6 +110,15 @@ module _ {s : List ℕ} {at n x : ℕ} where
       left = sym (range-after (word s (at + 6 * i)) last (word s (at + 6 * i + 4)) rest rise-now x l) ∙ left-now;
     }
 
+    -- the ranges after it end after it
+    end-rise : (d : ℕ) → i + 1 + d < n → last < word s (at + 6 * (i + 1 + d) + 2)
+    unfolding rangesAscend
+    end-rise d l =
+        let a = word s (at + 6 * i) in
+        let p = both (leb a last) _ (both (leb 0 a) _ rise-now .1) in
+        let e : at + 6 * (i + 1) + 6 * d ≡ at + 6 * (i + 1 + d) = omega arith in
+        omega (arith, rw e at (end-least s d (n - (i + 1)) (at + 6 * (i + 1)) (last + 1) (omega arith) (p .1)))
+
     module _ {first : ℕ} (f : first ≡ word s (at + 6 * i)) where
       -- before it
       pub walking-before : x < first → 0 ≡ classOf (rangeClasses (triples s at n)) x
@@ -108,3 +132,40 @@ module _ {s : List ℕ} {at n x : ℕ} where
   pub walking-end : {i : ℕ} → Walking s at n x i → n ≤ i → 0 ≡ classOf (rangeClasses (triples s at n)) x
   unfolding rangeClasses classOf find
   walking-end {i} k h = rw (triples-none s (at + 6 * i) n i h) at (k .left)
+
+  -- the glyph stands after the range that is d after the first that is left, and so after those before it
+  walking-far : (d : ℕ) {i : ℕ} → Walking s at n x i → i + d < n → word s (at + 6 * (i + d) + 2) < x → Walking s at n x (i + d + 1)
+  walking-far zero {i} k h l =
+      let e : i + 0 ≡ i = omega arith in
+      rw e (walking-on k (omega arith) refl (rw e at l))
+  walking-far (suc d) {i} k h l =
+      let e : i + suc d ≡ i + 1 + d = omega arith in
+      let after = rw e at l in
+      rw e (walking-far d (walking-on k (omega arith) refl (omega (arith, end-rise k (omega arith) refl d (omega arith)))) (omega arith) after)
+
+-- What the halving of ranges keeps: those before lo are passed, and the one at hi, if it is one, ends at the glyph x or later.
+pub record Halving (s : List ℕ) (at n x lo hi : ℕ) : Type 0 where
+  pub order : lo ≤ hi
+  pub within : hi ≤ n
+  pub ends : hi < n → x ≤ word s (at + 6 * hi + 2)
+  pub left : Walking s at n x lo
+
+module _ {s : List ℕ} {at n x : ℕ} where
+  pub halving-all : rangesAscend 0 (triples s at n) ≡ true → Halving s at n x 0 n
+  halving-all h = record { order = omega arith; within = omega arith; ends = λ l. absurd (omega arith); left = walking-all h }
+
+  module _ {lo hi last : ℕ} (mid : ℕ) (k : Halving s at n x lo hi) (l : lo ≤ mid) (h : mid < hi) (e : last ≡ word s (at + 6 * mid + 2)) where
+    pub halving-up : last < x → Halving s at n x (mid + 1) hi
+    halving-up g =
+        let d : lo + (mid - lo) ≡ mid = omega arith in
+        record { order = omega arith; within = k .within; ends = k .ends; left = rw d at (walking-far (mid - lo) (k .left) (omega (arith, k .within)) (rw (d, ← e) g)) }
+
+    pub halving-down : x ≤ last → Halving s at n x lo mid
+    halving-down g = record { order = l; within = omega (arith, k .within); ends = λ m. omega arith; left = k .left }
+
+  -- where nothing is left between the two, and the range at lo does not start after the glyph, it holds it
+  pub halving-in : {lo hi first : ℕ} → Halving s at n x lo hi → hi ≤ lo → lo < n → first ≡ word s (at + 6 * lo) → first ≤ x
+      → word s (at + 6 * lo + 4) ≡ classOf (rangeClasses (triples s at n)) x
+  halving-in {lo} {hi} k h l f g =
+      let e : hi ≡ lo = omega (arith, k .order) in
+      walking-in (k .left) l refl f (rw e at (k .ends) l) g

@@ -12,6 +12,7 @@ use wire::word_at;
 ghost use mathlib.Core.Path.{_≡_};
 ghost use mathlib.Core.Bool.{true};
 ghost use mathlib.Core.Option.{Option·getD};
+ghost use mathlib.Core.List.{[]};
 ghost use Prim.Native.Nat.{_+_, _*_, _/_, _≤_, _<_};
 ghost use lib.ListN.{length, replicate};
 ghost use Rattle.meaning.specs.Words.{word, words, triples, threes, ascends, keys, find};
@@ -19,14 +20,14 @@ ghost use Rattle.meaning.specs.Parts.{rangesAscend, arrayClasses, rangeClasses,
 ghost use Rattle.meaning.specs.Fault.{classesFault};
 ghost use Rattle.meaning.specs.Maps.{mapEntries};
 ghost use Rattle.maps.specs.Forms.{mapOf};
-ghost use Rattle.meaning.specs.Cut.{heldBy, numbered, classMap, newClasses};
+ghost use Rattle.meaning.specs.Cut.{numbered, classMap, newClasses};
 ghost use Rattle.meaning.specs.Layout.{runs, spread, classWords};
 ghost use Rattle.laws.specs.Written.{Wrote};
 ghost use Rattle.laws.specs.RunsLeft.{goesOn};
 ghost use Rattle.laws.specs.ClassesLeft.{entriesFrom};
 ghost use Rattle.wire.specs.Fault.{faultOf};
 ghost use Rattle.classes.specs.Formats.{arraySound, CountsIds};
-ghost use Rattle.classes.specs.Marks.{marked, Unmarked};
+ghost use Rattle.classes.specs.Marks.{marked, Marked};
 ghost use Rattle.classes.specs.Filled.{Filled, Ranked};
 
 // Where the class table at `at` is faulty: at its start, or nowhere.
@@ -126,53 +127,68 @@ fn array_class(src: &[u8], at: usize, glyph: usize) -> usize
     word_at(src, at + 6 + 2 * i)
 }
 
-// The class of a glyph in the `n` class ranges from `at` on, which ascend: the first range that ends at the glyph or later decides.
+// The class of a glyph in the `n` class ranges from `at` on, which ascend: by halving, the first range that ends at the glyph or later is found, and decides.
 fn range_class(src: &[u8], at: usize, n: usize, glyph: usize) -> usize
     requires { ⌜ (at + 6 * n < 0x1_0000_0000_0000_0000) × (rangesAscend 0 (triples (now src) at n) ≡ true) ⌝ }
     ensures { λ r. ⌜ (r ≡ classOf (rangeClasses (triples (now (src .entry)) at n)) glyph) × (r < 65536) ⌝ }
 {
-    let mut i = 0;
-    while i < n {
-        if glyph <= word_at(src, at + 6 * i + 2) {
-            if glyph < word_at(src, at + 6 * i) {
-                return 0;
-            }
-            return word_at(src, at + 6 * i + 4);
+    let mut lo = 0;
+    let mut hi = n;
+    while lo < hi {
+        let mid = lo + (hi - lo) / 2;
+        if word_at(src, at + 6 * mid + 2) < glyph {
+            lo = mid + 1;
+        } else {
+            hi = mid;
         }
-        i += 1;
     }
-    0
+    if n <= lo {
+        return 0;
+    }
+    if glyph < word_at(src, at + 6 * lo) {
+        return 0;
+    }
+    word_at(src, at + 6 * lo + 4)
 }
 
 // The class map of a sound class table, in `scratch`: the classes that retained glyphs hold, each with its rank from 0, four bytes an entry.
-// The answer is how many bytes they take.
+// The answer is how many bytes they take. Most often each such class is below 256, and few places for marks serve.
 pub fn rank(src: &[u8], at: usize, glyphs: &[u8], scratch: &mut [u8]) -> usize
     requires { ⌜ classesSound (now src) at ≡ true ⌝ }
     ensures { λ r. ⌜ Filled (classMap (mapEntries (now (glyphs .entry))) (classes (now (src .entry)) at)) (now (scratch .entry)) r (now (scratch .exit)) ⌝ }
 {
-    let mut marks = [0u8; 65536];
-    rank_by(src, at, glyphs, &mut marks, scratch)
+    let mut marks = [0u8; 256];
+    if mark(src, at, glyphs, &mut marks) {
+        return number(&marks, scratch);
+    }
+    rank_large(src, at, glyphs, scratch)
 }
 
-// The same, with a place for a mark for each class that occurs.
-fn rank_by(src: &[u8], at: usize, glyphs: &[u8], marks: &mut [u8], scratch: &mut [u8]) -> usize
-    requires { ⌜ (classesSound (now src) at ≡ true) × Unmarked (classes (now src) at) (now marks) ⌝ }
+// The same, with a place for a mark for each class that there can be.
+fn rank_large(src: &[u8], at: usize, glyphs: &[u8], scratch: &mut [u8]) -> usize
+    requires { ⌜ classesSound (now src) at ≡ true ⌝ }
     ensures { λ r. ⌜ Filled (classMap (mapEntries (now (glyphs .entry))) (classes (now (src .entry)) at)) (now (scratch .entry)) r (now (scratch .exit)) ⌝ }
 {
-    mark(src, at, glyphs, marks);
-    number(marks, scratch)
+    let mut marks = [0u8; 65536];
+    mark(src, at, glyphs, &mut marks);
+    number(&marks, scratch)
 }
 
-// A mark at each class that a retained glyph holds.
-fn mark(src: &[u8], at: usize, glyphs: &[u8], marks: &mut [u8])
-    requires { ⌜ (classesSound (now src) at ≡ true) × Unmarked (classes (now src) at) (now marks) ⌝ }
-    ensures { λ _. ⌜ marked 0 (now (marks .exit)) ≡ heldBy (classes (now (src .entry)) at) (keys (mapEntries (now (glyphs .entry)))) ⌝ }
+// A mark at each class that a retained glyph holds, up to one that has no place; whether each has a place.
+fn mark(src: &[u8], at: usize, glyphs: &[u8], marks: &mut [u8]) -> bool
+    requires { ⌜ (classesSound (now src) at ≡ true) × (marked 0 (now marks) ≡ []) ⌝ }
+    ensures { λ r. ⌜ Marked (classes (now (src .entry)) at) (mapEntries (now (glyphs .entry))) (now (marks .entry)) r (now (marks .exit)) ⌝ }
 {
     let mut i = glyphs.len() / 4;
     while 0 < i {
         i -= 1;
-        put_byte(marks, class_of(src, at, word_at(glyphs, 4 * i)), 1);
+        let class = class_of(src, at, word_at(glyphs, 4 * i));
+        if marks.len() <= class {
+            return false;
+        }
+        put_byte(marks, class, 1);
     }
+    true
 }
 
 // The places that have a mark, each with its rank from 0, in `scratch`, and how many bytes they take.

@@ -108,23 +108,23 @@ pub fn count(src: &[u8], at: usize) -> usize
     ranges_count(src, at + 4, n)
 }
 
-// The glyph that has index `i` among those that the `n` ranges from `at` on cover.
+// The glyph that has index `i` among those that the `n` ranges from `at` on cover: by halving, the last range whose own index is at most `i` holds it.
 fn range_glyph(src: &[u8], at: usize, n: usize, i: usize) -> usize
-    requires { ⌜ SoundRanges (now src) at n ⌝ }
+    requires { ⌜ SoundRanges (now src) at n × (i < length (rangeGlyphs (triples (now src) at n))) ⌝ }
     ensures { λ r. ⌜ Gives (rangeGlyphs (triples (now (src .entry)) at n)) i r ⌝ }
 {
-    let mut left = i;
-    let mut k = 0;
-    while k < n {
-        let first = word_at(src, at + 6 * k);
-        let size = word_at(src, at + 6 * k + 2) + 1 - first;
-        if left < size {
-            return first + left;
+    let mut lo = 0;
+    let mut hi = n;
+    while lo + 1 < hi {
+        let mid = lo + (hi - lo) / 2;
+        if word_at(src, at + 6 * mid + 4) <= i {
+            lo = mid;
+        } else {
+            hi = mid;
         }
-        left -= size;
-        k += 1;
     }
-    0
+    let index = word_at(src, at + 6 * lo + 4);
+    word_at(src, at + 6 * lo) + (i - index)
 }
 
 // The glyph that has the coverage index `i` in the coverage at `at`.

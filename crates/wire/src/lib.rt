@@ -32,7 +32,10 @@ pub fn word_at(s: &[u8], at: usize) -> usize
     if s.len() <= at {
         return 0;
     }
-    byte(s, at) * 256 + byte(s, at + 1)
+    if s.len() <= at + 1 {
+        return s[at] as usize * 256;
+    }
+    s[at] as usize * 256 + s[at + 1] as usize
 }
 
 // Whether the `n` bytes from `at` on lie inside the source.
@@ -75,8 +78,12 @@ pub fn put(out: &mut [u8], at: usize, w: usize) -> usize
     requires { ⌜ at < 0x2_0000_0000_0000 ⌝ }
     ensures { λ r. ⌜ (r ≡ at + 2) × (now (out .exit) ≡ sets (now (out .entry)) at (bytes2 w)) ⌝ }
 {
+    if at + 1 < out.len() {
+        out[at] = (w / 256 % 256) as u8;
+        out[at + 1] = (w % 256) as u8;
+        return at + 2;
+    }
     put_byte(out, at, w / 256 % 256);
-    put_byte(out, at + 1, w % 256);
     at + 2
 }
 

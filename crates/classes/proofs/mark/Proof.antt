@@ -1,5 +1,5 @@
 use borrow.Author.Needs.{needs}
-use Rattle.classes.proofs.Ranking.{Marking, marking-all, marking-turn, marking-end}
+use Rattle.classes.proofs.Ranking.{Marking, marking-all, marking-turn, marking-short, marking-end}
 use Rattle.meaning.specs.Parts.{classes}
 use Rattle.classes.proofs.mark.Statement.{statement}
 use Rattle.classes.proofs.mark.Tie as tie
@@ -14,20 +14,30 @@ loop-holds : tie.Need-loop-holds Inv-loop μ-loop
 loop-holds c = marking-all (c .before .before .before .pre .1)
 
 class-of-requires : tie.Need-class-of-requires Inv-loop μ-loop
-class-of-requires c κs = c .before .before .before .before .before .before .before .pre .0
+class-of-requires c κs = c .before .before .before .before .before .before .pre .0
+
+same-length : tie.Need-same-length Inv-loop μ-loop
+same-length c = c .before .before .before .before .loop .inv .same
+
+returns : tie.Need-returns Inv-loop μ-loop
+returns c =
+    let f = c .before in
+    let x = f .before in
+    marking-short (x .before .before .loop .inv) (x .before .loop-test .taken) (x .word-at .ensures .0) (f .class-of .ensures) (c .if1 .taken)
 
 loop-again : tie.Need-loop-again Inv-loop μ-loop
 loop-again c =
     let p = c .before .before in
-    let x = p .before .before in
-    let l = x .before .before .before in
-    marking-turn (l .loop .inv) (x .before .before .loop-test .taken) (x .word-at .ensures .0) (p .before .class-of .ensures) (p .put-byte .ensures)
+    let t = p .before .before in
+    let f = t .before in
+    let x = f .before in
+    marking-turn (x .before .before .loop .inv) (x .before .loop-test .taken) (x .word-at .ensures .0) (f .class-of .ensures) (t .if1 .left) (p .put-byte .ensures)
 
-same-length : tie.Need-same-length Inv-loop μ-loop
-same-length c = c .before .loop .inv .same
+same-length-2 : tie.Need-same-length-2 Inv-loop μ-loop
+same-length-2 c = c .before .loop .inv .same
 
-returns : tie.Need-returns Inv-loop μ-loop
-returns c = marking-end (c .before .loop .inv) (c .loop-test .left)
+returns-2 : tie.Need-returns-2 Inv-loop μ-loop
+returns-2 c = marking-end (c .before .loop .inv) (c .loop-test .left)
 
 pub mark-spec : {M : Type 1} → statement M
 mark-spec =
@@ -40,8 +50,10 @@ mark-spec =
     (λ c. search needs)
     (λ c κs. search needs)
     class-of-requires
+    same-length
+    returns
     (λ c κs. search needs)
     (λ c. search needs)
     loop-again
-    same-length
-    returns)
+    same-length-2
+    returns-2)

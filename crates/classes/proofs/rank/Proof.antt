@@ -1,10 +1,24 @@
-use Rattle.classes.proofs.Ranking.{unmarked-all}
+use Rattle.classes.proofs.Ranking.{marked-none, marked-ranked}
 use borrow.Author.Needs.{needs}
 use Rattle.classes.proofs.rank.Statement.{statement}
 use Rattle.classes.proofs.rank.Tie as tie
 
-rank-by-requires : tie.Need-rank-by-requires
-rank-by-requires c κs = (c .before .before .before .before .before .pre, unmarked-all)
+mark-requires : tie.Need-mark-requires
+mark-requires c κs = (c .before .before .before .before .pre, marked-none 0 256)
+
+returns : tie.Need-returns
+returns c = marked-ranked (c .before .before .before .before .before .before .before .mark .ensures) (c .before .before .before .before .before .if1 .taken) (c .before .before .number .ensures)
 
 pub rank-spec : {M : Type 1} → statement M
-rank-spec = tie.close (tie.spec (λ c. search needs) rank-by-requires (λ c. search needs) (λ c. search needs))
+rank-spec =
+    tie.close
+    (tie.spec
+    (λ c. search needs)
+    mark-requires
+    (λ c. search needs)
+    (λ c κs. search needs)
+    (λ c. search needs)
+    returns
+    (λ c κs. search needs)
+    (λ c. search needs)
+    (λ c. search needs))

@@ -2,7 +2,7 @@ use Prim.Native.Nat.{_+_, _*_, _<_}
 use native.Mathlib.Omega.{arith}
 use lib.ListN.{length}
 use borrow.Author.Needs.{needs}
-use Rattle.coverage.proofs.Reading.{header-fits, ranges-sound, glyph-fits, give-list, give-ranges}
+use Rattle.coverage.proofs.Reading.{header-fits, ranges-sound, glyph-fits, give-list, range-index, give-ranges}
 use Rattle.coverage.proofs.glyph_at.Statement.{statement}
 use Rattle.coverage.proofs.glyph_at.Tie as tie
 
@@ -33,8 +33,10 @@ add-range-glyph c =
 range-glyph-requires : tie.Need-range-glyph-requires
 range-glyph-requires c κs =
     let w = c .before .before in
-    let t = w .before .before in
-    rw (w .word-at .ensures .0) (ranges-sound (t .args .src .now) (t .args .at) (t .pre .0) (omega arith))
+    let t = w .before .before in (
+      rw (w .word-at .ensures .0) (ranges-sound (t .args .src .now) (t .args .at) (t .pre .0) (omega arith)),
+      range-index (t .args .src .now) (t .args .at) (w .word-at .ensures .0) (omega arith) (t .pre .1),
+    )
 
 returns-2 : tie.Need-returns-2
 returns-2 c = give-ranges _ _ (c .before .before .before .word-at .ensures .0) (omega arith) (c .range-glyph .ensures)
