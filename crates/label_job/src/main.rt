@@ -35,6 +35,7 @@ fn answer(file: &[u8], text: &mut [u8]) -> usize
     report(number_of(a), length_of(a), &result, text)
 }
 
+// Reads the file, and writes the text at once.
 fn main() {
     let mut file = [0u8; FILE];
     let n = io::read_full(0, &mut file);

@@ -1,3 +1,4 @@
+-- `label_job::answer` meets its contract: the number, the length and the buffer that are printed are those of the job. Assumes nothing.
 use borrow.Author.Needs.{needs}
 use Rattle.label_job.proofs.Answering.{printable, answered}
 use Rattle.label_job.proofs.answer.Statement.{statement}

@@ -1,3 +1,4 @@
+-- `label_job::blank` meets its contract: an array of zeros is as long as its type says. Assumes nothing.
 use Prim.Native.Nat.{ℕ}
 use lib.ListN.{length-replicate}
 use Rattle.report.specs.Lengths.{textRoom}

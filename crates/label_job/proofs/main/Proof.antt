@@ -1,3 +1,4 @@
+-- `label_job::main` meets its contract: what is read is lent, and what is printed is a part of the text. Assumes nothing.
 use borrow.Author.Needs.{needs}
 use Rattle.label_job.proofs.Answering.{answered-part}
 use Rattle.label_job.proofs.main.Statement.{statement}
