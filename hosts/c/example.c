@@ -22,17 +22,27 @@ static const char *const meaning[] = {
   "the buffer is too short"
 };
 
+/* Cuts P1 into so many bytes of `out`, and says what came back. */
+static uint64_t cut (uint8_t *out, size_t room)
+{
+  uint64_t result = gillcurtain_subset (GILLCURTAIN_CONTEXT, source, sizeof source, glyphs, sizeof glyphs,
+                                        lookups, sizeof lookups, out, room);
+  unsigned number = gillcurtain_number (result);
+  printf ("P1 into %zu bytes: answer %u, %s", room, number, meaning[number]);
+  if (number == GILLCURTAIN_KEPT) printf (": %zu of %zu bytes", gillcurtain_length (result), sizeof source);
+  if (number == GILLCURTAIN_NO_ROOM) printf (": it takes %zu", gillcurtain_length (result));
+  printf ("\n");
+  return result;
+}
+
 int main (void)
 {
-  uint8_t out[256];
-  uint64_t r = gillcurtain_subset (GILLCURTAIN_CONTEXT, source, sizeof source, glyphs, sizeof glyphs,
-                                   lookups, sizeof lookups, out, sizeof out);
-  unsigned number = gillcurtain_number (r);
-  size_t n = gillcurtain_length (r);
-  printf ("answer %u: %s\n", number, meaning[number]);
-  if (number == GILLCURTAIN_NO_ROOM) printf ("%zu bytes are needed\n", n);
-  if (number != GILLCURTAIN_KEPT) return 1;
-  printf ("%zu of %zu bytes are left:\n", n, sizeof source);
+  uint8_t out[sizeof source];
+  size_t needed = gillcurtain_length (cut (NULL, 0));
+  if (sizeof out < needed) return 1;
+  uint64_t result = cut (out, needed);
+  if (gillcurtain_number (result) != GILLCURTAIN_KEPT) return 1;
+  size_t n = gillcurtain_length (result);
   for (size_t i = 0; i < n; i++) printf ("%02x%s", out[i], i % 16 == 15 || i + 1 == n ? "\n" : "");
   return 0;
 }

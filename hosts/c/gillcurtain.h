@@ -6,9 +6,11 @@
  *
  * What a caller owes:
  * - each pointer and its length are bytes that can be read, and those of `out`
- *   can be written; `out` overlaps none of the other three;
- * - a part of length 0 may have any pointer that is not null;
- * - GILLCURTAIN_STACK bytes of stack.
+ *   can be written too; `out` overlaps none of the other three, which may
+ *   overlap each other;
+ * - a part of length 0 may have any pointer, null too;
+ * - no other thread writes to these bytes, or reads `out`, during the call;
+ * - GILLCURTAIN_STACK bytes of stack. With less, the call may end the process.
  * Nothing is asked of what the bytes are: any content gets its answer. */
 #ifndef GILLCURTAIN_H
 #define GILLCURTAIN_H
@@ -43,8 +45,9 @@ enum gillcurtain_answer {
   GILLCURTAIN_NO_ROOM = 10      /* `out` is too short; the length is what is needed */
 };
 
-/* Stack that a call may use, at most. */
-#define GILLCURTAIN_STACK (2u << 20)
+/* The stack, in bytes, that a call may use at most: 1.75 MiB. hosts/c/limits.c
+ * holds the call that goes deepest to it. */
+#define GILLCURTAIN_STACK (7u << 18)
 
 /* Cuts `source`, a subtable of this kind. `glyphs` and `lookups` are maps:
  * entries of four bytes, the old number and the new one, both big-endian, with

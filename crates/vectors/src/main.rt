@@ -1,0 +1,419 @@
+// Runs stored calls from standard input, and calls at the limits that are made here, and prints how many answered as they should.
+// Each is made three times: what is kept on a buffer that is one byte short, on one that is exact and on one that is longer, what has no room on three that are too short,
+// and any other refusal on an empty, a small and a large buffer.
+// Number, length and the whole buffer are compared.
+use subset::length_of;
+use subset::number_of;
+use subset::subset;
+use wire::byte;
+use wire::put;
+use wire::put_byte;
+use wire::put_entry;
+use wire::put_record;
+use wire::word_at;
+ghost use Prim.Native.Nat.{_≤_, _<_};
+ghost use lib.ListN.{length};
+
+// The most bytes of stored calls.
+const FILE: usize = 200000;
+
+// The bytes before the parts of a stored call: the kind, the number of the answer, the lengths of source, glyph map and lookup map, and the length that comes with the answer.
+const HEADER: usize = 12;
+
+// How often each call is made.
+const TIMES: usize = 3;
+
+// How much longer the longer buffer is.
+const LONGER: usize = 16;
+
+// The longest buffer that is lent.
+const SPACE: usize = 65552;
+
+fn text(s: &[u8]) {
+    io::write_all(1, s);
+}
+
+fn number(n: usize) {
+    io::print_decimal(1, n as u64);
+}
+
+// What a buffer holds at `i` before a call.
+fn old_byte(i: usize) -> usize
+    ensures { λ r. ⌜ r < 256 ⌝ }
+{
+    i % 251
+}
+
+// Puts into a buffer what it holds before a call.
+fn fill(out: &mut [u8]) {
+    let mut i = 0;
+    while i < out.len() {
+        put_byte(out, i, old_byte(i));
+        i += 1;
+    }
+}
+
+// What a buffer holds at `i` after a call: a kept byte, or what it held before.
+fn new_byte(kept: &[u8], i: usize) -> usize {
+    if i < kept.len() {
+        return byte(kept, i);
+    }
+    old_byte(i)
+}
+
+// Whether the buffer holds the kept bytes at its front, and after them what it held before the call.
+fn holds(out: &[u8], kept: &[u8]) -> bool {
+    let mut i = 0;
+    while i < out.len() {
+        if byte(out, i) != new_byte(kept, i) {
+            return false;
+        }
+        i += 1;
+    }
+    kept.len() <= out.len()
+}
+
+// Whether the call on this buffer gives this number and length, and leaves the kept bytes in the buffer.
+fn agrees(
+    kind: usize,
+    source: &[u8],
+    glyphs: &[u8],
+    lookups: &[u8],
+    answer: usize,
+    len: usize,
+    kept: &[u8],
+    out: &mut [u8],
+) -> bool {
+    fill(out);
+    let a = subset(kind, source, glyphs, lookups, out);
+    if number_of(a) != answer {
+        return false;
+    }
+    if length_of(a) != len {
+        return false;
+    }
+    holds(out, kept)
+}
+
+// The same on a buffer of `room` bytes, as a count of calls that agree, which is printed if it is 0.
+fn agreed(
+    kind: usize,
+    source: &[u8],
+    glyphs: &[u8],
+    lookups: &[u8],
+    answer: usize,
+    len: usize,
+    kept: &[u8],
+    room: usize,
+) -> usize
+    requires { ⌜ room ≤ 65552 ⌝ }
+    ensures { λ r. ⌜ r ≤ 1 ⌝ }
+{
+    let mut space = [0u8; SPACE];
+    if agrees(
+        kind,
+        source,
+        glyphs,
+        lookups,
+        answer,
+        len,
+        kept,
+        &mut space[..room],
+    ) {
+        return 1;
+    }
+    text(b"with a buffer of ");
+    number(room);
+    text(b" bytes: ");
+    0
+}
+
+// How many agree of the calls that keep these bytes.
+fn kept_calls(kind: usize, source: &[u8], glyphs: &[u8], lookups: &[u8], kept: &[u8]) -> usize
+    ensures { λ r. ⌜ r ≤ 3 ⌝ }
+{
+    let n = kept.len();
+    if n == 0 {
+        return 0;
+    }
+    if SPACE - LONGER < n {
+        return 0;
+    }
+    let short = agreed(kind, source, glyphs, lookups, 10, n, b"", n - 1);
+    let exact = agreed(kind, source, glyphs, lookups, 0, n, kept, n);
+    let longer = agreed(kind, source, glyphs, lookups, 0, n, kept, n + LONGER);
+    short + exact + longer
+}
+
+// How many agree of the calls that have no room, since `n` bytes are needed.
+fn short_calls(kind: usize, source: &[u8], glyphs: &[u8], lookups: &[u8], n: usize) -> usize
+    ensures { λ r. ⌜ r ≤ 3 ⌝ }
+{
+    if n == 0 {
+        return 0;
+    }
+    if SPACE < n {
+        return 0;
+    }
+    let empty = agreed(kind, source, glyphs, lookups, 10, n, b"", 0);
+    let half = agreed(kind, source, glyphs, lookups, 10, n, b"", n / 2);
+    let short = agreed(kind, source, glyphs, lookups, 10, n, b"", n - 1);
+    empty + half + short
+}
+
+// How many agree of the calls that are refused by this number.
+fn refused_calls(kind: usize, source: &[u8], glyphs: &[u8], lookups: &[u8], answer: usize) -> usize
+    ensures { λ r. ⌜ r ≤ 3 ⌝ }
+{
+    let empty = agreed(kind, source, glyphs, lookups, answer, 0, b"", 0);
+    let small = agreed(kind, source, glyphs, lookups, answer, 0, b"", LONGER);
+    let large = agreed(kind, source, glyphs, lookups, answer, 0, b"", SPACE);
+    empty + small + large
+}
+
+// How many agree of the calls with this answer.
+fn calls(
+    kind: usize,
+    source: &[u8],
+    glyphs: &[u8],
+    lookups: &[u8],
+    answer: usize,
+    len: usize,
+    kept: &[u8],
+) -> usize
+    ensures { λ r. ⌜ r ≤ 3 ⌝ }
+{
+    if answer == 0 {
+        return kept_calls(kind, source, glyphs, lookups, kept);
+    }
+    if answer == 10 {
+        return short_calls(kind, source, glyphs, lookups, len);
+    }
+    refused_calls(kind, source, glyphs, lookups, answer)
+}
+
+// Prints a label and a number where not every call agreed; how many did.
+fn verdict(label: &[u8], n: usize, good: usize) -> usize
+    requires { ⌜ good ≤ 3 ⌝ }
+    ensures { λ r. ⌜ r ≤ 3 ⌝ }
+{
+    if good < TIMES {
+        text(label);
+        number(n);
+        text(b" differs\n");
+    }
+    good
+}
+
+// How many kept bytes a stored call has: none where there was no room for them.
+fn kept_len(file: &[u8], at: usize) -> usize
+    requires { ⌜ at ≤ 200000 ⌝ }
+    ensures { λ r. ⌜ r < 65536 ⌝ }
+{
+    if word_at(file, at + 2) == 10 {
+        return 0;
+    }
+    word_at(file, at + 10)
+}
+
+// How many agree of the calls of a stored call, which is the one of this index.
+fn stored(index: usize, call: &[u8]) -> usize
+    ensures { λ r. ⌜ r ≤ 3 ⌝ }
+{
+    let glyphs = HEADER + word_at(call, 4);
+    let lookups = glyphs + word_at(call, 6);
+    let kept = lookups + word_at(call, 8);
+    let end = kept + kept_len(call, 0);
+    if call.len() < end {
+        return 0;
+    }
+    let good = calls(
+        word_at(call, 0),
+        &call[HEADER..glyphs],
+        &call[glyphs..lookups],
+        &call[lookups..kept],
+        word_at(call, 2),
+        word_at(call, 10),
+        &call[kept..end],
+    );
+    verdict(b"stored call ", index, good)
+}
+
+// The bytes of the stored call at `at`.
+fn call_size(file: &[u8], at: usize) -> usize
+    requires { ⌜ at ≤ 200000 ⌝ }
+    ensures { λ r. ⌜ (12 ≤ r) × (r ≤ 300000) ⌝ }
+{
+    let parts = word_at(file, at + 4) + word_at(file, at + 6) + word_at(file, at + 8);
+    HEADER + parts + kept_len(file, at)
+}
+
+// Prints how many of the calls agreed.
+fn summary(made: usize, good: usize)
+    requires { ⌜ good ≤ made ⌝ }
+{
+    number(good);
+    text(b" calls agreed, ");
+    number(made - good);
+    text(b" differed\n");
+}
+
+// Prints that the file does not end where a stored call does.
+fn cut_short() {
+    text(b"the last stored call is cut short\n");
+}
+
+// Runs the stored calls, and prints how many of these and of those that were made before agreed.
+fn run(file: &[u8], made: usize, good: usize)
+    requires { ⌜ (length (now file) ≤ 200000) × (made ≤ 65536) × (good ≤ made) ⌝ }
+{
+    let mut at = 0;
+    let mut index = 0;
+    let mut agreeing = 0;
+    while at < file.len() {
+        let end = at + call_size(file, at);
+        if file.len() < end {
+            return cut_short();
+        }
+        agreeing += stored(index, &file[at..end]);
+        index += 1;
+        at = end;
+    }
+    summary(made + TIMES * index, good + agreeing)
+}
+
+// Sources of zeros, of the most bytes that a source may have: the kind has no format 0.
+fn longest_source(kind: usize) -> usize
+    ensures { λ r. ⌜ r ≤ 3 ⌝ }
+{
+    let source = [0u8; 65536];
+    let good = refused_calls(kind, &source, b"", b"", 5);
+    verdict(b"the longest source of kind ", kind, good)
+}
+
+// Sources of zeros, of one byte more.
+fn long_source(kind: usize) -> usize
+    ensures { λ r. ⌜ r ≤ 3 ⌝ }
+{
+    let source = [0u8; 65537];
+    let good = refused_calls(kind, &source, b"", b"", 4);
+    verdict(b"a longer source of kind ", kind, good)
+}
+
+// How many agree of the calls on both, of this kind.
+fn sources(kind: usize) -> usize
+    ensures { λ r. ⌜ r ≤ 6 ⌝ }
+{
+    longest_source(kind) + long_source(kind)
+}
+
+// Coverage offsets of a context of format 3, from the first place on: `n` that are `step` apart.
+fn put_offsets(out: &mut [u8], n: usize, first: usize, step: usize)
+    requires { ⌜ (n ≤ 65536) × (first ≤ 196608) × (step ≤ 65536) ⌝ }
+{
+    let mut offset = first;
+    let mut i = 0;
+    while i < n {
+        put(out, 6 + 2 * i, offset);
+        offset += step;
+        i += 1;
+    }
+}
+
+// A coverage of `n` glyphs, two apart, from `first` on, in format 1.
+fn put_cover(out: &mut [u8], at: usize, n: usize, first: usize)
+    requires { ⌜ (at < 0x1_0000_0000_0000) × (n ≤ 65536) × (first ≤ 65536) ⌝ }
+{
+    put_entry(out, at, 1, n);
+    let mut i = 0;
+    while i < n {
+        put(out, at + 4 + 2 * i, first + 2 * i);
+        i += 1;
+    }
+}
+
+// As many such coverages as `times` says, one after the other.
+fn put_covers(out: &mut [u8], at: usize, times: usize, n: usize, first: usize)
+    requires { ⌜ (at ≤ 196608) × (times ≤ 65536) × (n ≤ 65536) × (first ≤ 65536) ⌝ }
+{
+    let mut p = at;
+    let mut i = 0;
+    while i < times {
+        put_cover(out, p, n, first);
+        p += 4 + 2 * n;
+        i += 1;
+    }
+}
+
+// A map of `n` glyphs, each to the one after it: 1, 3 and so on.
+fn put_map(out: &mut [u8], n: usize)
+    requires { ⌜ n ≤ 65536 ⌝ }
+{
+    let mut i = 0;
+    while i < n {
+        put_entry(out, 4 * i, 1 + 2 * i, 2 + 2 * i);
+        i += 1;
+    }
+}
+
+// A context of format 3 at `places` places, each of `n` glyphs, that share one coverage.
+fn put_source(out: &mut [u8], places: usize, n: usize)
+    requires { ⌜ (places ≤ 65536) × (n ≤ 16) ⌝ }
+{
+    let at = 6 + 2 * places;
+    put_record(out, 0, 3, places, 0);
+    put_offsets(out, places, at, 0);
+    put_cover(out, at, n, 1);
+}
+
+// What is kept of it: each place has a coverage of its own, of the new glyphs.
+fn put_result(out: &mut [u8], places: usize, n: usize)
+    requires { ⌜ (places ≤ 65536) × (n ≤ 16) ⌝ }
+{
+    let at = 6 + 2 * places;
+    put_record(out, 0, 3, places, 0);
+    put_offsets(out, places, at, 4 + 2 * n);
+    put_covers(out, at, places, n, 2);
+}
+
+// How many agree of the calls whose plain layout has 65,536 bytes: 6,553 places of two glyphs.
+fn largest_layout() -> usize
+    ensures { λ r. ⌜ r ≤ 3 ⌝ }
+{
+    let mut source = [0u8; 13120];
+    put_source(&mut source, 6553, 2);
+    let mut glyphs = [0u8; 8];
+    put_map(&mut glyphs, 2);
+    let mut kept = [0u8; 65536];
+    put_result(&mut kept, 6553, 2);
+    let good = kept_calls(1, &source, &glyphs, b"", &kept);
+    verdict(b"a plain layout of ", 65536, good)
+}
+
+// How many agree of the calls whose plain layout has 65,538 bytes: 5,461 places of three glyphs.
+fn larger_layout() -> usize
+    ensures { λ r. ⌜ r ≤ 3 ⌝ }
+{
+    let mut source = [0u8; 10938];
+    put_source(&mut source, 5461, 3);
+    let mut glyphs = [0u8; 12];
+    put_map(&mut glyphs, 3);
+    let good = refused_calls(1, &source, &glyphs, b"", 9);
+    verdict(b"a plain layout of ", 65538, good)
+}
+
+// How many agree of the calls at the limits.
+fn limits() -> usize
+    ensures { λ r. ⌜ r ≤ 30 ⌝ }
+{
+    let contexts = sources(1) + sources(2);
+    let others = sources(3) + sources(4);
+    contexts + others + largest_layout() + larger_layout()
+}
+
+fn main() {
+    let good = limits();
+    let mut file = [0u8; FILE];
+    let n = io::read_full(0, &mut file);
+    run(&file[..n], 10 * TIMES, good);
+}

@@ -1,0 +1,127 @@
+//! Gillcurtain: a proved subsetter of OpenType layout subtables.
+//!
+//! [`subset`] cuts one subtable down to the glyphs and lookups that are kept, or refuses. It asks
+//! the system for nothing, keeps nothing between calls and takes no lock.
+
+use std::fmt;
+
+/// The kinds of subtable.
+pub const CONTEXT: u64 = 1;
+pub const CHAINED: u64 = 2;
+pub const LIGATURE: u64 = 3;
+pub const PAIR: u64 = 4;
+
+/// The stack, in bytes, that a call may use at most. A thread that Rust starts has more, unless it
+/// was asked for less. With too little, the call ends the process at the stack's guard page.
+pub const STACK: usize = 7 << 18;
+
+/// What comes back. Where several refusals apply, the first of them is given.
+#[derive(Clone, Copy, Debug, PartialEq, Eq)]
+pub enum Answer {
+    /// The small subtable has so many bytes, and stands at the front of the buffer.
+    Kept(usize),
+    BadKind,
+    BadGlyphs,
+    BadLookups,
+    LongSource,
+    BadFormat,
+    Malformed,
+    Device,
+    Nothing,
+    TooBig,
+    /// The buffer is too short; so many bytes are needed.
+    NoRoom(usize),
+}
+
+#[link(name = "subset", kind = "static")]
+extern "C" {
+    fn gillcurtain_subset(
+        kind: u64,
+        source: *const u8,
+        source_len: usize,
+        glyphs: *const u8,
+        glyphs_len: usize,
+        lookups: *const u8,
+        lookups_len: usize,
+        out: *mut u8,
+        out_len: usize,
+    ) -> u64;
+}
+
+/// Cuts `source`, a subtable of this kind. `glyphs` and `lookups` are maps: entries of four bytes,
+/// the old number and the new one, both big-endian, with the old numbers ascending, and in
+/// `glyphs` the new ones too. Bytes of `out` after the small subtable keep what they held, and a
+/// refusal writes nothing.
+pub fn subset(kind: u64, source: &[u8], glyphs: &[u8], lookups: &[u8], out: &mut [u8]) -> Answer {
+    // SAFETY: each pointer comes with the length of its slice, `out` is lent to nobody else, and
+    // nothing is asked of what the bytes are.
+    let result = unsafe {
+        gillcurtain_subset(
+            kind,
+            source.as_ptr(),
+            source.len(),
+            glyphs.as_ptr(),
+            glyphs.len(),
+            lookups.as_ptr(),
+            lookups.len(),
+            out.as_mut_ptr(),
+            out.len(),
+        )
+    };
+    answer(result >> 32, (result & 0xFFFF_FFFF) as usize)
+}
+
+/// The answer of this number, with its length.
+fn answer(number: u64, length: usize) -> Answer {
+    match number {
+        0 => Answer::Kept(length),
+        1 => Answer::BadKind,
+        2 => Answer::BadGlyphs,
+        3 => Answer::BadLookups,
+        4 => Answer::LongSource,
+        5 => Answer::BadFormat,
+        6 => Answer::Malformed,
+        7 => Answer::Device,
+        8 => Answer::Nothing,
+        9 => Answer::TooBig,
+        10 => Answer::NoRoom(length),
+        _ => unreachable!("the call gives the numbers 0 to 10"),
+    }
+}
+
+impl Answer {
+    /// The number of the answer.
+    pub fn number(self) -> u32 {
+        match self {
+            Answer::Kept(_) => 0,
+            Answer::BadKind => 1,
+            Answer::BadGlyphs => 2,
+            Answer::BadLookups => 3,
+            Answer::LongSource => 4,
+            Answer::BadFormat => 5,
+            Answer::Malformed => 6,
+            Answer::Device => 7,
+            Answer::Nothing => 8,
+            Answer::TooBig => 9,
+            Answer::NoRoom(_) => 10,
+        }
+    }
+}
+
+impl fmt::Display for Answer {
+    fn fmt(&self, f: &mut fmt::Formatter) -> fmt::Result {
+        f.write_str(match self {
+            Answer::Kept(_) => "kept",
+            Answer::BadKind => "the kind is none of 1 to 4",
+            Answer::BadGlyphs => "the glyph map is not good",
+            Answer::BadLookups => "the lookup map is not good",
+            Answer::LongSource => "the source is over 65,536 bytes",
+            Answer::BadFormat => "the kind has no such format",
+            Answer::Malformed => "the source is malformed",
+            Answer::Device => "a value format asks for a device table",
+            Answer::Nothing => "nothing survives",
+            Answer::TooBig => "the result is over 65,536 bytes",
+            Answer::NoRoom(_) => "the buffer is too short",
+        })
+    }
+}
