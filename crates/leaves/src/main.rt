@@ -11,6 +11,7 @@ ghost use mathlib.Core.Bool.{true};
 ghost use Prim.Native.Nat.{_≤_};
 ghost use Rattle.meaning.specs.Words.{ascends, keys};
 ghost use Rattle.meaning.specs.Maps.{mapEntries};
+ghost use Rattle.maps.specs.Forms.{mapOf};
 ghost use Rattle.meaning.specs.Parts.{coverageSound, classesSound};
 ghost use Rattle.classes.specs.Filled.{Ranked};
 
@@ -202,7 +203,7 @@ fn wire_cases() {
 
 // A number and its new one.
 fn look(m: &[u8], old: usize)
-    requires { ⌜ ascends (keys (mapEntries (now m))) ≡ true ⌝ }
+    requires { ⌜ ascends (keys (mapOf (now m))) ≡ true ⌝ }
 {
     number(b" ", old);
     match find(m, old) {
@@ -213,7 +214,7 @@ fn look(m: &[u8], old: usize)
 
 // Three numbers, each with its new one.
 fn looks(m: &[u8], a: usize, b: usize, c: usize)
-    requires { ⌜ ascends (keys (mapEntries (now m))) ≡ true ⌝ }
+    requires { ⌜ ascends (keys (mapOf (now m))) ≡ true ⌝ }
 {
     look(m, a);
     look(m, b);

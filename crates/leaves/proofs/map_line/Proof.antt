@@ -2,13 +2,16 @@
 use mathlib.Core.Path.{sym, _∙_}
 use borrow.Author.Needs.{needs}
 use Rattle.laws.specs.Ascends.{lookups-ascend}
+use Rattle.maps.specs.Forms.{of-lookups}
 use Rattle.leaves.proofs.map_line.Statement.{statement}
 use Rattle.leaves.proofs.map_line.Tie as tie
 
 looks-requires : tie.Need-looks-requires
 looks-requires c κs =
     let g = c .before .before .before in
-    lookups-ascend (g .before .before .before .before .before .before .before .args .m .now) (sym (g .good-lookups .ensures) ∙ c .if1 .taken)
+    let m = g .before .before .before .before .before .before .before .args .m .now in
+    let good = sym (g .good-lookups .ensures) ∙ c .if1 .taken in
+    rw (of-lookups m good) (lookups-ascend m good)
 
 pub map-line-spec : {M : Type 1} → statement M
 map-line-spec =
