@@ -1,4 +1,6 @@
 // Malformed, over the whole source: the header of each kind and format, and through its offsets every part, retained or not.
+use view::below;
+use view::header;
 use wire::Fault;
 use wire::inside;
 use wire::lowest;
@@ -57,7 +59,7 @@ fn check_through(part: Part, src: &[u8], slot: usize, n: usize) -> Fault
 fn enough_sets(src: &[u8], n: usize) -> bool
     ensures { λ r. ⌜ r ≡ enough (now (src .entry)) n ⌝ }
 {
-    let at = word_at(src, 2);
+    let at = below(src, 2);
     if at == 0 {
         return true;
     }
@@ -147,7 +149,7 @@ fn check_by_class(chained: bool, src: &[u8]) -> Fault
 fn check_by_glyph(chained: bool, src: &[u8]) -> Fault
     ensures { λ r. ⌜ r ≡ faultOf (byGlyphFault chained (now (src .entry))) ⌝ }
 {
-    let good = enough_sets(src, word_at(src, 4));
+    let good = enough_sets(src, header(src, 4));
     if chained {
         return check_header(src, good, 0, 4, Part::ChainedRules);
     }
@@ -158,7 +160,7 @@ fn check_by_glyph(chained: bool, src: &[u8]) -> Fault
 fn check_context(chained: bool, src: &[u8]) -> Fault
     ensures { λ r. ⌜ r ≡ faultOf (contextFault chained (now (src .entry))) ⌝ }
 {
-    let format = word_at(src, 0);
+    let format = header(src, 0);
     match format {
         1 => check_by_glyph(chained, src),
         2 => check_by_class(chained, src),
@@ -170,26 +172,20 @@ fn check_context(chained: bool, src: &[u8]) -> Fault
 fn check_ligatures(src: &[u8]) -> Fault
     ensures { λ r. ⌜ r ≡ faultOf (ligaturesFault (now (src .entry))) ⌝ }
 {
-    check_header(
-        src,
-        enough_sets(src, word_at(src, 4)),
-        0,
-        4,
-        Part::Ligatures,
-    )
+    check_header(src, enough_sets(src, header(src, 4)), 0, 4, Part::Ligatures)
 }
 
 // Whether the bits 0xFF00 of both value formats are zero, and there is a set for each covered glyph.
 fn pair_fields(src: &[u8]) -> bool
     ensures { λ r. ⌜ r ≡ pairFields (now (src .entry)) ⌝ }
 {
-    if 256 <= word_at(src, 4) {
+    if 256 <= header(src, 4) {
         return false;
     }
-    if 256 <= word_at(src, 6) {
+    if 256 <= header(src, 6) {
         return false;
     }
-    enough_sets(src, word_at(src, 8))
+    enough_sets(src, header(src, 8))
 }
 
 // A pair table.

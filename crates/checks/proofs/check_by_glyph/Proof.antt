@@ -6,12 +6,12 @@ use Rattle.checks.proofs.check_by_glyph.Tie as tie
 returns : tie.Need-returns
 returns c =
     let e = c .before .before in
-    rw (c .before .if1 .taken) (rw (e .enough-sets .ensures, e .before .word-at .ensures .0) at (c .check-header .ensures))
+    rw (c .before .if1 .taken) (rw (e .enough-sets .ensures, e .before .header .ensures .0) at (c .check-header .ensures))
 
 returns-2 : tie.Need-returns-2
 returns-2 c =
     let e = c .before .before in
-    rw (c .before .if1 .left) (rw (e .enough-sets .ensures, e .before .word-at .ensures .0) at (c .check-header2 .ensures))
+    rw (c .before .if1 .left) (rw (e .enough-sets .ensures, e .before .header .ensures .0) at (c .check-header2 .ensures))
 
 pub check-by-glyph-spec : {M : Type 1} → statement M
 check-by-glyph-spec =

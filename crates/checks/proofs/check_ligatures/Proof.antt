@@ -6,7 +6,7 @@ use Rattle.checks.proofs.check_ligatures.Tie as tie
 returns : tie.Need-returns
 returns c =
     let e = c .before in
-    rw (e .enough-sets .ensures, e .before .word-at .ensures .0) at (c .check-header .ensures)
+    rw (e .enough-sets .ensures, e .before .header .ensures .0) at (c .check-header .ensures)
 
 pub check-ligatures-spec : {M : Type 1} → statement M
 check-ligatures-spec =

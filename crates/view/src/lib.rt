@@ -1,0 +1,80 @@
+// A table view: the source and a place in it. The thin functions over it read a field and move to the subtable that an offset field reaches;
+// each takes the view apart and leaves the work to a function on the plain slice.
+use wire::word_at;
+ghost use mathlib.Core.Path.{_≡_};
+ghost use Prim.Native.Nat.{_+_, _<_};
+ghost use Rattle.meaning.specs.Words.{word};
+
+// The source of a table, and the place where the table starts.
+pub struct View<'a> {
+    pub src: &'a [u8],
+    pub at: usize,
+}
+
+// The field `i` bytes after `at`; past the end it reads as 0.
+fn field_at(src: &[u8], at: usize, i: usize) -> usize
+    ensures { λ r. ⌜ (r ≡ word (now (src .entry)) (at + i)) × (r < 65536) ⌝ }
+{
+    if src.len() <= at {
+        return 0;
+    }
+    if src.len() <= i {
+        return 0;
+    }
+    word_at(src, at + i)
+}
+
+// The place that the offset field `i` bytes after `at` reaches, from `at` on.
+fn place_at(src: &[u8], at: usize, i: usize) -> usize
+    ensures { λ r. ⌜ (r ≡ at + word (now (src .entry)) (at + i)) × (r < at + 65536) ⌝ }
+{
+    if src.len() <= at {
+        return at;
+    }
+    at + field_at(src, at, i)
+}
+
+// The table at the front of a source.
+pub fn at_front<'a>(src: &'a [u8]) -> View<'a>
+    ensures { λ r. ⌜ (r .src ≡ src .entry) × (r .at ≡ 0) ⌝ }
+{
+    View { src, at: 0 }
+}
+
+// The place where a table starts.
+pub fn place<'a>(v: View<'a>) -> usize
+    ensures { λ r. ⌜ r ≡ v .entry .at ⌝ }
+{
+    v.at
+}
+
+// The field of a table that stands `i` bytes after its start.
+pub fn field<'a>(v: View<'a>, i: usize) -> usize
+    ensures { λ r. ⌜ (r ≡ word (now (v .entry .src)) (v .entry .at + i)) × (r < 65536) ⌝ }
+{
+    field_at(v.src, v.at, i)
+}
+
+// The subtable that the offset field `i` bytes after a table's start reaches.
+pub fn to<'a>(v: View<'a>, i: usize) -> View<'a>
+    ensures { λ r. ⌜ (r .src ≡ v .entry .src) × (r .at ≡ v .entry .at + word (now (v .entry .src)) (v .entry .at + i)) × (r .at < v .entry .at + 65536) ⌝ }
+{
+    View {
+        src: v.src,
+        at: place_at(v.src, v.at, i),
+    }
+}
+
+// A field of the table at the front of a source.
+pub fn header(src: &[u8], i: usize) -> usize
+    ensures { λ r. ⌜ (r ≡ word (now (src .entry)) i) × (r < 65536) ⌝ }
+{
+    field(at_front(src), i)
+}
+
+// The place of the subtable that an offset field of the table at the front of a source reaches; 0 where the offset is null.
+pub fn below(src: &[u8], i: usize) -> usize
+    ensures { λ r. ⌜ (r ≡ word (now (src .entry)) i) × (r < 65536) ⌝ }
+{
+    place(to(at_front(src), i))
+}
