@@ -1,4 +1,4 @@
-// Runs stored calls from standard input, and calls at the limits that are made here, and prints how many answered as they should.
+// Runs stored calls from standard input, and calls at the limits and on large tables that are made here, and prints how many answered as they should.
 // Each is made three times: what is kept on a buffer that is one byte short, on one that is exact and on one that is longer, what has no room on three that are too short,
 // and any other refusal on an empty, a small and a large buffer.
 // Number, length and the whole buffer are compared.
@@ -358,7 +358,7 @@ fn put_map(out: &mut [u8], n: usize)
 
 // A context of format 3 at `places` places, each of `n` glyphs, that share one coverage.
 fn put_source(out: &mut [u8], places: usize, n: usize)
-    requires { ⌜ (places ≤ 65536) × (n ≤ 16) ⌝ }
+    requires { ⌜ (places ≤ 65536) × (n ≤ 16384) ⌝ }
 {
     let at = 6 + 2 * places;
     put_record(out, 0, 3, places, 0);
@@ -368,7 +368,7 @@ fn put_source(out: &mut [u8], places: usize, n: usize)
 
 // What is kept of it: each place has a coverage of its own, of the new glyphs.
 fn put_result(out: &mut [u8], places: usize, n: usize)
-    requires { ⌜ (places ≤ 65536) × (n ≤ 16) ⌝ }
+    requires { ⌜ (places ≤ 65536) × (n ≤ 16384) ⌝ }
 {
     let at = 6 + 2 * places;
     put_record(out, 0, 3, places, 0);
@@ -402,6 +402,136 @@ fn larger_layout() -> usize
     verdict(b"a plain layout of ", 65538, good)
 }
 
+// How many agree of the calls on 9,000 covered glyphs.
+fn many_covered() -> usize
+    ensures { λ r. ⌜ r ≤ 3 ⌝ }
+{
+    let mut source = [0u8; 18012];
+    put_source(&mut source, 1, 9000);
+    let mut glyphs = [0u8; 36000];
+    put_map(&mut glyphs, 9000);
+    let mut kept = [0u8; 18012];
+    put_result(&mut kept, 1, 9000);
+    let good = kept_calls(1, &source, &glyphs, b"", &kept);
+    verdict(b"covered glyphs: ", 9000, good)
+}
+
+// A map of the first `n` glyphs, each to itself.
+fn put_same(out: &mut [u8], n: usize)
+    requires { ⌜ n ≤ 65536 ⌝ }
+{
+    let mut i = 0;
+    while i < n {
+        put_entry(out, 4 * i, i, i);
+        i += 1;
+    }
+}
+
+// The offsets of the `n` rules of a set from `at` on, and the rules: each of two glyphs, the second being the rule's index.
+fn put_rules(out: &mut [u8], at: usize, n: usize)
+    requires { ⌜ (at ≤ 65536) × (n ≤ 65536) ⌝ }
+{
+    let mut i = 0;
+    while i < n {
+        put(out, at + 2 * i, 2 + 2 * n + 6 * i);
+        put_record(out, at + 2 * n + 6 * i, 2, 0, i);
+        i += 1;
+    }
+}
+
+// How many agree of the calls on a set of 1,000 rules, of which all are kept: the source is as its plain layout has it.
+fn many_rules() -> usize
+    ensures { λ r. ⌜ r ≤ 3 ⌝ }
+{
+    let mut source = [0u8; 8016];
+    put_record(&mut source, 0, 1, 8010, 1);
+    put_entry(&mut source, 6, 8, 1000);
+    put_rules(&mut source, 10, 1000);
+    put_record(&mut source, 8010, 1, 1, 0);
+    let mut glyphs = [0u8; 4000];
+    put_same(&mut glyphs, 1000);
+    let good = kept_calls(1, &source, &glyphs, b"", &source);
+    verdict(b"rules in a set: ", 1000, good)
+}
+
+// The advance of the pair with this second glyph: -1, -32768 or 32767.
+fn advance(glyph: usize) -> usize
+    ensures { λ r. ⌜ r < 65536 ⌝ }
+{
+    match glyph % 3 {
+        0 => 65535,
+        1 => 32768,
+        _ => 32767,
+    }
+}
+
+// A pair set at `at`: the first `n` glyphs, each with its advance.
+fn put_pairs(out: &mut [u8], at: usize, n: usize)
+    requires { ⌜ (at < 0x1_0000_0000) × (n ≤ 65536) ⌝ }
+{
+    put(out, at, n);
+    let mut i = 0;
+    while i < n {
+        put_entry(out, at + 2 + 4 * i, i, advance(i));
+        i += 1;
+    }
+}
+
+// A pair table whose first `n` glyphs are covered and whose sets are `step` apart, the first right after the offsets: all but the sets. The coverage stands at `cover`.
+fn put_pair_table(out: &mut [u8], n: usize, step: usize, cover: usize)
+    requires { ⌜ (n ≤ 65536) × (step ≤ 65536) × (cover ≤ 65536) ⌝ }
+{
+    put_record(out, 0, 1, cover, 4);
+    put_entry(out, 6, 0, n);
+    put_record(out, cover, 2, 1, 0);
+    put(out, cover + 8, 0);
+    let mut p = 10 + 2 * n;
+    let mut i = 0;
+    while i < n {
+        put(out, 10 + 2 * i, p);
+        p += step;
+        i += 1;
+    }
+}
+
+// A set of `n` pairs for each of `n` glyphs, one after the other from `at` on.
+fn put_pair_sets(out: &mut [u8], at: usize, n: usize)
+    requires { ⌜ (at ≤ 65536) × (n ≤ 256) ⌝ }
+{
+    let mut p = at;
+    let mut i = 0;
+    while i < n {
+        put_pairs(out, p, n);
+        p += 2 + 4 * n;
+        i += 1;
+    }
+}
+
+// How many agree of the calls on 300 glyphs that share a set of 300 pairs, of which the first 100 are retained.
+fn wide_pairs() -> usize
+    ensures { λ r. ⌜ r ≤ 3 ⌝ }
+{
+    let mut source = [0u8; 1822];
+    put_pair_table(&mut source, 300, 0, 1812);
+    put(&mut source, 1818, 299);
+    put_pairs(&mut source, 610, 300);
+    let mut glyphs = [0u8; 400];
+    put_same(&mut glyphs, 100);
+    let mut kept = [0u8; 40420];
+    put_pair_table(&mut kept, 100, 402, 40410);
+    put(&mut kept, 40416, 99);
+    put_pair_sets(&mut kept, 210, 100);
+    let good = kept_calls(4, &source, &glyphs, b"", &kept);
+    verdict(b"pairs of a shared set: ", 300, good)
+}
+
+// How many agree of the calls on large tables.
+fn large_tables() -> usize
+    ensures { λ r. ⌜ r ≤ 9 ⌝ }
+{
+    many_covered() + many_rules() + wide_pairs()
+}
+
 // How many agree of the calls at the limits.
 fn limits() -> usize
     ensures { λ r. ⌜ r ≤ 30 ⌝ }
@@ -412,8 +542,8 @@ fn limits() -> usize
 }
 
 fn main() {
-    let good = limits();
+    let good = limits() + large_tables();
     let mut file = [0u8; FILE];
     let n = io::read_full(0, &mut file);
-    run(&file[..n], 10 * TIMES, good);
+    run(&file[..n], 13 * TIMES, good);
 }
