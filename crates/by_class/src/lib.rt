@@ -1,6 +1,7 @@
 // Format 2 of contexts, plain and chained: sets of rules by class. From bytes to bytes.
 // `back`, `input` and `ahead` are the class maps of the three class tables, `covered` has the classes that retained covered glyphs hold, and `slots` has the places of the sets in the source.
 // All of these are lent scratch, and so is `work`.
+// The work: the class of each retained glyph, for each class table, by halving of its ranges; and one look at the set of each surviving class, whether it survives.
 use classes::list_new;
 use classes::rank;
 use classes::size;

@@ -1,4 +1,5 @@
 // Format 1 of each kind: sets by coverage index. A set is kept exactly if it isn't null, the covered glyph that indexes it is retained and something in it survives; the coverage keeps just these glyphs.
+// The work: a question to the glyph map for each covered glyph, and one look at each set of a retained glyph, whether it survives; sets that do not are not read again.
 use coverage::count;
 use coverage::glyph_at;
 use coverage::size;

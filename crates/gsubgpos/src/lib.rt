@@ -1,4 +1,6 @@
 // Sets of rules of contexts, plain and chained: checked, sized and written.
+// The work: the check looks once at the counts of each rule. Whether a set survives takes a question to a map for each number of a rule up to the first that is gone, and ends with the first rule that survives.
+// Its size and its bytes take such questions for each rule, and one for each record. A question is one reading, or halving: then it grows with the logarithm of the map.
 use rules::check_rule;
 use rules::rule_size;
 use rules::rule_survives;
