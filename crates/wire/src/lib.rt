@@ -25,15 +25,15 @@ pub fn byte(s: &[u8], at: usize) -> usize
     0
 }
 
-// The word at `at`; bytes past the end read as 0.
+// The word at `at`; bytes past the end read as 0. Both bytes are read after one test, so that they are read at once.
 pub fn word_at(s: &[u8], at: usize) -> usize
     ensures { λ r. ⌜ (r ≡ word (now (s .entry)) at) × (r < 65536) ⌝ }
 {
-    if s.len() <= at {
-        return 0;
+    if s.len() < 2 {
+        return byte(s, at) * 256;
     }
-    if s.len() <= at + 1 {
-        return s[at] as usize * 256;
+    if s.len() - 1 <= at {
+        return byte(s, at) * 256;
     }
     s[at] as usize * 256 + s[at + 1] as usize
 }
@@ -53,10 +53,13 @@ pub fn ascending(s: &[u8], at: usize, n: usize, step: usize) -> bool
 {
     let mut p = at;
     let mut left = n;
+    let mut last = word_at(s, at);
     while 1 < left {
-        if word_at(s, p + step) <= word_at(s, p) {
+        let next = word_at(s, p + step);
+        if next <= last {
             return false;
         }
+        last = next;
         p += step;
         left -= 1;
     }
