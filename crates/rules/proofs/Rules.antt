@@ -1,20 +1,22 @@
 -- What is left of a rule, by the parts that stand in its source.
-use Prim.Native.Nat.{ℕ, suc, _+_, _*_, _≤_, _<_}
+use Prim.Native.Nat.{ℕ, suc, _+_, _-_, _*_, _/_, _≤_, _<_}
 use mathlib.Core.Path.{_≡_, refl, sym, ap, _∙_}
 use mathlib.Core.Bool.{Bool, true, false, cond, _&&_, not}
 use mathlib.Core.Option.{Option, none, some}
 use mathlib.Core.List.{List, [], _∷_, _++_, append-assoc}
 use native.Mathlib.Omega.{arith}
 use lib.ListN.{length, length-append}
-use borrow.Author.Tests.{not-true, not-false}
-use Rattle.meaning.specs.Words.{words, entries, twos, find, isSome, bind, push, mapAll, mapSome}
+use lib.Seq.{sets}
+use lib.Dec.{eqb}
+use borrow.Author.Tests.{not-true, not-false, eq-eqb, ne-eqb}
+use Rattle.meaning.specs.Words.{words, entries, twos, flat, bytes2, find, isSome, bind, push, mapAll, mapSome}
 use Rattle.maps.specs.Forms.{mapOf}
 use Rattle.meaning.specs.Tables.{plainRule, rule}
 use Rattle.meaning.specs.Cut.{cutRecords, cutRule}
 use Rattle.meaning.specs.Layout.{ruleWords}
 use Rattle.laws.specs.Stands.{twos-length}
 use Rattle.laws.specs.Left.{words-length, entries-length}
-use Rattle.laws.specs.Written.{Wrote, wrote-more}
+use Rattle.laws.specs.Written.{Wrote, wrote-more, sets-before}
 use Rattle.laws.specs.Members.{wordsLeft}
 use Rattle.rules.specs.Left.{mapsOf, ruleLeft, countStays, renumberedRule, stays, cut-rule, rule-stays}
 use Rattle.rules.specs.Parts.{IsRule}
@@ -42,27 +44,62 @@ wrote-on {vs = vs} k l = wrote-more vs k (l .place) (l .bytes)
 pub row-length : (s map : List ℕ) (row : Row) → length (rowNew s map row) ≡ row .len
 row-length s map row = renumbered-length (mapOf map) (words s (row .at) (row .len)) ∙ words-length s (row .at) (row .len)
 
--- The ways through `rule_survives`: whether a rule stays, by its count and its three rows.
+-- words in the place that was left for them, once what follows them is written
+pub one-before : {out one two : List ℕ} {pos end : ℕ} (w : ℕ) {ws : List ℕ} → Wrote out (pos + 2) ws one end → two ≡ sets one pos (bytes2 w) → Wrote out pos (w ∷ ws) two end
+unfolding flat bytes2
+one-before {out} {pos = pos} w {ws} k e = record { place = omega (arith, k .place); bytes = rw (e, k .bytes) (sets-before (bytes2 w) out pos (flat ws)) }
+
+pub two-before : {out one two : List ℕ} {pos end : ℕ} (v w : ℕ) {ws : List ℕ} → Wrote out (pos + 4) ws one end → two ≡ sets one pos (flat (v ∷ w ∷ [])) → Wrote out pos (v ∷ w ∷ ws) two end
+unfolding flat bytes2
+two-before {out} {pos = pos} v w {ws} k e = record { place = omega (arith, k .place); bytes = rw (e, k .bytes) (sets-before (flat (v ∷ w ∷ [])) out pos (flat ws)) }
+
+-- how many records were written, by the bytes that they take
+pub records-count : (rs : List (ℕ × ℕ)) {out one : List ℕ} {pos end n : ℕ} → Wrote out pos (twos rs) one end → n ≡ end - pos → n / 4 ≡ length rs
+records-count rs k e = omega (arith, k .place, twos-length rs)
+
+-- The ways through `chained_survives` and `plain_survives`: whether a rule stays, by its count and its three rows.
 module _ {chained : Bool} {s : List ℕ} {at : ℕ} {r : RuleParts} (b i a : List ℕ) (k : IsRule chained s at r) where
   stays-by : {w x y z : Bool} → w ≡ countStays chained (r .count) → x ≡ rowSurvives s b (r .back) → y ≡ rowSurvives s i (r .input) → z ≡ rowSurvives s a (r .ahead)
       → w && (x && (y && z)) ≡ isSome (cutRule chained (mapsOf b i a []) (rule chained s at))
   unfolding stays
   stays-by e f g h = rw (e, f, g, h, k .count, k .back, k .input, k .ahead) (sym (rule-stays chained (mapsOf b i a []) (rule chained s at)))
 
-  module _ {w : Bool} (e : w ≡ countStays chained (r .count)) where
-    pub goes-by-count : not w ≡ true → false ≡ isSome (cutRule chained (mapsOf b i a []) (rule chained s at))
-    goes-by-count n = rw (not-true w n) at (stays-by e refl refl refl)
+module _ {s : List ℕ} {at : ℕ} {r : RuleParts} (b i a : List ℕ) (k : IsRule true s at r) {x : Bool} (f : x ≡ rowSurvives s b (r .back)) where
+  pub goes-by-back : not x ≡ true → false ≡ isSome (cutRule true (mapsOf b i a []) (rule true s at))
+  goes-by-back n = rw (not-true x n) at (stays-by b i a k {w = true} refl f refl refl)
 
-    module _ (stays : not w ≡ false) {x : Bool} (f : x ≡ rowSurvives s b (r .back)) where
-      pub goes-by-back : not x ≡ true → false ≡ isSome (cutRule chained (mapsOf b i a []) (rule chained s at))
-      goes-by-back n = rw (not-false w stays, not-true x n) at (stays-by e f refl refl)
+  module _ (before : not x ≡ false) {y : Bool} (g : y ≡ rowSurvives s i (r .input)) where
+    pub goes-by-input : not y ≡ true → false ≡ isSome (cutRule true (mapsOf b i a []) (rule true s at))
+    goes-by-input n = rw (not-false x before, not-true y n) at (stays-by b i a k {w = true} refl f g refl)
 
-      module _ (before : not x ≡ false) {y : Bool} (g : y ≡ rowSurvives s i (r .input)) where
-        pub goes-by-input : not y ≡ true → false ≡ isSome (cutRule chained (mapsOf b i a []) (rule chained s at))
-        goes-by-input n = rw (not-false w stays, not-false x before, not-true y n) at (stays-by e f g refl)
+    pub stays-by-ahead : not y ≡ false → {z : Bool} → z ≡ rowSurvives s a (r .ahead) → z ≡ isSome (cutRule true (mapsOf b i a []) (rule true s at))
+    stays-by-ahead n h = rw (not-false x before, not-false y n) at (stays-by b i a k {w = true} refl f g h)
 
-        pub stays-by-ahead : not y ≡ false → {z : Bool} → z ≡ rowSurvives s a (r .ahead) → z ≡ isSome (cutRule chained (mapsOf b i a []) (rule chained s at))
-        stays-by-ahead n h = rw (not-false w stays, not-false x before, not-false y n) at (stays-by e f g h)
+module _ {s : List ℕ} {at : ℕ} {r : RuleParts} (i : List ℕ) (k : IsRule false s at r) where
+  -- a plain rule has neither backtrack nor lookahead, so that its count and its input decide
+  plain-by : {w y : Bool} → w ≡ not (eqb (r .count) 0) → y ≡ rowSurvives s i (r .input) → w && y ≡ isSome (cutRule false (mapsOf [] i [] []) (rule false s at))
+  unfolding rule plainRule mapAll isSome
+  plain-by {w} {y} e g = ap (λ (z : Bool). w && z) (last y) ∙ stays-by [] i [] k {x = true} {z = true} e (rw (k .back)) g (rw (k .ahead))
+    where
+      last : (y : Bool) → y ≡ true && (y && true)
+      last true = refl
+      last false = refl
+
+  pub goes-by-count : r .count ≡ 0 → false ≡ isSome (cutRule false (mapsOf [] i [] []) (rule false s at))
+  goes-by-count z = rw (eq-eqb (r .count) 0 z) at (plain-by refl refl)
+
+  pub stays-by-input : (r .count ≡ 0 → ⊥) → {y : Bool} → y ≡ rowSurvives s i (r .input) → y ≡ isSome (cutRule false (mapsOf [] i [] []) (rule false s at))
+  stays-by-input z g = rw (ne-eqb (r .count) 0 z) at (plain-by refl g)
+
+-- the maps of backtrack and lookahead say nothing of a plain rule
+module _ (b i a l s : List ℕ) (at : ℕ) where
+  pub plain-survival : isSome (cutRule false (mapsOf b i a []) (rule false s at)) ≡ isSome (cutRule false (mapsOf [] i [] []) (rule false s at))
+  unfolding cutRule rule plainRule mapAll bind
+  plain-survival = refl
+
+  pub plain-left : ruleLeft false (mapsOf b i a l) s at ≡ ruleLeft false (mapsOf [] i [] l) s at
+  unfolding ruleLeft cutRule rule plainRule mapAll bind
+  plain-left = refl
 
 module _ (chained : Bool) (s : List ℕ) (at : ℕ) (b i a l : List ℕ) {x : Bool} (e : x ≡ isSome (cutRule chained (mapsOf b i a []) (rule chained s at))) where
   -- whether something is left does not depend on the lookups
@@ -82,7 +119,7 @@ module _ (chained : Bool) (s : List ℕ) (at : ℕ) (b i a l : List ℕ) {x : Bo
 module _ {s : List ℕ} {at : ℕ} {r : RuleParts} (b i a l : List ℕ) where
   -- the words of a plain rule, as they are written
   pub plain-words : IsRule false s at r → {k : ℕ} → k ≡ length (rowRecords s l (r .records))
-      → ((r .count ∷ k ∷ []) ++ rowNew s i (r .input)) ++ twos (rowRecords s l (r .records)) ≡ ruleWords false (renumberedRule (mapsOf b i a l) (rule false s at))
+      → r .count ∷ k ∷ (rowNew s i (r .input) ++ twos (rowRecords s l (r .records))) ≡ ruleWords false (renumberedRule (mapsOf b i a l) (rule false s at))
   unfolding ruleWords renumberedRule
   plain-words p e = rw (e, p .count, p .input, p .records)
 
@@ -95,7 +132,7 @@ module _ {s : List ℕ} {at : ℕ} {r : RuleParts} (b i a l : List ℕ) where
       rw (← (p .back), ← (p .count), ← (p .input), ← (p .ahead), ← (p .records), row-length s b (r .back), row-length s a (r .ahead)) (simp append-assoc)
 
   -- the bytes of a rule that stays
-  pub size-by : (chained : Bool) → IsRule chained s at r → {head k : ℕ} → head ≡ cond chained 8 4 → k ≡ length (rowRecords s l (r .records))
+  size-by : (chained : Bool) → IsRule chained s at r → {head k : ℕ} → head ≡ cond chained 8 4 → k ≡ length (rowRecords s l (r .records))
       → head + 2 * (r .back .len + r .input .len + r .ahead .len) + 4 * k ≡ 2 * length (ruleWords chained (renumberedRule (mapsOf b i a l) (rule chained s at)))
   unfolding rule plainRule
   size-by true p {head} {k} e f =
@@ -111,7 +148,18 @@ module _ {s : List ℕ} {at : ℕ} {r : RuleParts} (b i a l : List ℕ) where
       let R = rowRecords s l (r .records) in
       let h : head ≡ 4 = e in
       omega
-      (arith, ap length (plain-words p f), length-append ((r .count ∷ k ∷ []) ++ I) (twos R), length-append (r .count ∷ k ∷ []) I, row-length s i (r .input), twos-length R, ap length (p .back), ap length (p .ahead), words-length s (r .back .at) (r .back .len), words-length s (r .ahead .at) (r .ahead .len))
+      (arith, ap length (plain-words p f), length-append I (twos R), row-length s i (r .input), twos-length R, ap length (p .back), ap length (p .ahead), words-length s (r .back .at) (r .back .len), words-length s (r .ahead .at) (r .ahead .len))
+
+-- the same, of each sort of rule
+module _ {s : List ℕ} {at : ℕ} {r : RuleParts} (b i a l : List ℕ) {k : ℕ} (e : k ≡ length (rowRecords s l (r .records))) where
+  pub plain-size-by : IsRule false s at r → 4 + 2 * r .input .len + 4 * k ≡ 2 * length (ruleWords false (renumberedRule (mapsOf b i a l) (rule false s at)))
+  unfolding rule plainRule
+  plain-size-by p =
+      omega
+      (arith, size-by b i a l false p {head = 4} refl e, ap length (p .back), ap length (p .ahead), words-length s (r .back .at) (r .back .len), words-length s (r .ahead .at) (r .ahead .len))
+
+  pub chained-size-by : IsRule true s at r → 8 + 2 * (r .back .len + r .input .len + r .ahead .len) + 4 * k ≡ 2 * length (ruleWords true (renumberedRule (mapsOf b i a l) (rule true s at)))
+  chained-size-by p = size-by b i a l true p {head = 8} refl e
 
 -- no more records are left than there were
 records-few : (l rs : List (ℕ × ℕ)) → length (cutRecords l rs) ≤ length rs

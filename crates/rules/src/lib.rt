@@ -162,17 +162,34 @@ pub fn check_rule(chained: bool, src: &[u8], at: usize) -> Fault
     Fault::At(at)
 }
 
-// Whether a rule with this glyph count can stay: a plain rule with count 0 goes, a chained one stays.
-fn count_stays(chained: bool, count: usize) -> bool
-    ensures { λ r. ⌜ r ≡ countStays chained count ⌝ }
+// Whether something is left of the plain rule at `at`: its count is not 0, and each number of its input has a new one.
+fn plain_survives(src: &[u8], at: usize, input: &[u8]) -> bool
+    requires { ⌜ (at < 0x1000_0000_0000) × Ascends (now input) ⌝ }
+    ensures { λ r. ⌜ r ≡ isSome (cutRule false (mapsOf [] (now (input .entry)) [] []) (rule false (now (src .entry)) at)) ⌝ }
 {
-    if chained {
-        return true;
+    let r = plain_parts(src, at);
+    if r.count == 0 {
+        return false;
     }
-    count != 0
+    mapped(src, r.input.at, r.input.len, input)
 }
 
-// Whether something is left of the rule at `at`: each number of its backtrack, its input and its lookahead has a new one. Its records have no say in it.
+// Whether something is left of the chained rule at `at`: each number of its backtrack, its input and its lookahead has a new one.
+fn chained_survives(src: &[u8], at: usize, back: &[u8], input: &[u8], ahead: &[u8]) -> bool
+    requires { ⌜ (at < 0x1000_0000_0000) × NumbersAscend (now back) (now input) (now ahead) ⌝ }
+    ensures { λ r. ⌜ r ≡ isSome (cutRule true (mapsOf (now (back .entry)) (now (input .entry)) (now (ahead .entry)) []) (rule true (now (src .entry)) at)) ⌝ }
+{
+    let r = chained_parts(src, at);
+    if !mapped(src, r.back.at, r.back.len, back) {
+        return false;
+    }
+    if !mapped(src, r.input.at, r.input.len, input) {
+        return false;
+    }
+    mapped(src, r.ahead.at, r.ahead.len, ahead)
+}
+
+// Whether something is left of the rule at `at`. Its records have no say in it.
 pub fn rule_survives(
     chained: bool,
     src: &[u8],
@@ -184,27 +201,43 @@ pub fn rule_survives(
     requires { ⌜ (at < 0x1000_0000_0000) × NumbersAscend (now back) (now input) (now ahead) ⌝ }
     ensures { λ r. ⌜ r ≡ isSome (cutRule chained (mapsOf (now (back .entry)) (now (input .entry)) (now (ahead .entry)) []) (rule chained (now (src .entry)) at)) ⌝ }
 {
-    let r = rule_parts(chained, src, at);
-    if !count_stays(chained, r.count) {
-        return false;
+    if chained {
+        return chained_survives(src, at, back, input, ahead);
     }
-    if !mapped(src, r.back.at, r.back.len, back) {
-        return false;
-    }
-    if !mapped(src, r.input.at, r.input.len, input) {
-        return false;
-    }
-    mapped(src, r.ahead.at, r.ahead.len, ahead)
+    plain_survives(src, at, input)
 }
 
-// The bytes of a rule's counts: a chained rule has four, a plain one two.
-fn counts_size(chained: bool) -> usize
-    ensures { λ r. ⌜ (r ≡ cond chained 8 4) × (r ≤ 8) ⌝ }
+// The bytes of what is left of the plain rule at `at`; 0 if it goes.
+fn plain_size(src: &[u8], at: usize, input: &[u8], lookups: &[u8]) -> usize
+    requires { ⌜ (at < 0x1000_0000_0000) × Ascends (now input) × Ascends (now lookups) ⌝ }
+    ensures { λ r. ⌜ (r ≡ 2 * length (ruleLeft false (mapsOf [] (now (input .entry)) [] (now (lookups .entry))) (now (src .entry)) at)) × (r < 0x10_0000) ⌝ }
 {
-    if chained {
-        return 8;
+    if !plain_survives(src, at, input) {
+        return 0;
     }
-    4
+    let r = plain_parts(src, at);
+    let kept = records_left(src, r.records.at, r.records.len, lookups);
+    4 + 2 * r.input.len + 4 * kept
+}
+
+// The bytes of what is left of the chained rule at `at`; 0 if it goes.
+fn chained_size(
+    src: &[u8],
+    at: usize,
+    back: &[u8],
+    input: &[u8],
+    ahead: &[u8],
+    lookups: &[u8],
+) -> usize
+    requires { ⌜ (at < 0x1000_0000_0000) × AllAscend (now back) (now input) (now ahead) (now lookups) ⌝ }
+    ensures { λ r. ⌜ (r ≡ 2 * length (ruleLeft true (mapsOf (now (back .entry)) (now (input .entry)) (now (ahead .entry)) (now (lookups .entry))) (now (src .entry)) at)) × (r < 0x10_0000) ⌝ }
+{
+    if !chained_survives(src, at, back, input, ahead) {
+        return 0;
+    }
+    let r = chained_parts(src, at);
+    let kept = records_left(src, r.records.at, r.records.len, lookups);
+    8 + 2 * (r.back.len + r.input.len + r.ahead.len) + 4 * kept
 }
 
 // The bytes of what is left of the rule at `at`; 0 if it goes.
@@ -220,12 +253,10 @@ pub fn rule_size(
     requires { ⌜ (at < 0x1000_0000_0000) × AllAscend (now back) (now input) (now ahead) (now lookups) ⌝ }
     ensures { λ r. ⌜ (r ≡ 2 * length (ruleLeft chained (mapsOf (now (back .entry)) (now (input .entry)) (now (ahead .entry)) (now (lookups .entry))) (now (src .entry)) at)) × (r < 0x10_0000) ⌝ }
 {
-    if !rule_survives(chained, src, at, back, input, ahead) {
-        return 0;
+    if chained {
+        return chained_size(src, at, back, input, ahead, lookups);
     }
-    let r = rule_parts(chained, src, at);
-    let kept = records_left(src, r.records.at, r.records.len, lookups);
-    counts_size(chained) + 2 * (r.back.len + r.input.len + r.ahead.len) + 4 * kept
+    plain_size(src, at, input, lookups)
 }
 
 // A count and the new numbers of the `n` numbers from `at` on, written from `pos` on; the place after them.
@@ -245,7 +276,7 @@ fn write_counted(
     write_mapped(src, at, n, map, out, p)
 }
 
-// How many of the `n` records from `at` on have a lookup that stays, and these records with its new number, written from `pos` on; the place after them.
+// How many of the `n` records from `at` on have a lookup that stays, and these records with its new number, written from `pos` on; the place after them. The count is written last, so that each lookup is asked for once.
 fn write_records(
     src: &[u8],
     at: usize,
@@ -257,12 +288,12 @@ fn write_records(
     requires { ⌜ (at + 4 * n < 0x1_0000_0000_0000) × (pos + 4 * n < 0x8000_0000_0000) × Ascends (now lookups) ⌝ }
     ensures { λ r. ⌜ Wrote (now (out .entry)) pos (length (cutRecords (mapOf (now (lookups .entry))) (entries (now (src .entry)) at n)) ∷ twos (cutRecords (mapOf (now (lookups .entry))) (entries (now (src .entry)) at n))) (now (out .exit)) r ⌝ }
 {
-    let k = records_left(src, at, n, lookups);
-    let p = put(out, pos, k);
-    serialize_lookup_records(src, at, n, lookups, out, p)
+    let end = serialize_lookup_records(src, at, n, lookups, out, pos + 2);
+    put(out, pos, (end - pos - 2) / 4);
+    end
 }
 
-// The plain rule at `at` with its new numbers, written from `pos` on; the place after it.
+// The plain rule at `at` with its new numbers, written from `pos` on, the counts last; the place after it.
 fn write_plain(
     src: &[u8],
     at: usize,
@@ -275,10 +306,10 @@ fn write_plain(
     ensures { λ r. ⌜ (Wrote (now (out .entry)) pos (ruleWords false (renumberedRule (mapsOf [] (now (input .entry)) [] (now (lookups .entry))) (rule false (now (src .entry)) at))) (now (out .exit)) r) × (r < pos + 0x10_0000) ⌝ }
 {
     let r = plain_parts(src, at);
-    let k = records_left(src, r.records.at, r.records.len, lookups);
-    let p = put_entry(out, pos, r.count, k);
-    let q = write_mapped(src, r.input.at, r.input.len, input, out, p);
-    serialize_lookup_records(src, r.records.at, r.records.len, lookups, out, q)
+    let q = write_mapped(src, r.input.at, r.input.len, input, out, pos + 4);
+    let end = serialize_lookup_records(src, r.records.at, r.records.len, lookups, out, q);
+    put_entry(out, pos, r.count, (end - q) / 4);
+    end
 }
 
 // The chained rule at `at` with its new numbers, written from `pos` on; the place after it.

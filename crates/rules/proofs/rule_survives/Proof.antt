@@ -1,51 +1,23 @@
 use borrow.Author.Needs.{needs}
-use Rattle.rules.proofs.Rules.{goes-by-count, goes-by-back, goes-by-input, stays-by-ahead}
+use mathlib.Core.List.{[]}
+use Rattle.rules.proofs.Rules.{plain-survival}
 use Rattle.rules.proofs.rule_survives.Statement.{statement}
 use Rattle.rules.proofs.rule_survives.Tie as tie
 
 returns : tie.Need-returns
-returns c =
-    let w = c .before in
-    let p = w .before in
-    let a = p .before .before .before .before .before .args in
-    goes-by-count (a .back .now) (a .input .now) (a .ahead .now) (p .rule-parts .ensures) (w .count-stays .ensures) (c .if1 .taken)
+returns c = rw (c .before .if1 .taken) (c .chained-survives .ensures)
 
 returns-2 : tie.Need-returns-2
 returns-2 c =
-    let x = c .before in
-    let w = x .before .before in
-    let p = w .before in
-    let a = p .before .before .before .before .before .args in
-    goes-by-back (a .back .now) (a .input .now) (a .ahead .now) (p .rule-parts .ensures) (w .count-stays .ensures) (x .before .if1 .left) (x .mapped .ensures) (c .if2 .taken)
-
-returns-3 : tie.Need-returns-3
-returns-3 c =
-    let y = c .before in
-    let x = y .before .before in
-    let w = x .before .before in
-    let p = w .before in
-    let a = p .before .before .before .before .before .args in
-    goes-by-input (a .back .now) (a .input .now) (a .ahead .now) (p .rule-parts .ensures) (w .count-stays .ensures) (x .before .if1 .left) (x .mapped .ensures) (y .before .if2 .left) (y .mapped2 .ensures) (c .if3 .taken)
-
-returns-4 : tie.Need-returns-4
-returns-4 c =
-    let y = c .before .before in
-    let x = y .before .before in
-    let w = x .before .before in
-    let p = w .before in
-    let a = p .before .before .before .before .before .args in
-    stays-by-ahead (a .back .now) (a .input .now) (a .ahead .now) (p .rule-parts .ensures) (w .count-stays .ensures) (x .before .if1 .left) (x .mapped .ensures) (y .before .if2 .left) (y .mapped2 .ensures) (c .before .if3 .left) (c .mapped3 .ensures)
+    let i = c .before in
+    let a = i .before .before .before .before .before .args in
+    rw (i .if1 .left, plain-survival (a .back .now) (a .input .now) (a .ahead .now) [] (a .src .now) (a .at)) (c .plain-survives .ensures)
 
 pub rule-survives-spec : {M : Type 1} → statement M
 rule-survives-spec =
     tie.close
     (tie.spec
     (λ c κs. search needs)
-    (λ c κs. search needs)
     returns
     (λ c κs. search needs)
-    returns-2
-    (λ c κs. search needs)
-    returns-3
-    (λ c κs. search needs)
-    returns-4)
+    returns-2)
