@@ -227,7 +227,7 @@ module _ {chained : Bool} {s glyphs lookups b i a c : List ℕ} {room free : ℕ
     unfolding mapEntries
     slots-back f =
         let long = places-length (slotPlace (setStays (kindOf chained) b i a s) (keys (mapOf c)) (words s slot (word s (countSlot chained)))) i (k .listed) in
-        let many : length i / 4 ≤ length glyphs / 4 = omega (arith, ap length (sym (of-listed i (λ e. omega (arith, k .listed))) ∙ input-ranks), class-map-length g cs, entries-length i 0 (length i / 4), entries-length glyphs 0 (length glyphs / 4)) in
+        let many : length i / 4 ≤ length glyphs / 4 = omega (arith, ap length (sym (of-listed i (k .listed)) ∙ input-ranks), class-map-length g cs, entries-length i 0 (length i / 4), entries-length glyphs 0 (length glyphs / 4)) in
         let e = scratch-first before places n (p .small) (omega (arith, long, many, k .places)) (omega (arith, p .count, trimmed-fewer places)) in
         rw (p .bytes) (e ∙ rw (p .count) (sym (trimmed-take places)))
 
