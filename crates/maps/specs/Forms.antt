@@ -150,6 +150,17 @@ read-among (a ∷ vs) t p (suc k) h l =
     let e : p + suc k ≡ suc p + k = omega arith in
     rw e (read-among vs (set t p a) (suc p) k (omega arith) (omega (arith, length-set t p a)))
 
+-- the same of a word: the one that is written, and one after it
+pub written-word : (t : List ℕ) (p w : ℕ) → p + 2 ≤ length t → w < 65536 → word (sets t p (bytes2 w)) p ≡ w
+unfolding word bytes2
+written-word t p w l h =
+    let e : p + 0 ≡ p = omega arith in
+    rw (rw e at (read-among (bytes2 w) t p 0 (omega arith) (omega arith)), read-among (bytes2 w) t p 1 (omega arith) (omega arith)) (omega arith)
+
+pub later-word : (t : List ℕ) (p w q : ℕ) → p + 2 ≤ q → word (sets t p (bytes2 w)) q ≡ word t q
+unfolding word bytes2
+later-word t p w q h = rw (read-after (bytes2 w) t p q (omega arith), read-after (bytes2 w) t p (q + 1) (omega arith)) refl
+
 -- writing an entry at the place of a number sets the number's entry
 module _ (t : List ℕ) (x v : ℕ) (h : x < length t / 4) (w : v < 65536) where
   abbrev next : List ℕ
