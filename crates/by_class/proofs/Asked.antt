@@ -25,10 +25,11 @@ use Rattle.laws.specs.Ascends.{glyphs-ascend, lookups-ascend}
 use Rattle.classes.specs.Filled.{Filled, filled-map}
 use Rattle.retained.specs.Retained.{retainedEntries, retainedWords}
 use Rattle.retained.specs.Few.{entries-count, retained-fit}
-use Rattle.gsubgpos.specs.Left.{Ascends}
+use Rattle.gsubgpos.specs.Left.{Ascends, serves-plain}
 use Rattle.by_class.specs.Tables.{tableAt, mapAt, SoundAt, Remakes, ranks-fit, filled-part}
 use Rattle.by_class.specs.Context.{backAt, inputAt, aheadAt, countSlot, Good, Asks, context-is}
 use Rattle.by_class.specs.Whole.{Mapped, Begun}
+use Rattle.by_class.proofs.Laid.{ranks-ascend}
 
 -- the part that an offset leads to is sound, if the offset is not null
 slot-sound : (P : ℕ → Type 0) (s : List ℕ) (slot : ℕ) → Opt P (reach (λ (at : ℕ). at) s 0 slot) → (word s slot ≡ 0 → ⊥) → P (word s slot)
@@ -144,14 +145,23 @@ pub begun-mapped : {chained : Bool} {s glyphs lookups i c : List ℕ} {u v p w :
     → Mapped chained s glyphs lookups (take m b) i (take n a) c p w
 begun-mapped {chained} {s} {glyphs} {lookups} k {x} {y} e f h q r t =
     let j = k .good in
-    let remakes-back : Remakes s x glyphs _ _ = record { sound = back-sound j e; good = j .good-glyphs; ranks = filled-map f (ranks-fit glyphs (tableAt s x) f (omega (arith, k .back, h))); fits = k .work } in
-    let remakes-ahead : Remakes s y glyphs _ _ = record { sound = ahead-sound j q; good = j .good-glyphs; ranks = filled-map r (ranks-fit glyphs (tableAt s y) r (omega (arith, k .ahead, t))); fits = k .work } in
+    let fits-back = ranks-fit glyphs (tableAt s x) f (omega (arith, k .back, h)) in
+    let fits-ahead = ranks-fit glyphs (tableAt s y) r (omega (arith, k .ahead, t)) in
+    let remakes-back : Remakes s x glyphs _ _ = record { sound = back-sound j e; good = j .good-glyphs; ranks = filled-map f fits-back; fits = k .work } in
+    let remakes-input : Remakes s (inputAt chained s) glyphs _ _ = record { sound = input-sound j refl; good = j .good-glyphs; ranks = k .ranks; fits = k .work } in
+    let remakes-ahead : Remakes s y glyphs _ _ = record { sound = ahead-sound j q; good = j .good-glyphs; ranks = filled-map r fits-ahead; fits = k .work } in
     record {
       ready =
           record {
-            tables = record { back = rw e at remakes-back; input = record { sound = input-sound j refl; good = j .good-glyphs; ranks = k .ranks; fits = k .work }; ahead = rw q at remakes-ahead };
+            tables = record { back = rw e at remakes-back; input = remakes-input; ahead = rw q at remakes-ahead };
             cover = all-sound j .cover (k .covers);
             short = k .short;
+          };
+      maps =
+          record {
+            back = serves-plain (ranks-ascend remakes-back) (λ z. omega (arith, filled-part f fits-back, f .used));
+            input = serves-plain (ranks-ascend remakes-input) (λ z. omega (arith, k .listed));
+            ahead = serves-plain (ranks-ascend remakes-ahead) (λ z. omega (arith, filled-part r fits-ahead, r .used));
           };
       old-lookups = rw (of-lookups lookups (j .good-lookups)) (lookups-ascend lookups (j .good-lookups));
       covers = k .covers;

@@ -27,7 +27,7 @@ use Rattle.laws.specs.SlotPlaces.{slotPlace, keepPlace, trimmed, trim-are, trim
 use Rattle.retained.specs.Cover.{coverWords}
 use Rattle.retained.specs.Retained.{retainedEntries}
 use Rattle.retained.specs.Few.{entries-count}
-use Rattle.gsubgpos.specs.Left.{Ascends, NumbersAscend, mapsOf, setLeft, lookups-silent}
+use Rattle.gsubgpos.specs.Left.{Ascends, mapsOf, setLeft, lookups-silent}
 use Rattle.sets.specs.Sets.{setStays, setWordsOf}
 use Rattle.sets.specs.declared.Kind.{Kind}
 use Rattle.by_class.specs.Places.{placesOf, places-length, place-past, Placed}
@@ -35,7 +35,6 @@ use Rattle.by_class.specs.Tables.{tableAt, newTable, map-there}
 use Rattle.by_class.specs.Context.{backAt, inputAt, aheadAt, countSlot, kindOf, context-is, map-keys, covered-held}
 use Rattle.by_class.specs.Tail.{tailOf}
 use Rattle.by_class.specs.Whole.{contextWords, Mapped}
-use Rattle.by_class.proofs.Laid.{numbers-ascend}
 
 -- Places of sets, without the zeros at the end.
 
@@ -171,12 +170,9 @@ module _ {chained : Bool} {s glyphs lookups b i a c : List ℕ} {room free : ℕ
   covered-keys : keys (mapOf c) ≡ heldBy cs (retained g cov)
   covered-keys = ap keys (k .held) ∙ covered-held g cs cov
 
-  -- the classes that retained covered glyphs hold can be asked for, and so can the three class maps
+  -- the classes that retained covered glyphs hold can be asked for
   pub covered-ascends : Ascends c
   covered-ascends = rw (k .held) (class-map-ascends (retainedEntries g cov) cs)
-
-  pub maps-ascend : NumbersAscend b i a
-  maps-ascend = numbers-ascend (k .ready .tables)
 
   -- what is left of the slots
   abbrev kept : List (Option (List Rule))
@@ -219,7 +215,7 @@ module _ {chained : Bool} {s glyphs lookups b i a c : List ℕ} {room free : ℕ
     -- there are few slots
     pub slots-few : {at m : ℕ} → at ≡ countSlot chained → (m ≡ word s at) × (m < 65536) → n < 65536
     slots-few f h =
-        let u = ascends-up 0 (keys (mapOf i)) (maps-ascend .input) (λ x r e. omega arith) in
+        let u = ascends-up 0 (keys (mapOf i)) (k .maps .input .ascend) (λ x r e. omega arith) in
         omega (arith, p .count, h .1, rw f at (h .0), places-few (setStays (kindOf chained) b i a s) (mapOf c) s slot (word s (countSlot chained)) 0 (keys (mapOf i)) u)
 
     -- the first of them, read back from scratch
@@ -227,7 +223,7 @@ module _ {chained : Bool} {s glyphs lookups b i a c : List ℕ} {room free : ℕ
     unfolding mapEntries
     slots-back f =
         let long = places-length (slotPlace (setStays (kindOf chained) b i a s) (keys (mapOf c)) (words s slot (word s (countSlot chained)))) i (k .listed) in
-        let many : length i / 4 ≤ length glyphs / 4 = omega (arith, ap length (sym (of-listed i (λ e. omega (arith, k .listed))) ∙ input-ranks), class-map-length g cs, entries-length i 0 (length i / 4), entries-length glyphs 0 (length glyphs / 4)) in
+        let many : length i / 4 ≤ length glyphs / 4 = omega (arith, ap length (sym (of-listed i (k .listed)) ∙ input-ranks), class-map-length g cs, entries-length i 0 (length i / 4), entries-length glyphs 0 (length glyphs / 4)) in
         let e = scratch-first before places n (p .small) (omega (arith, long, many, k .places)) (omega (arith, p .count, trimmed-fewer places)) in
         rw (p .bytes) (e ∙ rw (p .count) (sym (trimmed-take places)))
 

@@ -17,14 +17,14 @@ use Rattle.laws.specs.Left.{words-length}
 use Rattle.laws.specs.ClassesLeft.{class-map-ascends}
 use Rattle.laws.specs.Slots.{slotBlock, slotBlocks}
 use Rattle.laws.specs.SetsTable.{firstSet, tailStart, table-size}
-use Rattle.gsubgpos.specs.Left.{Ascends, NumbersAscend, AllAscend}
+use Rattle.gsubgpos.specs.Left.{Ascends, AllServe}
 use Rattle.sets.specs.Sets.{setWordsOf, LaidDown, Fits}
 use Rattle.sets.specs.declared.Kind.{Kind}
 use Rattle.room.specs.Laid.{laidFor, outcomeOf, isKept, refused-room, kept-room, kept-small}
 use Rattle.room.specs.declared.Laid.{Laid}
 use Rattle.by_class.specs.Tables.{tableAt, Remakes}
 use Rattle.by_class.specs.Context.{countSlot, kindOf}
-use Rattle.by_class.specs.Tail.{tailOf, Remaking, Sized, Apart}
+use Rattle.by_class.specs.Tail.{tailOf, Sized, Apart}
 use Rattle.by_class.specs.InOrder.{written-in-order}
 use Rattle.by_class.specs.Whole.{setBlocks, contextWords, Lays, Writes}
 
@@ -34,14 +34,12 @@ unfolding classMap? keys ascends
 map-ascends g none = refl
 map-ascends g (some cs) = class-map-ascends g cs
 
-ranks-ascend : {s : List ℕ} {at : ℕ} {glyphs map : List ℕ} {room : ℕ} → Remakes s at glyphs map room → Ascends map
+pub ranks-ascend : {s : List ℕ} {at : ℕ} {glyphs map : List ℕ} {room : ℕ} → Remakes s at glyphs map room → Ascends map
 ranks-ascend {s} {at} {glyphs} k = rw (k .ranks) (map-ascends (mapEntries glyphs) (tableAt s at))
 
-pub numbers-ascend : {chained : Bool} {s glyphs b i a : List ℕ} {room : ℕ} → Remaking chained s glyphs b i a room → NumbersAscend b i a
-numbers-ascend k = record { back = ranks-ascend (k .back); input = ranks-ascend (k .input); ahead = ranks-ascend (k .ahead) }
-
-pub all-ascend : {chained : Bool} {s glyphs lookups b i a : List ℕ} {n room : ℕ} → Lays chained s glyphs lookups b i a n room → AllAscend b i a lookups
-all-ascend k = record { numbers = numbers-ascend (k .ready .tables); lookups = k .old-lookups }
+-- all maps can be asked where the sets are laid
+pub all-serve : {chained : Bool} {s glyphs lookups b i a : List ℕ} {n room : ℕ} → Lays chained s glyphs lookups b i a n room → AllServe s b i a lookups
+all-serve k = record { numbers = k .maps; lookups = k .old-lookups }
 
 -- the count of the sets stands after the format and the offsets of coverage and class tables
 tail-length : (chained : Bool) (g : List (ℕ × ℕ)) (s : List ℕ) → 2 + 2 * length (tailOf chained g s) ≡ countSlot chained

@@ -86,7 +86,7 @@ module _ (has : ℕ → Bool) (es : List (ℕ × ℕ)) (s : List ℕ) (slot n c 
 -- there are as many as a listed map has entries, and each is that of its entry's class
 module _ (f : ℕ → ℕ) (m : List ℕ) (whole : length m % 4 ≡ 0) where
   listed : mapOf m ≡ mapEntries m
-  listed = of-listed m (λ e. omega arith)
+  listed = of-listed m whole
 
   pub places-length : length (map f (keys (mapOf m))) ≡ length m / 4
   places-length = rw listed (length-map (keys (mapEntries m)) f ∙ map-length m)

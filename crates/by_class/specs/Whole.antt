@@ -14,7 +14,7 @@ use Rattle.meaning.specs.Layout.{blocks, setsLayout}
 use Rattle.laws.specs.Slots.{slotBlocks}
 use Rattle.laws.specs.SetsTable.{tailStart}
 use Rattle.retained.specs.Retained.{retainedEntries}
-use Rattle.gsubgpos.specs.Left.{Ascends}
+use Rattle.gsubgpos.specs.Left.{Ascends, NumbersServe}
 use Rattle.sets.specs.Sets.{setWordsOf}
 use Rattle.by_class.specs.Tables.{mapAt}
 use Rattle.by_class.specs.Context.{inputAt, kindOf, Good}
@@ -32,6 +32,7 @@ module _ (chained : Bool) (s b i a l slots : List ℕ) (n : ℕ) where
 -- What laying the sets of n slots asks.
 pub record Lays (chained : Bool) (s glyphs lookups b i a : List ℕ) (n room : ℕ) : Type 0 where
   pub ready : Ready chained s glyphs b i a room
+  pub maps : NumbersServe s b i a
   pub old-lookups : Ascends lookups
   pub count : n < 65536
 
@@ -44,6 +45,7 @@ pub record Writes (chained : Bool) (s glyphs lookups b i a slots : List ℕ) (n 
 -- What is known once the classes are ranked: neither the coverage nor the input's class table is null, `c` has the classes that retained covered glyphs hold, and there is room for a slot for each class.
 pub record Mapped (chained : Bool) (s glyphs lookups b i a c : List ℕ) (slots room : ℕ) : Type 0 where
   pub ready : Ready chained s glyphs b i a room
+  pub maps : NumbersServe s b i a
   pub old-lookups : Ascends lookups
   pub covers : word s 2 ≡ 0 → ⊥
   pub classed : inputAt chained s ≡ 0 → ⊥

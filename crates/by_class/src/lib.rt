@@ -35,7 +35,7 @@ ghost use Rattle.meaning.specs.Subset.{laidInto, written};
 ghost use Rattle.laws.specs.SlotPlaces.{slotPlace};
 ghost use Rattle.classes.specs.Filled.{Filled};
 ghost use Rattle.retained.specs.Retained.{retainedEntries, retainedWords};
-ghost use Rattle.gsubgpos.specs.Left.{Ascends, NumbersAscend};
+ghost use Rattle.gsubgpos.specs.Left.{Ascends, NumbersServe};
 ghost use Rattle.sets.specs.Sets.{setStays, LaidDown};
 ghost use Rattle.room.specs.Laid.{outcomeOf};
 ghost use Rattle.by_class.specs.Places.{placesOf, Placed};
@@ -56,7 +56,7 @@ fn slot_place(
     input: &[u8],
     ahead: &[u8],
 ) -> usize
-    requires { ⌜ (slot < 65536) × (n < 65536) × Ascends (now covered) × NumbersAscend (now back) (now input) (now ahead) ⌝ }
+    requires { ⌜ (slot < 65536) × (n < 65536) × Ascends (now covered) × NumbersServe (now src) (now back) (now input) (now ahead) ⌝ }
     ensures { λ r. ⌜ (r ≡ slotPlace (setStays kind (now (back .entry)) (now (input .entry)) (now (ahead .entry)) (now (src .entry))) (keys (mapOf (now (covered .entry)))) (words (now (src .entry)) slot n) class) × (r < 65536) ⌝ }
 {
     let Found::New(_) = find(covered, class) else {
@@ -87,7 +87,7 @@ fn fill_slots(
     ahead: &[u8],
     slots: &mut [u8],
 ) -> usize
-    requires { ⌜ (slot < 65536) × (n < 65536) × Ascends (now covered) × NumbersAscend (now back) (now input) (now ahead) × (length (now input) < 0x1_0000_0000) × (length (now input) % 4 ≡ 0) ⌝ }
+    requires { ⌜ (slot < 65536) × (n < 65536) × Ascends (now covered) × NumbersServe (now src) (now back) (now input) (now ahead) × (length (now input) < 0x1_0000_0000) × (length (now input) % 4 ≡ 0) ⌝ }
     ensures { λ r. ⌜ Placed (placesOf kind (now (back .entry)) (now (input .entry)) (now (ahead .entry)) (now (covered .entry)) (now (src .entry)) slot n) (now (slots .entry)) r (now (slots .exit)) ⌝ }
 {
     let mut end = 0;

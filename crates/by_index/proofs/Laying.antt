@@ -39,7 +39,7 @@ cover-words-few gs = step (runs (map (λ g. (g, 0)) gs)) (leb (4 + 2 * length gs
     step rs false e = omega (arith, leb-false (4 + 2 * length gs) (4 + 6 * length rs) e, threes-length (indexed 0 rs), indexed-length 0 rs)
 
 -- what is known where the sizes are added up: where the offsets of the sets begin, how many bytes the sets take, and how many the coverage
-module _ (kind : Kind) {g l to : List ℕ} (s places : List ℕ) {n : ℕ} (a : Lays g l to n) {slot size cover : ℕ}
+module _ (kind : Kind) {g l to : List ℕ} (s places : List ℕ) {n : ℕ} (a : Lays s g l to n) {slot size cover : ℕ}
     (eslot : slot ≡ 6 + 2 * length (moreOf kind)) (esize : size ≡ 2 * length (blocks (setBlocks kind g l s (words places 0 n)))) (ecover : cover ≡ 2 * length (coverageWords (glyphsOf to))) where
   abbrev bs : List (Option (List ℕ))
   bs = setBlocks kind g l s (words places 0 n)

@@ -20,7 +20,9 @@ use Rattle.laws.specs.SetsTable.{firstSet, tailStart, headWords, table-size, ta
 use Rattle.room.specs.Laid.{laidFor, outcomeOf, isKept, refused-room, kept-room, kept-small}
 use Rattle.room.specs.declared.Laid.{Laid}
 use Rattle.coverage.specs.Glyphs.{glyphsOf}
-use Rattle.gsubgpos.specs.Left.{Ascends, AllAscend}
+use Rattle.gsubgpos.specs.Left.{Ascends, Serves, AllServe}
+-- a map without runs serves any source, for the crates above
+pub use Rattle.gsubgpos.specs.Left.{serves-plain}
 use Rattle.sets.specs.Sets.{setWordsOf, LaidDown, Fits}
 use Rattle.sets.specs.declared.Kind.{Kind}
 use Rattle.sets.specs.declared.Kind.the-variants.{Rules, ChainedRules, Ligatures, Pairs}
@@ -44,17 +46,17 @@ setBlocks kind g l s ps = slotBlocks (wordsAt kind g l s) ps
 abbrev pub tableOf : Kind → List ℕ → List (Option (List ℕ)) → List ℕ
 tableOf kind gs bs = setsLayout 1 (some (coverageWords gs) ∷ []) (moreOf kind) bs
 
--- both maps can be asked
-pub record BothAscend (g l : List ℕ) : Type 0 where
-  pub glyphs : Ascends g
+-- both maps can be asked, that of the glyphs for the words of the source
+pub record BothServe (s g l : List ℕ) : Type 0 where
+  pub glyphs : Serves s g
   pub lookups : Ascends l
 
 -- what laying n sets down asks: the maps can be asked, and the glyphs are not too many to count
-pub record Lays (g l to : List ℕ) (n : ℕ) : Type 0 where
-  pub maps : BothAscend g l
+pub record Lays (s g l to : List ℕ) (n : ℕ) : Type 0 where
+  pub maps : BothServe s g l
   pub count : n < 65536
   pub short : length to < 0x1_0000_0000
 
 -- the maps that the numbers of a rule go through are all the glyph map
-pub all-ascend : {g l : List ℕ} → BothAscend g l → AllAscend g g g l
-all-ascend a = record { numbers = record { back = a .glyphs; input = a .glyphs; ahead = a .glyphs }; lookups = a .lookups }
+pub all-serve : {s g l : List ℕ} → BothServe s g l → AllServe s g g g l
+all-serve a = record { numbers = record { back = a .glyphs; input = a .glyphs; ahead = a .glyphs }; lookups = a .lookups }

@@ -26,13 +26,13 @@ use Rattle.ligature_subst.specs.Left as Ligature
 use Rattle.sets.specs.declared.Kind.{Kind}
 use Rattle.sets.specs.declared.Kind.the-variants.{Rules, ChainedRules, Ligatures, Pairs}
 use Rattle.by_index.specs.Kept.{stays}
-use Rattle.by_index.specs.Tables.{setBlocks, tableOf, wordsAt, BothAscend}
+use Rattle.by_index.specs.Tables.{setBlocks, tableOf, wordsAt, BothServe}
 
 -- What is asked of a source whose coverage's offset stands at 2 and that has n sets: the coverage is sound and has a set for each glyph, the maps can be asked, and scratch has room for a word for each entry of the glyph map.
 pub record Asks (s g l : List ℕ) (n : ℕ) (to places : List ℕ) : Type 0 where
   pub sound : (word s 2 ≡ 0 → ⊥) → coverageSound s (word s 2) ≡ true
   pub enough : (word s 2 ≡ 0 → ⊥) → length (coverage s (word s 2)) ≤ n
-  pub maps : BothAscend g l
+  pub maps : BothServe s g l
   pub glyph-room : 2 * length (mapOf g) ≤ length to
   pub place-room : 2 * length (mapOf g) ≤ length places
   pub short : length to < 0x1_0000_0000
@@ -45,7 +45,7 @@ module _ (good : Bool) (slot : ℕ) (faultAt : ℕ → Option ℕ) (s : List ℕ
       let q = lowest-none (cond (eqb (word s 2) 0) none (coverageFault s (0 + word s 2))) _ (header-good s good 0 slot faultAt h .1) .0 in
       part-sound (word s 2) (coverageSound s (word s 2)) none (rw (ne-eqb (word s 2) 0 z, zero-add) at q) .0
 
-  pub header-asks : (good ≡ true → enough s (word s slot) ≡ true) → {g l to places : List ℕ} → BothAscend g l → 2 * length (mapOf g) ≤ length to → 2 * length (mapOf g) ≤ length places → length to < 0x1_0000_0000 → Asks s g l (word s slot) to places
+  pub header-asks : (good ≡ true → enough s (word s slot) ≡ true) → {g l to places : List ℕ} → BothServe s g l → 2 * length (mapOf g) ≤ length to → 2 * length (mapOf g) ≤ length places → length to < 0x1_0000_0000 → Asks s g l (word s slot) to places
   unfolding enough
   header-asks e m a b c =
       record {

@@ -35,6 +35,7 @@ ghost use Rattle.meaning.specs.Subset.{laidInto, written};
 ghost use Rattle.room.specs.Laid.{outcomeOf};
 ghost use Rattle.coverage.specs.Glyphs.{glyphsOf};
 ghost use Rattle.meaning.specs.Cut.{cut};
+ghost use Rattle.gsubgpos.specs.Left.{Serves};
 ghost use Rattle.by_index.specs.Tables.{moreOf, setBlocks, tableOf, Lays};
 ghost use Rattle.pair_pos.specs.Fields.{isField};
 ghost use Rattle.by_index.specs.PairTable.{usesAt, formatAt, kindAt, pairTable};
@@ -42,7 +43,7 @@ ghost use Rattle.by_index.specs.Whole.{Asks, keptFrom, wordsOf, laidWord
 
 // The new number of a covered glyph, if the set at `at` is kept for it.
 fn kept_for(kind: Kind, src: &[u8], glyph: usize, at: usize, glyphs: &[u8]) -> Found
-    requires { ⌜ (at < 65536) × (ascends (keys (mapOf (now glyphs))) ≡ true) ⌝ }
+    requires { ⌜ (at < 65536) × Serves (now src) (now glyphs) ⌝ }
     ensures { λ r. ⌜ KeptFor (stays kind (now (glyphs .entry)) (now (src .entry))) (mapOf (now (glyphs .entry))) glyph at r ⌝ }
 {
     let Found::New(new) = find(glyphs, glyph) else {
@@ -69,7 +70,7 @@ pub fn keep_sets(
     to: &mut [u8],
     places: &mut [u8],
 ) -> usize
-    requires { ⌜ (coverageSound (now src) cover ≡ true) × (length (coverage (now src) cover) ≤ n) × (slot < 65536) × (ascends (keys (mapOf (now glyphs))) ≡ true) ⌝ }
+    requires { ⌜ (coverageSound (now src) cover ≡ true) × (length (coverage (now src) cover) ≤ n) × (slot < 65536) × Serves (now src) (now glyphs) ⌝ }
     ensures { λ r. ⌜ Kept (stays kind (now (glyphs .entry)) (now (src .entry))) (mapOf (now (glyphs .entry))) (coverage (now (src .entry)) cover) (now (src .entry)) slot n (now (to .entry)) (now (places .entry)) (now (to .exit)) (now (places .exit)) r ⌝ }
 {
     let m = count(src, cover);
@@ -127,7 +128,7 @@ fn lay(
     n: usize,
     out: &mut [u8],
 ) -> Laid
-    requires { ⌜ Lays (now glyphs) (now lookups) (now to) n ⌝ }
+    requires { ⌜ Lays (now src) (now glyphs) (now lookups) (now to) n ⌝ }
     ensures { λ r. ⌜ outcomeOf r (now (out .exit)) ≡ laidInto (now (out .entry)) (flat (tableOf kind (glyphsOf (now (to .entry))) (setBlocks kind (now (glyphs .entry)) (now (lookups .entry)) (now (src .entry)) (words (now (places .entry)) 0 n)))) ⌝ }
 {
     let slot = header_size(kind);
@@ -270,7 +271,7 @@ fn lay_pairs(
     n: usize,
     out: &mut [u8],
 ) -> Laid
-    requires { ⌜ Lays (now glyphs) (now lookups) (now to) n ⌝ }
+    requires { ⌜ Lays (now src) (now glyphs) (now lookups) (now to) n ⌝ }
     ensures { λ r. ⌜ outcomeOf r (now (out .exit)) ≡ laidInto (now (out .entry)) (flat (tableOf (kindAt (now (glyphs .entry)) f1 f2 (now (src .entry)) (words (now (places .entry)) 0 n)) (glyphsOf (now (to .entry))) (setBlocks (kindAt (now (glyphs .entry)) f1 f2 (now (src .entry)) (words (now (places .entry)) 0 n)) (now (glyphs .entry)) (now (lookups .entry)) (now (src .entry)) (words (now (places .entry)) 0 n)))) ⌝ }
 {
     let n1 = new_format(src, f1, f2, false, places, n, glyphs);

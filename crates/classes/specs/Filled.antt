@@ -41,7 +41,7 @@ filled-back {es} {before} {after} {r} h l =
 pub filled-map : {es : List (ℕ × ℕ)} {before after : List ℕ} {r : ℕ} → Filled es before r after → r ≤ length before → mapOf (take r after) ≡ es
 filled-map {after = after} {r = r} h l =
     let long : length (take r after) ≡ r = length-take-le r after (omega (arith, filled-length h)) in
-    of-listed (take r after) (λ e. omega (arith, long, h .used)) ∙ filled-back h l
+    of-listed (take r after) (omega (arith, long, h .used)) ∙ filled-back h l
 
 -- The class table is sound, the glyph map is good, and `map` has the entries of their class map.
 pub record Ranked (src : List ℕ) (at : ℕ) (glyphs map : List ℕ) : Type 0 where

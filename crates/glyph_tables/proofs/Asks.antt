@@ -21,6 +21,7 @@ use Rattle.maps.specs.Forms.{mapOf, of-glyphs, of-lookups, Clear}
 use Rattle.checks.specs.Parts.{pairFields}
 use Rattle.by_cover.specs.Roomy.{map-roomy}
 use Rattle.by_cover.specs.Context.{Asks as CoverAsks}
+use Rattle.by_index.specs.Tables.{serves-plain}
 use Rattle.by_index.specs.Whole.{Asks as IndexAsks, header-asks}
 use Rattle.glyph_tables.specs.Sorts.{sortFault, Asked, Spacious, Ready, Below, Cuts}
 use Rattle.glyph_tables.specs.declared.Sort.{Sort}
@@ -48,11 +49,11 @@ module _ (sort : Sort) {s g l to places : List ℕ} (a : Asked sort s g l) (r : 
       indexed (pairFields s) 8 (pairSetFault (fieldCount (word s 4)) (fieldCount (word s 6)) s) (known {k = Pairs} e) (λ h. both (eqb (word s 6 / 256) 0) (enough s (word s 8)) (both (eqb (word s 4 / 256) 0) _ h .1) .1)
 
   pub covers-ask : sort ≡ Covers → CoverAsks false s g l (length to)
-  covers-ask e = record { sound = known {k = Covers} e; ready = record { old-glyphs = a .maps .glyphs; old-lookups = a .maps .lookups; roomy = map-roomy s g (length to) (r .glyph-room) (omega (arith, r .short)) } }
+  covers-ask e = record { sound = known {k = Covers} e; ready = record { old-glyphs = a .maps .glyphs .ascend; old-lookups = a .maps .lookups; roomy = map-roomy s g (length to) (r .glyph-room) (omega (arith, r .short)) } }
 
   pub chained-covers-ask : sort ≡ ChainedCovers → CoverAsks true s g l (length to)
   chained-covers-ask e =
-      record { sound = known {k = ChainedCovers} e; ready = record { old-glyphs = a .maps .glyphs; old-lookups = a .maps .lookups; roomy = map-roomy s g (length to) (r .glyph-room) (omega (arith, r .short)) } }
+      record { sound = known {k = ChainedCovers} e; ready = record { old-glyphs = a .maps .glyphs .ascend; old-lookups = a .maps .lookups; roomy = map-roomy s g (length to) (r .glyph-room) (omega (arith, r .short)) } }
 
 -- two bytes are a word
 word-small : (s : List ℕ) (at : ℕ) → ((i : ℕ) → getD s i 0 < 256) → word s at < 65536
@@ -72,14 +73,14 @@ glyphs-short g h k = step (decLt 65536 (length g / 4))
     step (no l) = omega (arith, glyphs-whole g k)
 
 module _ {sort : Sort} {s g l : List ℕ} (c : Cuts sort s g l) (bytes : (i : ℕ) → getD g i 0 < 256) where
-  -- a map of the same entries serves as well as the glyph map itself
-  pub other-ready : {t : List ℕ} → mapOf t ≡ mapEntries g → Ready sort s t l (length g)
+  -- a map of the same entries without runs serves as well as the glyph map itself
+  other-ready : {t : List ℕ} → mapOf t ≡ mapEntries g → (length t % 4 ≡ 2 → ⊥) → Ready sort s t l (length g)
   unfolding mapEntries
-  other-ready {t} e = record {
+  other-ready {t} e plain = record {
     asked = record {
       sound = c .sound;
       maps = record {
-        glyphs = rw e (glyphs-ascend g (c .good-glyphs));
+        glyphs = serves-plain (rw e (glyphs-ascend g (c .good-glyphs))) plain;
         lookups = rw (of-lookups l (c .good-lookups)) (lookups-ascend l (c .good-lookups));
       };
     };
@@ -88,7 +89,11 @@ module _ {sort : Sort} {s g l : List ℕ} (c : Cuts sort s g l) (bytes : (i : �
   }
 
   pub listed-ready : Ready sort s g l (length g)
-  listed-ready = other-ready (of-glyphs g (c .good-glyphs))
+  listed-ready = other-ready (of-glyphs g (c .good-glyphs)) (λ z. omega (arith, glyphs-whole g (c .good-glyphs)))
+
+  -- so does a table of n zeros that was made a map of the same entries by number
+  pub table-ready : (n : ℕ) → n % 4 ≡ 1 → {t : List ℕ} → (mapOf t ≡ mapEntries g) × (length t ≡ length {A = ℕ} (replicate n 0)) → Ready sort s t l (length g)
+  table-ready n e h = other-ready (h .0) (λ z. omega (arith, h .1, length-replicate {A = ℕ} n 0))
 
   -- a table of n zeros can take the glyph map, if it has places for the numbers
   pub table-clear : (n : ℕ) → n % 4 ≡ 1 → ((k : ℕ) → k < length g / 4 → word g (4 * k) < n / 4) → Clear g (replicate n 0)

@@ -11,7 +11,7 @@ use Rattle.meaning.specs.Tables.{Table, coverContext}
 use Rattle.meaning.specs.Fault.{coversFault}
 use Rattle.maps.specs.Forms.{mapOf}
 use Rattle.checks.specs.Parts.{byGlyphFault, ligaturesFault, pairsFault}
-use Rattle.by_index.specs.Tables.{BothAscend}
+use Rattle.by_index.specs.Tables.{BothServe}
 use Rattle.by_index.specs.Whole.{glyphContext, ligatureTable}
 use Rattle.by_index.specs.PairTable.{pairTable}
 use Rattle.glyph_tables.specs.declared.Sort.{Sort}
@@ -35,10 +35,10 @@ sortTable Pairs s = pairTable s
 sortTable Covers s = coverContext false s
 sortTable ChainedCovers s = coverContext true s
 
--- the source has no fault, and both maps, in either form, can be asked
+-- the source has no fault, and both maps, in any form, can be asked
 pub record Asked (sort : Sort) (s glyphs lookups : List ℕ) : Type 0 where
   pub sound : sortFault sort s ≡ none
-  pub maps : BothAscend glyphs lookups
+  pub maps : BothServe s glyphs lookups
 
 -- scratch has four bytes and two for each entry of the glyph map
 pub record Spacious (glyphs to places : List ℕ) : Type 0 where

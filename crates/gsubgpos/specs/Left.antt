@@ -13,7 +13,7 @@ use Rattle.meaning.specs.Layout.{block, ruleWords, setWords}
 use Rattle.laws.specs.Members.{members, memberAt}
 use Rattle.rules.specs.Left.{stays, rule-stays}
 -- what contracts on sets say of the maps, for the crates above
-pub use Rattle.rules.specs.Left.{Ascends, NumbersAscend, AllAscend, mapsOf}
+pub use Rattle.rules.specs.Left.{Ascends, Serves, serves-plain, NumbersServe, AllServe, mapsOf}
 
 -- the words of what is left of the set of rules at `at`
 unfoldable pub setLeft : Bool → RuleMaps → List ℕ → ℕ → List ℕ

@@ -22,7 +22,7 @@ ghost use Rattle.meaning.specs.Layout.{ruleWords};
 ghost use Rattle.laws.specs.Written.{Wrote};
 ghost use Rattle.laws.specs.Members.{wordsLeft, sized};
 ghost use Rattle.wire.specs.Fault.{faultOf};
-ghost use Rattle.gsubgpos.specs.Left.{NumbersAscend, AllAscend, mapsOf, setLeft, ruleAt, rulesLeft};
+ghost use Rattle.gsubgpos.specs.Left.{NumbersServe, AllServe, mapsOf, setLeft, ruleAt, rulesLeft};
 
 // The lowest fault among the rules that the `n` offsets of the set at `at` reach.
 fn check_rules(chained: bool, src: &[u8], at: usize, n: usize) -> Fault
@@ -67,7 +67,7 @@ fn survives_at(
     input: &[u8],
     ahead: &[u8],
 ) -> bool
-    requires { ⌜ (base < 0x100_0000_0000) × NumbersAscend (now back) (now input) (now ahead) ⌝ }
+    requires { ⌜ (base < 0x100_0000_0000) × NumbersServe (now src) (now back) (now input) (now ahead) ⌝ }
     ensures { λ r. ⌜ r ≡ isSome (ruleAt chained (mapsOf (now (back .entry)) (now (input .entry)) (now (ahead .entry)) []) (now (src .entry)) base slot) ⌝ }
 {
     let off = word_at(src, slot);
@@ -86,7 +86,7 @@ pub fn set_survives(
     input: &[u8],
     ahead: &[u8],
 ) -> bool
-    requires { ⌜ (at < 0x100_0000_0000) × NumbersAscend (now back) (now input) (now ahead) ⌝ }
+    requires { ⌜ (at < 0x100_0000_0000) × NumbersServe (now src) (now back) (now input) (now ahead) ⌝ }
     ensures { λ r. ⌜ r ≡ isSome (cutSet chained (mapsOf (now (back .entry)) (now (input .entry)) (now (ahead .entry)) []) (ruleSet chained (now (src .entry)) at)) ⌝ }
 {
     let n = word_at(src, at);
@@ -112,7 +112,7 @@ fn rules_left(
     input: &[u8],
     ahead: &[u8],
 ) -> usize
-    requires { ⌜ (at < 0x100_0000_0000) × (n < 65536) × NumbersAscend (now back) (now input) (now ahead) ⌝ }
+    requires { ⌜ (at < 0x100_0000_0000) × (n < 65536) × NumbersServe (now src) (now back) (now input) (now ahead) ⌝ }
     ensures { λ r. ⌜ (r ≡ length (rulesLeft chained (mapsOf (now (back .entry)) (now (input .entry)) (now (ahead .entry)) []) (now (src .entry)) at n)) × (r ≤ n) ⌝ }
 {
     let mut k = 0;
@@ -137,7 +137,7 @@ fn size_at(
     ahead: &[u8],
     lookups: &[u8],
 ) -> usize
-    requires { ⌜ (base < 0x100_0000_0000) × AllAscend (now back) (now input) (now ahead) (now lookups) ⌝ }
+    requires { ⌜ (base < 0x100_0000_0000) × AllServe (now src) (now back) (now input) (now ahead) (now lookups) ⌝ }
     ensures { λ r. ⌜ (r ≡ sized (ruleWords chained) (push (ruleAt chained (mapsOf (now (back .entry)) (now (input .entry)) (now (ahead .entry)) (now (lookups .entry))) (now (src .entry)) base slot) [])) × (r < 0x20_0000) ⌝ }
 {
     let off = word_at(src, slot);
@@ -161,7 +161,7 @@ pub fn set_size(
     ahead: &[u8],
     lookups: &[u8],
 ) -> usize
-    requires { ⌜ (at < 0x100_0000_0000) × AllAscend (now back) (now input) (now ahead) (now lookups) ⌝ }
+    requires { ⌜ (at < 0x100_0000_0000) × AllServe (now src) (now back) (now input) (now ahead) (now lookups) ⌝ }
     ensures { λ r. ⌜ (r ≡ 2 * length (setLeft chained (mapsOf (now (back .entry)) (now (input .entry)) (now (ahead .entry)) (now (lookups .entry))) (now (src .entry)) at)) × (r < 0x100_0000_0000) ⌝ }
 {
     let n = word_at(src, at);
@@ -196,7 +196,7 @@ fn write_at(
     out: &mut [u8],
     pos: usize,
 ) -> usize
-    requires { ⌜ (base < 0x100_0000_0000) × (pos < 0x1000_0000_0000) × AllAscend (now back) (now input) (now ahead) (now lookups) ⌝ }
+    requires { ⌜ (base < 0x100_0000_0000) × (pos < 0x1000_0000_0000) × AllServe (now src) (now back) (now input) (now ahead) (now lookups) ⌝ }
     ensures { λ r. ⌜ (Wrote (now (out .entry)) pos (wordsLeft (ruleWords chained) (ruleAt chained (mapsOf (now (back .entry)) (now (input .entry)) (now (ahead .entry)) (now (lookups .entry))) (now (src .entry)) base slot)) (now (out .exit)) r) × (r < pos + 0x10_0000) ⌝ }
 {
     let off = word_at(src, slot);
@@ -228,7 +228,7 @@ pub fn write_set(
     out: &mut [u8],
     pos: usize,
 ) -> usize
-    requires { ⌜ (at < 0x100_0000_0000) × (pos < 0x100_0000_0000) × AllAscend (now back) (now input) (now ahead) (now lookups) ⌝ }
+    requires { ⌜ (at < 0x100_0000_0000) × (pos < 0x100_0000_0000) × AllServe (now src) (now back) (now input) (now ahead) (now lookups) ⌝ }
     ensures { λ r. ⌜ Wrote (now (out .entry)) pos (setLeft chained (mapsOf (now (back .entry)) (now (input .entry)) (now (ahead .entry)) (now (lookups .entry))) (now (src .entry)) at) (now (out .exit)) r ⌝ }
 {
     let n = word_at(src, at);

@@ -19,7 +19,7 @@ ghost use Rattle.meaning.specs.Fault.{faultThrough, ligatureFault, setFault};
 ghost use Rattle.meaning.specs.Cut.{cutLigatures};
 ghost use Rattle.laws.specs.Written.{Wrote};
 ghost use Rattle.wire.specs.Fault.{faultOf};
-ghost use Rattle.sequences.specs.Renumbered.{Ascends};
+ghost use Rattle.sequences.specs.Served.{Serves};
 ghost use Rattle.ligature_subst.specs.Left.{ligatureLeft, ligaturesLeft, setLeft};
 
 // How many components a ligature with this count lists: all but the first; a count of 0 lists none.
@@ -49,7 +49,7 @@ fn check_ligature(src: &[u8], at: usize) -> Fault
 
 // How many bytes what is left of the ligature at `at` takes; 0 if it goes.
 fn ligature_size(src: &[u8], at: usize, glyphs: &[u8]) -> usize
-    requires { ⌜ (at < 0x1_0001_0000) × Ascends (now glyphs) ⌝ }
+    requires { ⌜ (at < 0x1_0001_0000) × Serves (now src) (now glyphs) ⌝ }
     ensures { λ r. ⌜ (r ≡ 2 * length (ligatureLeft (now (glyphs .entry)) (now (src .entry)) at)) × (r ≤ 0x20000) ⌝ }
 {
     let Found::New(_) = find(glyphs, word_at(src, at)) else {
@@ -64,7 +64,7 @@ fn ligature_size(src: &[u8], at: usize, glyphs: &[u8]) -> usize
 
 // What is left of the ligature at `at`, written from `pos` on where there is room; the place after it. One that goes writes nothing.
 fn write_ligature(src: &[u8], at: usize, glyphs: &[u8], out: &mut [u8], pos: usize) -> usize
-    requires { ⌜ (at < 0x1_0001_0000) × (pos < 0x1000_0000_0000) × Ascends (now glyphs) ⌝ }
+    requires { ⌜ (at < 0x1_0001_0000) × (pos < 0x1000_0000_0000) × Serves (now src) (now glyphs) ⌝ }
     ensures { λ r. ⌜ Wrote (now (out .entry)) pos (ligatureLeft (now (glyphs .entry)) (now (src .entry)) at) (now (out .exit)) r × (r ≤ pos + 0x20000) ⌝ }
 {
     let old = word_at(src, at);
@@ -115,7 +115,7 @@ pub fn check_set(src: &[u8], at: usize) -> Fault
 
 // Whether the set at `at` survives: one of its ligatures does.
 pub fn intersects_lig_glyph(src: &[u8], at: usize, glyphs: &[u8]) -> bool
-    requires { ⌜ (at < 0x1_0000_0000) × Ascends (now glyphs) ⌝ }
+    requires { ⌜ (at < 0x1_0000_0000) × Serves (now src) (now glyphs) ⌝ }
     ensures { λ r. ⌜ r ≡ isSome (cutLigatures (mapOf (now (glyphs .entry))) (ligatureSet (now (src .entry)) at)) ⌝ }
 {
     let n = word_at(src, at);
@@ -135,7 +135,7 @@ pub fn intersects_lig_glyph(src: &[u8], at: usize, glyphs: &[u8]) -> bool
 
 // How many ligatures of the set at `at` are left.
 fn count_left(src: &[u8], at: usize, glyphs: &[u8]) -> usize
-    requires { ⌜ (at < 0x1_0000_0000) × Ascends (now glyphs) ⌝ }
+    requires { ⌜ (at < 0x1_0000_0000) × Serves (now src) (now glyphs) ⌝ }
     ensures { λ r. ⌜ (r ≡ length (ligaturesLeft (now (glyphs .entry)) (now (src .entry)) at)) × (r < 65536) ⌝ }
 {
     let n = word_at(src, at);
@@ -156,7 +156,7 @@ fn count_left(src: &[u8], at: usize, glyphs: &[u8]) -> usize
 
 // How many bytes what is left of the set at `at` takes: its count, and an offset and the words of each ligature that is left.
 pub fn set_size(src: &[u8], at: usize, glyphs: &[u8]) -> usize
-    requires { ⌜ (at < 0x1_0000_0000) × Ascends (now glyphs) ⌝ }
+    requires { ⌜ (at < 0x1_0000_0000) × Serves (now src) (now glyphs) ⌝ }
     ensures { λ r. ⌜ (r ≡ 2 * length (setLeft (now (glyphs .entry)) (now (src .entry)) at)) × (r < 0x100_0000_0000) ⌝ }
 {
     let n = word_at(src, at);
@@ -178,7 +178,7 @@ pub fn set_size(src: &[u8], at: usize, glyphs: &[u8]) -> usize
 
 // What is left of the set at `at`, written from `pos` on where there is room; the place after it.
 pub fn write_set(src: &[u8], at: usize, glyphs: &[u8], out: &mut [u8], pos: usize) -> usize
-    requires { ⌜ (at < 0x1_0000_0000) × (pos < 0x100_0000_0000) × Ascends (now glyphs) ⌝ }
+    requires { ⌜ (at < 0x1_0000_0000) × (pos < 0x100_0000_0000) × Serves (now src) (now glyphs) ⌝ }
     ensures { λ r. ⌜ Wrote (now (out .entry)) pos (setLeft (now (glyphs .entry)) (now (src .entry)) at) (now (out .exit)) r ⌝ }
 {
     let k = count_left(src, at, glyphs);

@@ -11,7 +11,7 @@ use Rattle.meaning.specs.Words.{word, ascends, keys}
 use Rattle.meaning.specs.Maps.{mapEntries, goodGlyphs, goodLookups}
 use Rattle.laws.specs.Left.{column, keys-column, values-column}
 use Rattle.laws.specs.Ascends.{Bracket, bracket-all, bracket-up, bracket-down, bracket-none, find-none, find-some, map-length, map-key, map-value}
-use Rattle.maps.specs.Forms.{Listed, of-listed-form, numbers-past, number-gone, number-new}
+use Rattle.maps.specs.Forms.{Listed, Numbered, of-listed-form, numbers-past, number-gone, number-new}
 use Rattle.maps.specs.Found.{foundOf, Answers}
 use Rattle.maps.specs.declared.Found.the-variants.{New, Gone}
 
@@ -54,7 +54,7 @@ halving-on k g l b = record { listed = k .listed; good = k .good; order = g; wit
 
 module _ {m : List ℕ} {x : ℕ} where
   pub halving-all : Listed m → Halving m x 0 (length m / 4)
-  halving-all l = record { listed = l; good = rw (of-listed-form m (l .form)) at (l .ascend); order = omega arith; within = omega arith; bracket = bracket-all (sym (map-length m)) }
+  halving-all l = record { listed = l; good = rw (of-listed-form m (l .not-numbers) (l .not-runs)) at (l .ascend); order = omega arith; within = omega arith; bracket = bracket-all (sym (map-length m)) }
 
   module _ {lo hi o : ℕ} (mid : ℕ) (k : Halving m x lo hi) (l : mid < hi) (e : o ≡ word m (4 * mid)) where
     -- what was read is the middle key
@@ -71,19 +71,19 @@ module _ {m : List ℕ} {x : ℕ} where
     halving-found {n} f v =
         let h : mid < length m / 4 = omega (arith, k .within) in
         let there = find-some (mapEntries m) x mid (k .good) (omega (arith, map-length m)) (middle ∙ f) in
-        record { answer = rw (of-listed-form m (k .listed .form)) (ap New (v .0 ∙ sym (map-value m mid h)) ∙ sym (ap foundOf there)); small = v .1 }
+        record { answer = rw (of-listed-form m (k .listed .not-numbers) (k .listed .not-runs)) (ap New (v .0 ∙ sym (map-value m mid h)) ∙ sym (ap foundOf there)); small = v .1 }
 
   pub halving-gone : {lo hi : ℕ} → Halving m x lo hi → hi ≤ lo → Answers m x Gone
-  halving-gone k l = record { answer = rw (of-listed-form m (k .listed .form)) (sym (ap foundOf (find-none (mapEntries m) x (bracket-none (k .bracket) l)))); small = omega arith }
+  halving-gone k l = record { answer = rw (of-listed-form m (k .listed .not-numbers) (k .listed .not-runs)) (sym (ap foundOf (find-none (mapEntries m) x (bracket-none (k .bracket) l)))); small = omega arith }
 
 -- What the reading of a map by number answers.
-module _ (m : List ℕ) (form : length m % 4 ≡ 1) (x : ℕ) where
-  pub past-answers : length m / 4 ≤ x → Answers m x Gone
-  past-answers h = record { answer = rw (numbers-past m form x h) refl; small = omega arith }
+module _ (m : List ℕ) (n : ℕ) (k : Numbered m n) (x : ℕ) where
+  pub past-answers : n ≤ x → Answers m x Gone
+  past-answers h = record { answer = rw (numbers-past m n k x h) refl; small = omega arith }
 
-  module _ (h : x < length m / 4) {w : ℕ} (e : w ≡ word m (4 * x)) where
+  module _ (h : x < n) {w : ℕ} (e : w ≡ word m (4 * x)) where
     pub gone-answers : w ≡ 0 → Answers m x Gone
-    gone-answers z = record { answer = rw (number-gone m form x h e z) refl; small = omega arith }
+    gone-answers z = record { answer = rw (number-gone m n k x h e z) refl; small = omega arith }
 
-    pub new-answers : (w ≡ 0 → ⊥) → {n : ℕ} → (n ≡ word m (4 * x + 2)) × (n < 65536) → Answers m x (New n)
-    new-answers z v = record { answer = rw (number-new m form x h e z (v .0)) refl; small = v .1 }
+    pub new-answers : (w ≡ 0 → ⊥) → {v : ℕ} → (v ≡ word m (4 * x + 2)) × (v < 65536) → Answers m x (New v)
+    new-answers z v = record { answer = rw (number-new m n k x h e z (v .0)) refl; small = v .1 }

@@ -1,5 +1,7 @@
--- A map of numbers comes in two forms. Listed: entries of four bytes, an old number and its new one, the old ones ascending.
--- By number: four bytes for each old number from 0 on, a word that is 0 if the number is not mapped, and its new number; and one byte more, by which the two forms are told apart.
+-- A map of numbers comes in three forms, told apart by what its length leaves when it is divided by 4.
+-- Listed (0): entries of four bytes, an old number and its new one, the old ones ascending.
+-- By number (1): four bytes for each old number from 0 on, a word that is 0 if the number is not mapped, and its new number; and one byte more.
+-- With runs (2): the same for each of the 65,536 numbers, then a word for each place of a source, which says how many words from there on are mapped, and two bytes more.
 use Prim.Native.Nat.{ℕ, zero, suc, _+_, _*_, _/_, _%_, _≤_, _<_}
 use mathlib.Core.Path.{_≡_, refl, sym, ap, ap₂, _∙_}
 use mathlib.Core.Bool.{Bool, true, false, cond}
@@ -10,7 +12,7 @@ use native.Mathlib.Nat.{zero-add}
 use native.Mathlib.Omega.{arith}
 use native.Mathlib.Decide.{decLt}
 use lib.ListN.{length, getD, set, take, length-set, List·getD-eq-default}
-use lib.Seq.{sets, length-sets, ext-getD, getD-set-same, getD-set-other, take-suc, take-all}
+use lib.Seq.{sets, length-sets, ext-getD, getD-set-same, getD-set-other, getD-take, length-take-le, take-suc, take-all}
 use lib.Dec.{eqb}
 use borrow.Author.Tests.{eq-eqb, ne-eqb, eqb-true, eqb-false}
 use Rattle.meaning.specs.Words.{word, entries, flat, bytes2, find, keys, ascends}
@@ -24,36 +26,53 @@ unfoldable pub present : ℕ → List (ℕ × ℕ) → List (ℕ × ℕ)
 present i [] = []
 present i (e ∷ es) = cond (eqb (e .0) 0) (present (i + 1) es) ((i, e .1) ∷ present (i + 1) es)
 
--- the entries, (old, new), of a map in either form
+-- the entries, (old, new), of a map in any form
 unfoldable pub mapOf : List ℕ → List (ℕ × ℕ)
-mapOf m = cond (eqb (length m % 4) 1) (present 0 (mapEntries m)) (mapEntries m)
+mapOf m =
+    cond (eqb (length m % 4) 1) (present 0 (mapEntries m))
+    (cond (eqb (length m % 4) 2) (present 0 (entries m 0 65536)) (mapEntries m))
 
 -- the entries of each form
 pub of-numbers : (m : List ℕ) → length m % 4 ≡ 1 → mapOf m ≡ present 0 (mapEntries m)
 unfolding mapOf
 of-numbers m e = rw (eq-eqb (length m % 4) 1 e) refl
 
-pub of-listed : (m : List ℕ) → (length m % 4 ≡ 1 → ⊥) → mapOf m ≡ mapEntries m
+pub of-runs : (m : List ℕ) → length m % 4 ≡ 2 → mapOf m ≡ present 0 (entries m 0 65536)
 unfolding mapOf
-of-listed m e = rw (ne-eqb (length m % 4) 1 e) refl
+of-runs m e = rw (ne-eqb (length m % 4) 1 (λ f. omega arith), eq-eqb (length m % 4) 2 e) refl
 
-pub of-listed-form : (m : List ℕ) → eqb (length m % 4) 1 ≡ false → mapOf m ≡ mapEntries m
+pub of-listed-form : (m : List ℕ) → eqb (length m % 4) 1 ≡ false → eqb (length m % 4) 2 ≡ false → mapOf m ≡ mapEntries m
 unfolding mapOf
-of-listed-form m e = rw e refl
+of-listed-form m e f = rw (e, f) refl
+
+pub of-listed : (m : List ℕ) → length m % 4 ≡ 0 → mapOf m ≡ mapEntries m
+of-listed m z = of-listed-form m (ne-eqb (length m % 4) 1 (λ e. omega arith)) (ne-eqb (length m % 4) 2 (λ e. omega arith))
 
 -- what halving asks of a map: it is listed, and its old numbers ascend
 pub record Listed (m : List ℕ) : Type 0 where
-  pub form : eqb (length m % 4) 1 ≡ false
+  pub not-numbers : eqb (length m % 4) 1 ≡ false
+  pub not-runs : eqb (length m % 4) 2 ≡ false
   pub ascend : ascends (keys (mapOf m)) ≡ true
 
--- a good map is listed
-pub of-glyphs : (m : List ℕ) → goodGlyphs m ≡ true → mapOf m ≡ mapEntries m
+-- what looking a number up at its place asks of a map: it has four bytes for each of n numbers
+pub record Numbered (m : List ℕ) (n : ℕ) : Type 0 where
+  pub places : mapOf m ≡ present 0 (entries m 0 n)
+  pub near : 4 * n < 0x1_0000_0000_0000_0000
+
+-- the length of a good map, which is listed
+pub glyphs-form : (m : List ℕ) → goodGlyphs m ≡ true → length m % 4 ≡ 0
 unfolding goodGlyphs
-of-glyphs m h = of-listed m (λ e. let z = eqb-true (length m % 4) 0 (both (eqb (length m % 4) 0) _ h .0) in omega arith)
+glyphs-form m h = eqb-true (length m % 4) 0 (both (eqb (length m % 4) 0) _ h .0)
+
+pub lookups-form : (m : List ℕ) → goodLookups m ≡ true → length m % 4 ≡ 0
+unfolding goodLookups
+lookups-form m h = eqb-true (length m % 4) 0 (both (eqb (length m % 4) 0) _ h .0)
+
+pub of-glyphs : (m : List ℕ) → goodGlyphs m ≡ true → mapOf m ≡ mapEntries m
+of-glyphs m h = of-listed m (glyphs-form m h)
 
 pub of-lookups : (m : List ℕ) → goodLookups m ≡ true → mapOf m ≡ mapEntries m
-unfolding goodLookups
-of-lookups m h = of-listed m (λ e. let z = eqb-true (length m % 4) 0 (both (eqb (length m % 4) 0) _ h .0) in omega arith)
+of-lookups m h = of-listed m (lookups-form m h)
 
 -- What a map by number answers: the entry of the number says it.
 
@@ -94,23 +113,21 @@ present-past i x (e ∷ es) h = step (eqb (e .0) 0) (present-past (i + 1) x es (
     step true r = r
     step false r = rw (ne-eqb i x (λ q. omega arith)) r
 
-module _ (m : List ℕ) (form : length m % 4 ≡ 1) (x : ℕ) where
+module _ (m : List ℕ) (n : ℕ) (k : Numbered m n) (x : ℕ) where
   -- it has no entry for the number
-  pub numbers-past : length m / 4 ≤ x → find (mapOf m) x ≡ none
-  unfolding mapEntries
-  numbers-past h = rw (of-numbers m form) (present-past 0 x (entries m 0 (length m / 4)) (omega (arith, entries-length m 0 (length m / 4))))
+  pub numbers-past : n ≤ x → find (mapOf m) x ≡ none
+  numbers-past h = rw (k .places) (present-past 0 x (entries m 0 n) (omega (arith, entries-length m 0 n)))
 
-  module _ (h : x < length m / 4) where
+  module _ (h : x < n) where
     number-is : find (mapOf m) x ≡ cond (eqb (word m (4 * x)) 0) none (some (word m (4 * x + 2)))
-    unfolding mapEntries
     number-is =
-        rw (of-numbers m form) (rw zero-add at (present-at 0 x (entries m 0 (length m / 4)) (omega (arith, entries-length m 0 (length m / 4)))))
-        ∙ ap answerOf (rw zero-add at (entries-at m 0 (length m / 4) x h))
+        rw (k .places) (rw zero-add at (present-at 0 x (entries m 0 n) (omega (arith, entries-length m 0 n))))
+        ∙ ap answerOf (rw zero-add at (entries-at m 0 n x h))
 
     pub number-gone : {w : ℕ} → w ≡ word m (4 * x) → w ≡ 0 → find (mapOf m) x ≡ none
     number-gone e z = number-is ∙ rw (eq-eqb (word m (4 * x)) 0 (sym e ∙ z)) refl
 
-    pub number-new : {w n : ℕ} → w ≡ word m (4 * x) → (w ≡ 0 → ⊥) → n ≡ word m (4 * x + 2) → find (mapOf m) x ≡ some n
+    pub number-new : {w v : ℕ} → w ≡ word m (4 * x) → (w ≡ 0 → ⊥) → v ≡ word m (4 * x + 2) → find (mapOf m) x ≡ some v
     number-new e z f = number-is ∙ rw (ne-eqb (word m (4 * x)) 0 (λ q. z (e ∙ q)), sym f) refl
 
 -- Laying a map out by number: each entry is written at the place of its old number, in bytes that were all 0.
@@ -132,6 +149,17 @@ read-among (a ∷ vs) t p zero h l =
 read-among (a ∷ vs) t p (suc k) h l =
     let e : p + suc k ≡ suc p + k = omega arith in
     rw e (read-among vs (set t p a) (suc p) k (omega arith) (omega (arith, length-set t p a)))
+
+-- the same of a word: the one that is written, and one after it
+pub written-word : (t : List ℕ) (p w : ℕ) → p + 2 ≤ length t → w < 65536 → word (sets t p (bytes2 w)) p ≡ w
+unfolding word bytes2
+written-word t p w l h =
+    let e : p + 0 ≡ p = omega arith in
+    rw (rw e at (read-among (bytes2 w) t p 0 (omega arith) (omega arith)), read-among (bytes2 w) t p 1 (omega arith) (omega arith)) (omega arith)
+
+pub later-word : (t : List ℕ) (p w q : ℕ) → p + 2 ≤ q → word (sets t p (bytes2 w)) q ≡ word t q
+unfolding word bytes2
+later-word t p w q h = rw (read-after (bytes2 w) t p q (omega arith), read-after (bytes2 w) t p (q + 1) (omega arith)) refl
 
 -- writing an entry at the place of a number sets the number's entry
 module _ (t : List ℕ) (x v : ℕ) (h : x < length t / 4) (w : v < 65536) where
@@ -277,3 +305,30 @@ module _ {m table₀ : List ℕ} where
 
   pub laying-end : {table : List ℕ} {i : ℕ} → Laying m table₀ table i → length m / 4 ≤ i → mapOf table ≡ mapEntries m
   laying-end {table} {i} c h = of-numbers table (rw (c .size) (c .clear .form)) ∙ c .laid ∙ take-all i (mapEntries m) (omega (arith, entry-count m))
+
+-- A table with runs: its numbers stand in its first 262,144 bytes, and nothing else says which they are.
+
+-- two lists that agree before `p` have the same entries there
+entries-same : (a b : List ℕ) (p at n : ℕ) → at + 4 * n ≤ p → ((q : ℕ) → q < p → getD a q 0 ≡ getD b q 0) → entries a at n ≡ entries b at n
+unfolding entries word
+entries-same a b p at zero h same = refl
+entries-same a b p at (suc n) h same =
+    let rest = entries-same a b p (at + 4) n (omega arith) same in
+    rw (same at (omega arith), same (at + 1) (omega arith), same (at + 2) (omega arith), same (at + 2 + 1) (omega arith), rest) refl
+
+-- so a table's numbers, and one byte more, are a map by number of the same entries
+pub runs-numbers : (m : List ℕ) → length m ≡ 393218 → mapOf m ≡ mapOf (take 262145 m)
+unfolding mapEntries
+runs-numbers m e =
+    let long : length (take 262145 m) ≡ 262145 = length-take-le 262145 m (omega arith) in
+    let quarter : length (take 262145 m) / 4 ≡ 65536 = omega (arith, long) in
+    of-runs m (omega arith)
+    ∙ ap (present 0) (entries-same m (take 262145 m) 262145 0 65536 (omega arith) (λ q l. sym (getD-take 262145 m q 0 l)))
+    ∙ sym (of-numbers (take 262145 m) (omega (arith, long)) ∙ rw quarter refl)
+
+-- what is written after the numbers leaves them as they are
+pub runs-written : (m : List ℕ) (p : ℕ) (vs : List ℕ) → length m % 4 ≡ 2 → 262144 ≤ p → mapOf (sets m p vs) ≡ mapOf m
+runs-written m p vs e h =
+    of-runs (sets m p vs) (omega (arith, length-sets m p vs))
+    ∙ ap (present 0) (entries-same (sets m p vs) m p 0 65536 (omega arith) (λ q l. read-before vs m p q l))
+    ∙ sym (of-runs m e)

@@ -1,5 +1,6 @@
 // Maps of numbers: four bytes an entry, an old word and its new word, the old ones strictly ascending.
 // For sources that ask often, a map is laid out by number as well: then an answer takes one place's reading in the place of halving.
+// A table by number may carry runs besides, a word for each place of a source, which another crate writes and reads.
 use wire::ascending;
 use wire::put_entry;
 use wire::word_at;
@@ -7,9 +8,8 @@ ghost use mathlib.Core.Path.{_≡_};
 ghost use mathlib.Core.Bool.{true};
 ghost use Rattle.meaning.specs.Words.{ascends, keys};
 ghost use Rattle.meaning.specs.Maps.{mapEntries, goodGlyphs, goodLookups};
-ghost use Rattle.maps.specs.Forms.{mapOf, Listed, Clear};
+ghost use Rattle.maps.specs.Forms.{mapOf, Listed, Numbered, Clear};
 ghost use Rattle.maps.specs.Found.{Answers};
-ghost use Prim.Native.Nat.{_%_};
 ghost use lib.ListN.{length};
 
 // What a map answers: the new number, or that there is none.
@@ -60,12 +60,12 @@ fn halve(m: &[u8], old: usize) -> Found
     Found::Gone
 }
 
-// The new number of `old` in a map by number, by its place.
-fn look_up(m: &[u8], old: usize) -> Found
-    requires { ⌜ length (now m) % 4 ≡ 1 ⌝ }
+// The new number of `old` in a map by number that has `n` numbers, by its place.
+fn look_up(m: &[u8], n: usize, old: usize) -> Found
+    requires { ⌜ Numbered (now m) n ⌝ }
     ensures { λ r. ⌜ Answers (now (m .entry)) old r ⌝ }
 {
-    if m.len() / 4 <= old {
+    if n <= old {
         return Found::Gone;
     }
     if word_at(m, 4 * old) == 0 {
@@ -74,13 +74,16 @@ fn look_up(m: &[u8], old: usize) -> Found
     Found::New(word_at(m, 4 * old + 2))
 }
 
-// The new number of `old` in a map of either form.
+// The new number of `old` in a map of any form.
 pub fn find(m: &[u8], old: usize) -> Found
     requires { ⌜ ascends (keys (mapOf (now m))) ≡ true ⌝ }
     ensures { λ r. ⌜ Answers (now (m .entry)) old r ⌝ }
 {
     if m.len() % 4 == 1 {
-        return look_up(m, old);
+        return look_up(m, m.len() / 4, old);
+    }
+    if m.len() % 4 == 2 {
+        return look_up(m, 65536, old);
     }
     halve(m, old)
 }

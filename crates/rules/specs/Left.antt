@@ -14,16 +14,17 @@ use Rattle.laws.specs.Members.{wordsLeft}
 use Rattle.sequences.specs.Renumbered.{newOf, renumbered}
 -- what contracts on rules say of a map, for the crates above
 pub use Rattle.sequences.specs.Renumbered.{Ascends}
+pub use Rattle.sequences.specs.Served.{Serves, serves-plain}
 
--- each of the three maps that a rule's numbers go through can be asked
-pub record NumbersAscend (b i a : List ℕ) : Type 0 where
-  pub back : Ascends b
-  pub input : Ascends i
-  pub ahead : Ascends a
+-- each of the three maps that a rule's numbers go through can be asked for the words of the source
+pub record NumbersServe (src b i a : List ℕ) : Type 0 where
+  pub back : Serves src b
+  pub input : Serves src i
+  pub ahead : Serves src a
 
--- and the map of the lookups too
-pub record AllAscend (b i a l : List ℕ) : Type 0 where
-  pub numbers : NumbersAscend b i a
+-- and the map of the lookups can be asked too
+pub record AllServe (src b i a l : List ℕ) : Type 0 where
+  pub numbers : NumbersServe src b i a
   pub lookups : Ascends l
 
 -- the four maps of a rule, each the entries of lent bytes

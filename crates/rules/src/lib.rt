@@ -22,7 +22,7 @@ ghost use Rattle.meaning.specs.Layout.{ruleWords};
 ghost use Rattle.laws.specs.Written.{Wrote};
 ghost use Rattle.wire.specs.Fault.{faultOf};
 ghost use Rattle.sequences.specs.Renumbered.{Ascends, renumbered};
-ghost use Rattle.rules.specs.Left.{NumbersAscend, AllAscend, mapsOf, ruleLeft, countStays, renumberedRule};
+ghost use Rattle.rules.specs.Left.{NumbersServe, AllServe, mapsOf, ruleLeft, countStays, renumberedRule};
 ghost use Rattle.rules.specs.Parts.{IsRule};
 
 // Numbers or records in a row: where the first stands, and how many there are.
@@ -198,7 +198,7 @@ pub fn rule_survives(
     input: &[u8],
     ahead: &[u8],
 ) -> bool
-    requires { ⌜ (at < 0x1000_0000_0000) × NumbersAscend (now back) (now input) (now ahead) ⌝ }
+    requires { ⌜ (at < 0x1000_0000_0000) × NumbersServe (now src) (now back) (now input) (now ahead) ⌝ }
     ensures { λ r. ⌜ r ≡ isSome (cutRule chained (mapsOf (now (back .entry)) (now (input .entry)) (now (ahead .entry)) []) (rule chained (now (src .entry)) at)) ⌝ }
 {
     if chained {
@@ -250,7 +250,7 @@ pub fn rule_size(
     ahead: &[u8],
     lookups: &[u8],
 ) -> usize
-    requires { ⌜ (at < 0x1000_0000_0000) × AllAscend (now back) (now input) (now ahead) (now lookups) ⌝ }
+    requires { ⌜ (at < 0x1000_0000_0000) × AllServe (now src) (now back) (now input) (now ahead) (now lookups) ⌝ }
     ensures { λ r. ⌜ (r ≡ 2 * length (ruleLeft chained (mapsOf (now (back .entry)) (now (input .entry)) (now (ahead .entry)) (now (lookups .entry))) (now (src .entry)) at)) × (r < 0x10_0000) ⌝ }
 {
     if chained {
@@ -323,7 +323,7 @@ fn write_chained(
     out: &mut [u8],
     pos: usize,
 ) -> usize
-    requires { ⌜ (at < 0x1000_0000_0000) × (pos < 0x1000_0000_0000) × AllAscend (now back) (now input) (now ahead) (now lookups) ⌝ }
+    requires { ⌜ (at < 0x1000_0000_0000) × (pos < 0x1000_0000_0000) × AllServe (now src) (now back) (now input) (now ahead) (now lookups) ⌝ }
     ensures { λ r. ⌜ (Wrote (now (out .entry)) pos (ruleWords true (renumberedRule (mapsOf (now (back .entry)) (now (input .entry)) (now (ahead .entry)) (now (lookups .entry))) (rule true (now (src .entry)) at))) (now (out .exit)) r) × (r < pos + 0x10_0000) ⌝ }
 {
     let r = chained_parts(src, at);
@@ -345,7 +345,7 @@ pub fn write_rule(
     out: &mut [u8],
     pos: usize,
 ) -> usize
-    requires { ⌜ (at < 0x1000_0000_0000) × (pos < 0x1000_0000_0000) × AllAscend (now back) (now input) (now ahead) (now lookups) ⌝ }
+    requires { ⌜ (at < 0x1000_0000_0000) × (pos < 0x1000_0000_0000) × AllServe (now src) (now back) (now input) (now ahead) (now lookups) ⌝ }
     ensures { λ r. ⌜ (Wrote (now (out .entry)) pos (ruleLeft chained (mapsOf (now (back .entry)) (now (input .entry)) (now (ahead .entry)) (now (lookups .entry))) (now (src .entry)) at) (now (out .exit)) r) × (r < pos + 0x10_0000) ⌝ }
 {
     if !rule_survives(chained, src, at, back, input, ahead) {

@@ -1,4 +1,5 @@
 // Sequences of glyphs or of classes: whether each has a new number, and the new numbers written.
+// A map may carry runs of the source: then whether all of a sequence have new numbers takes one comparison.
 use maps::Found;
 use maps::find;
 use wire::put;
@@ -9,9 +10,13 @@ ghost use Rattle.meaning.specs.Words.{words, find, isSome, mapAll};
 ghost use Rattle.maps.specs.Forms.{mapOf};
 ghost use Rattle.laws.specs.Written.{Wrote};
 ghost use Rattle.sequences.specs.Renumbered.{Ascends, newOf, renumbered};
+ghost use Rattle.sequences.specs.Served.{Serves, Run, Later, Unfilled, RunsFilled};
 
-// Whether each of the `n` words from `at` on has a new number.
-pub fn mapped(src: &[u8], at: usize, n: usize, map: &[u8]) -> bool
+// Where the runs start in a table with runs.
+const RUNS: usize = 262144;
+
+// Whether each of the `n` words from `at` on has a new number, each of them asked for.
+fn each_mapped(src: &[u8], at: usize, n: usize, map: &[u8]) -> bool
     requires { ⌜ (at + 2 * n < 0x1_0000_0000_0000) × Ascends (now map) ⌝ }
     ensures { λ r. ⌜ r ≡ isSome (mapAll (find (mapOf (now (map .entry)))) (words (now (src .entry)) at n)) ⌝ }
 {
@@ -23,6 +28,46 @@ pub fn mapped(src: &[u8], at: usize, n: usize, map: &[u8]) -> bool
         i += 1;
     }
     true
+}
+
+// Whether each of the `n` words from `at` on has a new number; a map with runs says it at once where all of them lie inside the source.
+pub fn mapped(src: &[u8], at: usize, n: usize, map: &[u8]) -> bool
+    requires { ⌜ (at + 2 * n < 0x1_0000_0000_0000) × Serves (now src) (now map) ⌝ }
+    ensures { λ r. ⌜ r ≡ isSome (mapAll (find (mapOf (now (map .entry)))) (words (now (src .entry)) at n)) ⌝ }
+{
+    if map.len() % 4 == 2 {
+        if at + 2 * n <= src.len() {
+            return n <= word_at(map, RUNS + 2 * at);
+        }
+    }
+    each_mapped(src, at, n, map)
+}
+
+// How many words from `p` on, one after the other and inside the source, have new numbers. The runs at the places after `p` stand in the table.
+fn run_from(src: &[u8], p: usize, table: &[u8]) -> usize
+    requires { ⌜ Later (now src) (now table) p ⌝ }
+    ensures { λ r. ⌜ Run (now (src .entry)) (mapOf (now (table .entry))) p r ⌝ }
+{
+    if src.len() < p + 2 {
+        return 0;
+    }
+    let Found::New(_) = find(table, word_at(src, p)) else {
+        return 0;
+    };
+    1 + word_at(table, RUNS + 2 * (p + 2))
+}
+
+// The runs of the source, filled into a table that has its numbers and the place for runs, from the last place of the source to the first.
+pub fn fill_runs(src: &[u8], table: &mut [u8])
+    requires { ⌜ Unfilled (now src) (now table) ⌝ }
+    ensures { λ _. ⌜ RunsFilled (now (src .entry)) (now (table .entry)) (now (table .exit)) ⌝ }
+{
+    let mut p = src.len() + 1;
+    while 0 < p {
+        p -= 1;
+        let run = run_from(src, p, table);
+        put(table, RUNS + 2 * p, run);
+    }
 }
 
 // The new number of `old`, and 0 where there is none.

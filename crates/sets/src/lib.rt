@@ -9,7 +9,7 @@ ghost use Rattle.meaning.specs.Words.{words};
 ghost use Rattle.meaning.specs.Layout.{blocks};
 ghost use Rattle.laws.specs.Written.{Wrote};
 ghost use Rattle.laws.specs.Slots.{slotBlocks};
-ghost use Rattle.gsubgpos.specs.Left.{NumbersAscend, AllAscend};
+ghost use Rattle.gsubgpos.specs.Left.{NumbersServe, AllServe};
 ghost use Rattle.sets.specs.Sets.{setWordsOf, setStays, LaidDown, Fits};
 
 // The value formats of a pair table: those of the source, and those of the small table.
@@ -37,7 +37,7 @@ pub fn set_survives(
     input: &[u8],
     ahead: &[u8],
 ) -> bool
-    requires { ⌜ (at < 65536) × NumbersAscend (now back) (now input) (now ahead) ⌝ }
+    requires { ⌜ (at < 65536) × NumbersServe (now src) (now back) (now input) (now ahead) ⌝ }
     ensures { λ r. ⌜ r ≡ setStays kind (now (back .entry)) (now (input .entry)) (now (ahead .entry)) (now (src .entry)) at ⌝ }
 {
     match kind {
@@ -58,7 +58,7 @@ fn set_size(
     ahead: &[u8],
     lookups: &[u8],
 ) -> usize
-    requires { ⌜ (at < 65536) × AllAscend (now back) (now input) (now ahead) (now lookups) ⌝ }
+    requires { ⌜ (at < 65536) × AllServe (now src) (now back) (now input) (now ahead) (now lookups) ⌝ }
     ensures { λ r. ⌜ (r ≡ 2 * length (setWordsOf kind (now (back .entry)) (now (input .entry)) (now (ahead .entry)) (now (lookups .entry)) (now (src .entry)) at)) × (r < 0x100_0000_0000) ⌝ }
 {
     match kind {
@@ -81,7 +81,7 @@ fn write_set(
     out: &mut [u8],
     pos: usize,
 ) -> usize
-    requires { ⌜ (at < 65536) × (pos < 0x100_0000_0000) × AllAscend (now back) (now input) (now ahead) (now lookups) ⌝ }
+    requires { ⌜ (at < 65536) × (pos < 0x100_0000_0000) × AllServe (now src) (now back) (now input) (now ahead) (now lookups) ⌝ }
     ensures { λ r. ⌜ Wrote (now (out .entry)) pos (setWordsOf kind (now (back .entry)) (now (input .entry)) (now (ahead .entry)) (now (lookups .entry)) (now (src .entry)) at) (now (out .exit)) r ⌝ }
 {
     match kind {
@@ -105,7 +105,7 @@ pub fn sets_size(
     ahead: &[u8],
     lookups: &[u8],
 ) -> usize
-    requires { ⌜ (n < 65536) × AllAscend (now back) (now input) (now ahead) (now lookups) ⌝ }
+    requires { ⌜ (n < 65536) × AllServe (now src) (now back) (now input) (now ahead) (now lookups) ⌝ }
     ensures { λ r. ⌜ (r ≡ 2 * length (blocks (slotBlocks (setWordsOf kind (now (back .entry)) (now (input .entry)) (now (ahead .entry)) (now (lookups .entry)) (now (src .entry))) (words (now (slots .entry)) 0 n)))) × (r < 0x100_0000_0000_0000) ⌝ }
 {
     let mut total = 0;
@@ -135,7 +135,7 @@ pub fn write_sets(
     slot: usize,
     first: usize,
 ) -> usize
-    requires { ⌜ Fits kind (now back) (now input) (now ahead) (now lookups) (now src) (now slots) n slot first × AllAscend (now back) (now input) (now ahead) (now lookups) ⌝ }
+    requires { ⌜ Fits kind (now back) (now input) (now ahead) (now lookups) (now src) (now slots) n slot first × AllServe (now src) (now back) (now input) (now ahead) (now lookups) ⌝ }
     ensures { λ r. ⌜ LaidDown (slotBlocks (setWordsOf kind (now (back .entry)) (now (input .entry)) (now (ahead .entry)) (now (lookups .entry)) (now (src .entry))) (words (now (slots .entry)) 0 n)) (now (out .entry)) slot first (now (out .exit)) r ⌝ }
 {
     let mut p = first;

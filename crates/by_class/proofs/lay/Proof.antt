@@ -3,14 +3,14 @@ use mathlib.Core.Path.{ap}
 use borrow.Author.Needs.{needs}
 use Rattle.room.specs.Laid.{isKept}
 use Rattle.room.proofs.Refused.{not-kept}
-use Rattle.by_class.proofs.Laid.{all-ascend, lay-refused, lay-writes, lay-kept}
+use Rattle.by_class.proofs.Laid.{all-serve, lay-refused, lay-writes, lay-kept}
 use Rattle.by_class.proofs.lay.Statement.{statement}
 use Rattle.by_class.proofs.lay.Tie as tie
 
 sets-size-requires : tie.Need-sets-size-requires
 sets-size-requires c κs =
     let k = c .before .before .before .before .before .before .before .before .before .before .before .pre in
-    (k .count, all-ascend k)
+    (k .count, all-serve k)
 
 tail-size-requires : tie.Need-tail-size-requires
 tail-size-requires c κs = c .before .before .before .before .before .before .before .before .before .before .before .before .before .pre .ready

@@ -2,14 +2,14 @@
 use mathlib.Core.Path.{refl, _∙_}
 use native.Mathlib.Omega.{arith}
 use borrow.Author.Needs.{needs}
-use Rattle.by_class.proofs.Kept.{covered-ascends, maps-ascend, placed-here, slots-few, nothing-left, something-left}
+use Rattle.by_class.proofs.Kept.{covered-ascends, placed-here, slots-few, nothing-left, something-left}
 use Rattle.by_class.proofs.with_maps.Statement.{statement}
 use Rattle.by_class.proofs.with_maps.Tie as tie
 
 fill-slots-requires : tie.Need-fill-slots-requires
 fill-slots-requires c κs =
     let k = c .before .before .before .before .before .before .before .before .before .before .before .before .before .before .pre in
-    (omega (arith, c .before .before .before .count-slot .ensures .1), c .before .before .word-at .ensures .1, covered-ascends k, maps-ascend k, omega (arith, k .few), k .listed)
+    (omega (arith, c .before .before .before .count-slot .ensures .1), c .before .before .word-at .ensures .1, covered-ascends k, k .maps, omega (arith, k .few), k .listed)
 
 returns : tie.Need-returns
 returns c =
@@ -25,7 +25,7 @@ lay-requires c κs =
     let w = f .before .before .before in
     let s = w .before .before .before .before .before .before .before .before .before .before .before .before in
     let p = placed-here (s .pre) (f .before .before .kind-of .ensures) (w .before .count-slot .ensures .0) (w .word-at .ensures .0) (f .fill-slots .ensures) in
-    record { ready = s .pre .ready; old-lookups = s .pre .old-lookups; count = slots-few (s .pre) p (w .before .count-slot .ensures .0) (w .word-at .ensures) }
+    record { ready = s .pre .ready; maps = s .pre .maps; old-lookups = s .pre .old-lookups; count = slots-few (s .pre) p (w .before .count-slot .ensures .0) (w .word-at .ensures) }
 
 returns-2 : tie.Need-returns-2
 returns-2 c =

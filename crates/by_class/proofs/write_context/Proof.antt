@@ -1,6 +1,6 @@
 -- `by_class::write_context` meets its contract: the four writes, in the order of the header, give the layout. Assumes nothing.
 use borrow.Author.Needs.{needs}
-use Rattle.by_class.proofs.Laid.{all-ascend, writes-tail, writes-fit, context-written}
+use Rattle.by_class.proofs.Laid.{all-serve, writes-tail, writes-fit, context-written}
 use Rattle.by_class.proofs.write_context.Statement.{statement}
 use Rattle.by_class.proofs.write_context.Tie as tie
 
@@ -13,7 +13,7 @@ write-sets-requires : tie.Need-write-sets-requires
 write-sets-requires c κs =
     let p = c .before .before .before .before in
     let w = p .before .before .before .before .before .before .before .before .before .before .before .before .before .before .before .before .before .before .before .before .before .before .before .pre in
-    (writes-fit w (c .before .kind-of .ensures) (p .before .count-slot .ensures .0) (p .put2 .ensures .0), all-ascend (w .lays))
+    (writes-fit w (c .before .kind-of .ensures) (p .before .count-slot .ensures .0) (p .put2 .ensures .0), all-serve (w .lays))
 
 returns : tie.Need-returns
 returns c =

@@ -20,7 +20,7 @@ use Rattle.sets.proofs.write_sets.Reads as write-sets-reads
 use Rattle.room.proofs.Refused.{not-kept}
 use Rattle.room.specs.Laid.{isKept}
 use Rattle.by_index.proofs.Laying.{cover-small, lay-refused, sets-fit, cover-fits, lay-kept}
-use Rattle.by_index.specs.Tables.{all-ascend}
+use Rattle.by_index.specs.Tables.{all-serve}
 
 add-room : tie.Need-add-room
 add-room c =
@@ -41,7 +41,7 @@ write-sets-requires c κs =
     let z = t .before .before .before in
     let h = z .before .before in
     let a = h .before .before .before .before .before .before .before in
-    (sets-fit (a .args .kind) (a .args .src .now) (a .args .places .now) (a .pre) (h .header-size .ensures .0) (z .before .sets-size .ensures .0) (z .size .ensures) (a .args .out .now) (t .before .before .room .ensures) (ap isKept (t .enum-told .given .1)), all-ascend (a .pre .maps))
+    (sets-fit (a .args .kind) (a .args .src .now) (a .args .places .now) (a .pre) (h .header-size .ensures .0) (z .before .sets-size .ensures .0) (z .size .ensures) (a .args .out .now) (t .before .before .room .ensures) (ap isKept (t .enum-told .given .1)), all-serve (a .pre .maps))
 
 write-requires : tie.Need-write-requires
 write-requires c κs =

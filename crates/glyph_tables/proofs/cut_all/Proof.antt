@@ -3,7 +3,7 @@ use Prim.Native.Nat.{_<_}
 use mathlib.Core.Path.{refl}
 use native.Mathlib.Omega.{arith}
 use Rattle.maps.specs.Forms.{of-lookups}
-use Rattle.glyph_tables.proofs.Asks.{other-ready, table-clear, all-places}
+use Rattle.glyph_tables.proofs.Asks.{table-clear, table-ready, all-places}
 use borrow.Author.Needs.{needs}
 use Rattle.glyph_tables.proofs.cut_all.Statement.{statement}
 use Rattle.glyph_tables.proofs.cut_all.Tie as tie
@@ -18,7 +18,7 @@ cut-sized-requires : tie.Need-cut-sized-requires
 cut-sized-requires c κs =
     let g = c .before .before .before .before .before .before .before in
     let a = g .before .before in
-    other-ready (a .pre) (λ i. omega (arith, g .shared-slice-known2 .given i)) (c .before .before .before .by-number .ensures .0)
+    table-ready (a .pre) (λ i. omega (arith, g .shared-slice-known2 .given i)) 262145 refl (c .before .before .before .by-number .ensures)
 
 returns : tie.Need-returns
 returns c =

@@ -3,7 +3,7 @@ use Prim.Native.Nat.{_<_}
 use mathlib.Core.Path.{refl}
 use native.Mathlib.Omega.{arith}
 use Rattle.maps.specs.Forms.{of-lookups}
-use Rattle.glyph_tables.proofs.Asks.{other-ready, table-clear}
+use Rattle.glyph_tables.proofs.Asks.{table-clear, table-ready}
 use borrow.Author.Needs.{needs}
 use Rattle.glyph_tables.proofs.cut_few.Statement.{statement}
 use Rattle.glyph_tables.proofs.cut_few.Tie as tie
@@ -18,7 +18,7 @@ cut-sized-requires : tie.Need-cut-sized-requires
 cut-sized-requires c κs =
     let g = c .before .before .before .before .before .before .before in
     let a = g .before .before in
-    other-ready (a .pre .0) (λ i. omega (arith, g .shared-slice-known2 .given i)) (c .before .before .before .by-number .ensures .0)
+    table-ready (a .pre .0) (λ i. omega (arith, g .shared-slice-known2 .given i)) 8193 refl (c .before .before .before .by-number .ensures)
 
 returns : tie.Need-returns
 returns c =

@@ -12,7 +12,7 @@ write-counted-requires-2 c κs =
     let x = c .before .before .before in
     let r = x .before .before in
     let a = r .before .before .before .before .before .before .before in
-    (omega arith, omega (arith, x .write-counted .ensures .place, row-length (a .args .src .now) (a .args .back .now) (r .chained-parts .result .back)), a .pre .2 .numbers .input)
+    (omega arith, omega (arith, x .write-counted .ensures .place, row-length (a .args .src .now) (a .args .back .now) (r .chained-parts .result .back)), a .pre .2 .numbers .input .ascend)
 
 write-counted-requires-3 : tie.Need-write-counted-requires-3
 write-counted-requires-3 c κs =
@@ -20,7 +20,7 @@ write-counted-requires-3 c κs =
     let x = y .before .before .before .before in
     let r = x .before .before in
     let a = r .before .before .before .before .before .before .before in
-    (omega arith, omega (arith, x .write-counted .ensures .place, y .write-counted2 .ensures .place, row-length (a .args .src .now) (a .args .back .now) (r .chained-parts .result .back), row-length (a .args .src .now) (a .args .input .now) (r .chained-parts .result .input)), a .pre .2 .numbers .ahead)
+    (omega arith, omega (arith, x .write-counted .ensures .place, y .write-counted2 .ensures .place, row-length (a .args .src .now) (a .args .back .now) (r .chained-parts .result .back), row-length (a .args .src .now) (a .args .input .now) (r .chained-parts .result .input)), a .pre .2 .numbers .ahead .ascend)
 
 write-records-requires : tie.Need-write-records-requires
 write-records-requires c κs =
