@@ -22,7 +22,8 @@ ghost use Rattle.meaning.specs.Layout.{ruleWords};
 ghost use Rattle.laws.specs.Written.{Wrote};
 ghost use Rattle.wire.specs.Fault.{faultOf};
 ghost use Rattle.sequences.specs.Renumbered.{Ascends, renumbered};
-ghost use Rattle.rules.specs.Left.{NumbersServe, AllServe, mapsOf, ruleLeft, countStays, renumberedRule};
+ghost use Rattle.sequences.specs.Served.{Serves};
+ghost use Rattle.rules.specs.Left.{NumbersServe, AllServe, mapsOf, ruleLeft, renumberedRule};
 ghost use Rattle.rules.specs.Parts.{IsRule};
 
 // Numbers or records in a row: where the first stands, and how many there are.
@@ -164,7 +165,7 @@ pub fn check_rule(chained: bool, src: &[u8], at: usize) -> Fault
 
 // Whether something is left of the plain rule at `at`: its count is not 0, and each number of its input has a new one.
 fn plain_survives(src: &[u8], at: usize, input: &[u8]) -> bool
-    requires { ⌜ (at < 0x1000_0000_0000) × Ascends (now input) ⌝ }
+    requires { ⌜ (at < 0x1000_0000_0000) × Serves (now src) (now input) ⌝ }
     ensures { λ r. ⌜ r ≡ isSome (cutRule false (mapsOf [] (now (input .entry)) [] []) (rule false (now (src .entry)) at)) ⌝ }
 {
     let r = plain_parts(src, at);
@@ -176,7 +177,7 @@ fn plain_survives(src: &[u8], at: usize, input: &[u8]) -> bool
 
 // Whether something is left of the chained rule at `at`: each number of its backtrack, its input and its lookahead has a new one.
 fn chained_survives(src: &[u8], at: usize, back: &[u8], input: &[u8], ahead: &[u8]) -> bool
-    requires { ⌜ (at < 0x1000_0000_0000) × NumbersAscend (now back) (now input) (now ahead) ⌝ }
+    requires { ⌜ (at < 0x1000_0000_0000) × NumbersServe (now src) (now back) (now input) (now ahead) ⌝ }
     ensures { λ r. ⌜ r ≡ isSome (cutRule true (mapsOf (now (back .entry)) (now (input .entry)) (now (ahead .entry)) []) (rule true (now (src .entry)) at)) ⌝ }
 {
     let r = chained_parts(src, at);
@@ -209,7 +210,7 @@ pub fn rule_survives(
 
 // The bytes of what is left of the plain rule at `at`; 0 if it goes.
 fn plain_size(src: &[u8], at: usize, input: &[u8], lookups: &[u8]) -> usize
-    requires { ⌜ (at < 0x1000_0000_0000) × Ascends (now input) × Ascends (now lookups) ⌝ }
+    requires { ⌜ (at < 0x1000_0000_0000) × Serves (now src) (now input) × Ascends (now lookups) ⌝ }
     ensures { λ r. ⌜ (r ≡ 2 * length (ruleLeft false (mapsOf [] (now (input .entry)) [] (now (lookups .entry))) (now (src .entry)) at)) × (r < 0x10_0000) ⌝ }
 {
     if !plain_survives(src, at, input) {
@@ -229,7 +230,7 @@ fn chained_size(
     ahead: &[u8],
     lookups: &[u8],
 ) -> usize
-    requires { ⌜ (at < 0x1000_0000_0000) × AllAscend (now back) (now input) (now ahead) (now lookups) ⌝ }
+    requires { ⌜ (at < 0x1000_0000_0000) × AllServe (now src) (now back) (now input) (now ahead) (now lookups) ⌝ }
     ensures { λ r. ⌜ (r ≡ 2 * length (ruleLeft true (mapsOf (now (back .entry)) (now (input .entry)) (now (ahead .entry)) (now (lookups .entry))) (now (src .entry)) at)) × (r < 0x10_0000) ⌝ }
 {
     if !chained_survives(src, at, back, input, ahead) {
