@@ -1,10 +1,12 @@
 -- Maps with runs: for each place of a source, how many words from there on have new numbers, one after the other.
 use Prim.Native.Nat.{ℕ, _+_, _*_, _%_, _≤_, _<_}
 use mathlib.Core.Path.{_≡_}
+use mathlib.Core.Bool.{true}
 use mathlib.Core.List.{List}
-use lib.ListN.{length}
+use lib.ListN.{length, getD}
 use lib.Dec.{leb}
-use Rattle.meaning.specs.Words.{word, words, find, mapAll, isSome}
+use Rattle.meaning.specs.Words.{word, words, ascends, keys, find, mapAll, isSome}
+use Rattle.meaning.specs.Maps.{mapEntries}
 use Rattle.maps.specs.Forms.{mapOf}
 use Rattle.sequences.specs.Renumbered.{Ascends}
 
@@ -46,5 +48,18 @@ pub record Unfilled (src table : List ℕ) : Type 0 where
 -- The runs are filled in: the table says the same numbers as before, and serves the source.
 pub record RunsFilled (src before after : List ℕ) : Type 0 where
   pub numbers : mapOf after ≡ mapOf before
+  pub size : length after ≡ length before
+  pub serves : Serves src after
+
+-- What laying a listed map out with runs asks: the table is all 0 and has the place for numbers and runs, the map's old numbers ascend, and the source is not too long.
+pub record Unlaid (map src table : List ℕ) : Type 0 where
+  pub zeros : (j : ℕ) → getD table j 0 ≡ 0
+  pub long : length table ≡ 393218
+  pub small : length src ≤ 65536
+  pub ascend : ascends (keys (mapEntries map)) ≡ true
+
+-- The map is laid out: the table says the same numbers, and serves the source.
+pub record RunsLaid (map src before after : List ℕ) : Type 0 where
+  pub numbers : mapOf after ≡ mapEntries map
   pub size : length after ≡ length before
   pub serves : Serves src after

@@ -1,6 +1,7 @@
 // Sequences of glyphs or of classes: whether each has a new number, and the new numbers written.
 // A map may carry runs of the source: then whether all of a sequence have new numbers takes one comparison.
 use maps::Found;
+use maps::by_number;
 use maps::find;
 use wire::put;
 use wire::word_at;
@@ -10,7 +11,7 @@ ghost use Rattle.meaning.specs.Words.{words, find, isSome, mapAll};
 ghost use Rattle.maps.specs.Forms.{mapOf};
 ghost use Rattle.laws.specs.Written.{Wrote};
 ghost use Rattle.sequences.specs.Renumbered.{Ascends, newOf, renumbered};
-ghost use Rattle.sequences.specs.Served.{Serves, Run, Later, Unfilled, RunsFilled};
+ghost use Rattle.sequences.specs.Served.{Serves, Run, Later, Unfilled, RunsFilled, Unlaid, RunsLaid};
 
 // Where the runs start in a table with runs.
 const RUNS: usize = 262144;
@@ -68,6 +69,16 @@ pub fn fill_runs(src: &[u8], table: &mut [u8])
         let run = run_from(src, p, table);
         put(table, RUNS + 2 * p, run);
     }
+}
+
+// A listed map laid out by number, with the runs of a source: `table`, which is all 0, becomes a map of the same entries that says at once whether a sequence of the source has new numbers.
+pub fn lay_runs(map: &[u8], src: &[u8], table: &mut [u8])
+    requires { ⌜ Unlaid (now map) (now src) (now table) ⌝ }
+    ensures { λ _. ⌜ RunsLaid (now (map .entry)) (now (src .entry)) (now (table .entry)) (now (table .exit)) ⌝ }
+{
+    let numbers = RUNS + 1;
+    by_number(map, &mut table[..numbers]);
+    fill_runs(src, table);
 }
 
 // The new number of `old`, and 0 where there is none.
