@@ -11,7 +11,7 @@ use lib.ListN.{length, take}
 use borrow.Author.Tests.{eq-eqb, ne-eqb}
 use Rattle.meaning.specs.Words.{word}
 use Rattle.meaning.specs.Maps.{mapEntries}
-use Rattle.maps.specs.Forms.{mapOf, of-glyphs, of-lookups}
+use Rattle.maps.specs.Forms.{mapOf, of-listed, of-glyphs, of-lookups}
 use Rattle.meaning.specs.Parts.{coverage, coverageSound, classes, classesSound}
 use Rattle.meaning.specs.Tables.{Rule, Table, reach, reaches, ruleSet, classContext}
 use Rattle.meaning.specs.Fault.{faultThrough, coverageFault, classesFault, ruleFault, setFault, contextFault}
@@ -28,7 +28,7 @@ use Rattle.retained.specs.Few.{entries-count, retained-fit}
 use Rattle.gsubgpos.specs.Left.{Ascends, serves-plain}
 use Rattle.by_class.specs.Tables.{tableAt, mapAt, SoundAt, Remakes, ranks-fit, filled-part}
 use Rattle.by_class.specs.Context.{backAt, inputAt, aheadAt, countSlot, Good, Asks, context-is}
-use Rattle.by_class.specs.Whole.{Mapped, Begun}
+use Rattle.by_class.specs.Whole.{Mapped, Ranked, Begun}
 use Rattle.by_class.proofs.Laid.{ranks-ascend}
 
 -- the part that an offset leads to is sound, if the offset is not null
@@ -140,10 +140,10 @@ asks-begun {s = s} {glyphs} k {at = at} e z f y h q r₀ t l =
     }
 
 -- once the maps of backtrack and lookahead are filled in, all classes are ranked
-pub begun-mapped : {chained : Bool} {s glyphs lookups i c : List ℕ} {u v p w : ℕ} → Begun chained s glyphs lookups i c u v p w
+pub begun-ranked : {chained : Bool} {s glyphs lookups i c : List ℕ} {u v p w : ℕ} → Begun chained s glyphs lookups i c u v p w
     → {x y m n : ℕ} {b₀ b a₀ a : List ℕ} → x ≡ backAt chained s → Filled (mapAt (mapEntries glyphs) s x) b₀ m b → length b₀ ≡ u → y ≡ aheadAt chained s → Filled (mapAt (mapEntries glyphs) s y) a₀ n a → length a₀ ≡ v
-    → Mapped chained s glyphs lookups (take m b) i (take n a) c p w
-begun-mapped {chained} {s} {glyphs} {lookups} k {x} {y} e f h q r t =
+    → Ranked chained s glyphs lookups (take m b) i (take n a) c p w
+begun-ranked {chained} {s} {glyphs} {lookups} k {x} {y} e f h q r t =
     let j = k .good in
     let fits-back = ranks-fit glyphs (tableAt s x) f (omega (arith, k .back, h)) in
     let fits-ahead = ranks-fit glyphs (tableAt s y) r (omega (arith, k .ahead, t)) in
@@ -151,23 +151,27 @@ begun-mapped {chained} {s} {glyphs} {lookups} k {x} {y} e f h q r t =
     let remakes-input : Remakes s (inputAt chained s) glyphs _ _ = record { sound = input-sound j refl; good = j .good-glyphs; ranks = k .ranks; fits = k .work } in
     let remakes-ahead : Remakes s y glyphs _ _ = record { sound = ahead-sound j q; good = j .good-glyphs; ranks = filled-map r fits-ahead; fits = k .work } in
     record {
-      ready =
-          record {
-            tables = record { back = rw e at remakes-back; input = remakes-input; ahead = rw q at remakes-ahead };
-            cover = all-sound j .cover (k .covers);
-            short = k .short;
-          };
-      maps =
-          record {
-            back = serves-plain (ranks-ascend remakes-back) (λ z. omega (arith, filled-part f fits-back, f .used));
-            input = serves-plain (ranks-ascend remakes-input) (λ z. omega (arith, k .listed));
-            ahead = serves-plain (ranks-ascend remakes-ahead) (λ z. omega (arith, filled-part r fits-ahead, r .used));
-          };
-      old-lookups = rw (of-lookups lookups (j .good-lookups)) (lookups-ascend lookups (j .good-lookups));
-      covers = k .covers;
-      classed = k .classed;
-      held = k .held;
-      few = k .few;
-      listed = k .listed;
-      places = k .slots;
+      mapped = record {
+        ready =
+            record {
+              tables = record { back = rw e at remakes-back; input = remakes-input; ahead = rw q at remakes-ahead };
+              cover = all-sound j .cover (k .covers);
+              short = k .short;
+            };
+        maps =
+            record {
+              back = serves-plain (ranks-ascend remakes-back) (λ z. omega (arith, filled-part f fits-back, f .used));
+              input = serves-plain (ranks-ascend remakes-input) (λ z. omega (arith, k .listed));
+              ahead = serves-plain (ranks-ascend remakes-ahead) (λ z. omega (arith, filled-part r fits-ahead, r .used));
+            };
+        old-lookups = rw (of-lookups lookups (j .good-lookups)) (lookups-ascend lookups (j .good-lookups));
+        covers = k .covers;
+        classed = k .classed;
+        held = k .held;
+        few = k .few;
+        listed = of-listed _ (k .listed);
+        places = k .slots;
+      };
+      back = of-listed _ (omega (arith, filled-part f fits-back, f .used));
+      ahead = of-listed _ (omega (arith, filled-part r fits-ahead, r .used));
     }

@@ -12,7 +12,7 @@ use lib.Dec.{eqb}
 use borrow.Author.Tests.{ne-eqb, eq-eqb}
 use Rattle.meaning.specs.Words.{word, words, flat, keys, isSome, member}
 use Rattle.meaning.specs.Maps.{mapEntries}
-use Rattle.maps.specs.Forms.{mapOf, of-listed}
+use Rattle.maps.specs.Forms.{mapOf}
 use Rattle.meaning.specs.Parts.{coverage, classes}
 use Rattle.meaning.specs.Tables.{Rule, Table, reach, reaches, ruleSet, classContext}
 use Rattle.meaning.specs.Cut.{RuleMaps, heldBy, classMap, classMap?, newClasses?, newCoverage, retained, unlessEmpty, cutSet, slots, trim, keptByClass, cut}
@@ -140,7 +140,7 @@ unfolding newTable
 tail-is true g s cov nc e f h = rw (← e, f, h)
 tail-is false g s cov nc e f h = rw (← e, f, h)
 
-module _ {chained : Bool} {s glyphs lookups b i a c : List ℕ} {room free : ℕ} (k : Mapped chained s glyphs lookups b i a c free room) where
+module _ {chained : Bool} {s glyphs lookups b i a x c : List ℕ} {room free : ℕ} (k : Mapped chained s glyphs lookups b i a x c free room) where
   abbrev g : List (ℕ × ℕ)
   g = mapEntries glyphs
 
@@ -222,8 +222,8 @@ module _ {chained : Bool} {s glyphs lookups b i a c : List ℕ} {room free : ℕ
     slots-back : length before ≡ free → words after 0 n ≡ trimmed places
     unfolding mapEntries
     slots-back f =
-        let long = places-length (slotPlace (setStays (kindOf chained) b i a s) (keys (mapOf c)) (words s slot (word s (countSlot chained)))) i (k .listed) in
-        let many : length i / 4 ≤ length glyphs / 4 = omega (arith, ap length (sym (of-listed i (k .listed)) ∙ input-ranks), class-map-length g cs, entries-length i 0 (length i / 4), entries-length glyphs 0 (length glyphs / 4)) in
+        let long = places-length (slotPlace (setStays (kindOf chained) b i a s) (keys (mapOf c)) (words s slot (word s (countSlot chained)))) i x (k .listed) in
+        let many : length x / 4 ≤ length glyphs / 4 = omega (arith, ap length (sym (k .listed) ∙ input-ranks), class-map-length g cs, entries-length x 0 (length x / 4), entries-length glyphs 0 (length glyphs / 4)) in
         let e = scratch-first before places n (p .small) (omega (arith, long, many, k .places)) (omega (arith, p .count, trimmed-fewer places)) in
         rw (p .bytes) (e ∙ rw (p .count) (sym (trimmed-take places)))
 

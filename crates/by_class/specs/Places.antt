@@ -11,7 +11,7 @@ use lib.Dec.{eqb}
 use borrow.Author.Tests.{ne-eqb}
 use Rattle.meaning.specs.Words.{word, words, bytes2, flat, find, isSome, member, keys}
 use Rattle.meaning.specs.Maps.{mapEntries}
-use Rattle.maps.specs.Forms.{mapOf, of-listed}
+use Rattle.maps.specs.Forms.{mapOf}
 use Rattle.laws.specs.Stands.{All, Word}
 use Rattle.laws.specs.Left.{words-at, words-length}
 use Rattle.laws.specs.Ascends.{map-length, map-key}
@@ -83,38 +83,35 @@ module _ (has : ℕ → Bool) (es : List (ℕ × ℕ)) (s : List ℕ) (slot n c 
     unfolding slotPlace keptOrNull isSome
     place-stays f z d = rw (keys-found es c, f, offset-is, ne-eqb p 0 z, d) refl
 
--- there are as many as a listed map has entries, and each is that of its entry's class
-module _ (f : ℕ → ℕ) (m : List ℕ) (whole : length m % 4 ≡ 0) where
-  listed : mapOf m ≡ mapEntries m
-  listed = of-listed m whole
+-- there are as many as the list x of a map m has entries, and each is that of its entry's class
+module _ (f : ℕ → ℕ) (m x : List ℕ) (listed : mapOf m ≡ mapEntries x) where
+  pub places-length : length (map f (keys (mapOf m))) ≡ length x / 4
+  places-length = rw listed (length-map (keys (mapEntries x)) f ∙ map-length x)
 
-  pub places-length : length (map f (keys (mapOf m))) ≡ length m / 4
-  places-length = rw listed (length-map (keys (mapEntries m)) f ∙ map-length m)
-
-  pub places-at : {k c p : ℕ} → k < length m / 4 → c ≡ word m (4 * k) → p ≡ f c → p ≡ getD (map f (keys (mapOf m))) k 0
-  places-at {k} h e g = rw listed (g ∙ ap f (e ∙ sym (map-key m k h)) ∙ sym (map-at (keys (mapEntries m)) k (omega (arith, map-length m))))
+  pub places-at : {k c p : ℕ} → k < length x / 4 → c ≡ word x (4 * k) → p ≡ f c → p ≡ getD (map f (keys (mapOf m))) k 0
+  places-at {k} h e g = rw listed (g ∙ ap f (e ∙ sym (map-key x k h)) ∙ sym (map-at (keys (mapEntries x)) k (omega (arith, map-length x))))
     where
       map-at : (l : List ℕ) (k : ℕ) → k < length l → getD (map f l) k 0 ≡ f (getD l k 0)
       map-at [] k h = absurd (omega arith)
       map-at (x ∷ l) zero h = refl
       map-at (x ∷ l) (suc k) h = map-at l k (omega arith)
 
-module _ (kind : Kind) (b i a covered s : List ℕ) (slot n : ℕ) (whole : length i % 4 ≡ 0) where
+module _ (kind : Kind) (b i a covered s : List ℕ) (slot n : ℕ) (x : List ℕ) (listed : mapOf i ≡ mapEntries x) where
   -- one place: its map and its index settle it
   abbrev one : ℕ → ℕ
   one = slotPlace (setStays kind b i a s) (keys (mapOf covered)) (words s slot n)
 
   module _ {before : List ℕ} {at : List ℕ} {end k : ℕ} (c : Placing (placesOf kind b i a covered s slot n) before at end k) where
     -- a turn: the entry's class is read, its place is found and written
-    module _ {class p : ℕ} {next : List ℕ} (h : k < length i / 4) (e : class ≡ word i (4 * k)) (f : p ≡ one class) (w : p < 65536) (g : next ≡ sets at (2 * k) (bytes2 p)) where
+    module _ {class p : ℕ} {next : List ℕ} (h : k < length x / 4) (e : class ≡ word x (4 * k)) (f : p ≡ one class) (w : p < 65536) (g : next ≡ sets at (2 * k) (bytes2 p)) where
       pub placed-null : p ≡ 0 → Placing (placesOf kind b i a covered s slot n) before next end (k + 1)
-      placed-null z = placing-null (placesOf kind b i a covered s slot n) c (omega (arith, places-length one i whole)) (places-at one i whole h e f) w z g
+      placed-null z = placing-null (placesOf kind b i a covered s slot n) c (omega (arith, places-length one i x listed)) (places-at one i x listed h e f) w z g
 
       pub placed-set : (p ≡ 0 → ⊥) → Placing (placesOf kind b i a covered s slot n) before next (k + 1) (k + 1)
-      placed-set z = placing-set (placesOf kind b i a covered s slot n) c (omega (arith, places-length one i whole)) (places-at one i whole h e f) w z g
+      placed-set z = placing-set (placesOf kind b i a covered s slot n) c (omega (arith, places-length one i x listed)) (places-at one i x listed h e f) w z g
 
     -- the end
-    pub placed-end : length i / 4 ≤ k → Placed (placesOf kind b i a covered s slot n) before end at
+    pub placed-end : length x / 4 ≤ k → Placed (placesOf kind b i a covered s slot n) before end at
     placed-end h =
-        let t = placing-end (placesOf kind b i a covered s slot n) c (omega (arith, places-length one i whole)) in
+        let t = placing-end (placesOf kind b i a covered s slot n) c (omega (arith, places-length one i x listed)) in
         record { count = t .1; bytes = t .0; small = t .2 }

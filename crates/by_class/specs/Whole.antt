@@ -42,17 +42,23 @@ pub record Writes (chained : Bool) (s glyphs lookups b i a slots : List ℕ) (n 
   pub begins : start ≡ tailStart 2 (tailOf chained (mapEntries glyphs) s) [] (setBlocks chained s b i a lookups slots n)
   pub ends : start + 2 * length (blocks (tailOf chained (mapEntries glyphs) s)) ≤ 0x1_0000_0000
 
--- What is known once the classes are ranked: neither the coverage nor the input's class table is null, `c` has the classes that retained covered glyphs hold, and there is room for a slot for each class.
-pub record Mapped (chained : Bool) (s glyphs lookups b i a c : List ℕ) (slots room : ℕ) : Type 0 where
+-- What is known once the classes are ranked: neither the coverage nor the input's class table is null, `x` lists the input's class map, `c` has the classes that retained covered glyphs hold, and there is room for a slot for each class.
+pub record Mapped (chained : Bool) (s glyphs lookups b i a x c : List ℕ) (slots room : ℕ) : Type 0 where
   pub ready : Ready chained s glyphs b i a room
   pub maps : NumbersServe s b i a
   pub old-lookups : Ascends lookups
   pub covers : word s 2 ≡ 0 → ⊥
   pub classed : inputAt chained s ≡ 0 → ⊥
   pub held : mapOf c ≡ classMap (retainedEntries (mapEntries glyphs) (coverage s (word s 2))) (classes s (inputAt chained s))
-  pub few : length i ≤ 262144
-  pub listed : length i % 4 ≡ 0
+  pub few : length x ≤ 262144
+  pub listed : mapOf i ≡ mapEntries x
   pub places : length glyphs ≤ 2 * slots
+
+-- The same where the three class maps are listed.
+pub record Ranked (chained : Bool) (s glyphs lookups b i a c : List ℕ) (slots room : ℕ) : Type 0 where
+  pub mapped : Mapped chained s glyphs lookups b i a i c slots room
+  pub back : mapOf b ≡ mapEntries b
+  pub ahead : mapOf a ≡ mapEntries a
 
 -- What is known once the classes of the input are ranked: neither the coverage nor the input's class table is null, `i` has its class map and `c` the classes that retained covered glyphs hold, and there is room for the rest; u, v, p and w are the lengths of `back`, `ahead`, `slots` and `work`.
 pub record Begun (chained : Bool) (s glyphs lookups i c : List ℕ) (u v p w : ℕ) : Type 0 where
@@ -68,3 +74,8 @@ pub record Begun (chained : Bool) (s glyphs lookups i c : List ℕ) (u v p w : �
   pub slots : length glyphs ≤ 2 * p
   pub work : length glyphs ≤ w
   pub short : w ≤ 0x1_0000_0000
+
+-- r says that each class of the three maps is below 1,024
+abbrev pub FewClasses : List ℕ → List ℕ → List ℕ → Bool → Type 0
+FewClasses b i a true = Below b 1024 true × Below i 1024 true × Below a 1024 true
+FewClasses b i a false = ⊤

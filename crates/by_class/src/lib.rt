@@ -7,13 +7,17 @@ use classes::rank;
 use classes::size;
 use classes::write;
 use maps::Found;
+use maps::all_below;
+use maps::by_number;
 use maps::find;
 use retained::cover_size;
 use retained::retain_entries;
 use retained::write_cover;
 use room::Laid;
 use room::room;
+use sequences::lay_runs;
 use sets::Kind;
+use sets::crowded;
 use sets::set_survives;
 use sets::sets_size;
 use sets::write_sets;
@@ -28,6 +32,7 @@ ghost use lib.Seq.{sets};
 ghost use Rattle.meaning.specs.Words.{words, flat, keys};
 ghost use Rattle.meaning.specs.Maps.{mapEntries};
 ghost use Rattle.maps.specs.Forms.{mapOf};
+ghost use Rattle.maps.specs.Below.{Below};
 ghost use Rattle.meaning.specs.Parts.{coverage, coverageSound, classes, classesSound};
 ghost use Rattle.meaning.specs.Tables.{classContext};
 ghost use Rattle.meaning.specs.Cut.{classMap, cut};
@@ -42,7 +47,15 @@ ghost use Rattle.by_class.specs.Places.{placesOf, Placed};
 ghost use Rattle.by_class.specs.Tables.{mapAt, newTable, SoundAt, Remakes, TableSize};
 ghost use Rattle.by_class.specs.Context.{backAt, inputAt, aheadAt, countSlot, kindOf, Asks};
 ghost use Rattle.by_class.specs.Tail.{classTables, tailOf, Remaking, Ready, Sized, Apart};
-ghost use Rattle.by_class.specs.Whole.{contextWords, Lays, Writes, Mapped, Begun};
+ghost use Rattle.by_class.specs.Whole.{contextWords, Lays, Writes, Mapped, Ranked, Begun, FewClasses};
+
+// Classes that a small class map by number has places for, and the shortest source that pays for one.
+const FEW_CLASSES: usize = 1024;
+
+const PAYS_FOR_FEW: usize = 512;
+
+// The bytes of a map with runs.
+const WITH_RUNS: usize = 393218;
 
 // The place of the set of a class, by the `n` offsets from `slot` on, if a retained covered glyph holds the class and something of the set is left; else 0.
 fn slot_place(
@@ -75,7 +88,7 @@ fn slot_place(
     0
 }
 
-// The places of the sets of all surviving classes, in the order of `input`, as words at the front of `slots`. The answer is one past the last that is not 0.
+// The places of the sets of all surviving classes, in the order of `listed`, which lists the map `input`, as words at the front of `slots`. The answer is one past the last that is not 0.
 fn fill_slots(
     kind: Kind,
     src: &[u8],
@@ -85,15 +98,16 @@ fn fill_slots(
     back: &[u8],
     input: &[u8],
     ahead: &[u8],
+    listed: &[u8],
     slots: &mut [u8],
 ) -> usize
-    requires { ⌜ (slot < 65536) × (n < 65536) × Ascends (now covered) × NumbersServe (now src) (now back) (now input) (now ahead) × (length (now input) < 0x1_0000_0000) × (length (now input) % 4 ≡ 0) ⌝ }
+    requires { ⌜ (slot < 65536) × (n < 65536) × Ascends (now covered) × NumbersServe (now src) (now back) (now input) (now ahead) × (length (now listed) < 0x1_0000_0000) × (mapOf (now input) ≡ mapEntries (now listed)) ⌝ }
     ensures { λ r. ⌜ Placed (placesOf kind (now (back .entry)) (now (input .entry)) (now (ahead .entry)) (now (covered .entry)) (now (src .entry)) slot n) (now (slots .entry)) r (now (slots .exit)) ⌝ }
 {
     let mut end = 0;
     let mut i = 0;
-    while i < input.len() / 4 {
-        let class = word_at(input, 4 * i);
+    while i < listed.len() / 4 {
+        let class = word_at(listed, 4 * i);
         let at = slot_place(kind, src, slot, n, covered, class, back, input, ahead);
         put(slots, 2 * i, at);
         i += 1;
@@ -345,7 +359,7 @@ fn lay(
     r
 }
 
-// What is left of a context whose classes are ranked, laid into the buffer if its plain layout has room. Nothing is left if no slot is kept.
+// What is left of a context whose classes are ranked, laid into the buffer if its plain layout has room; `listed` lists the map `input`. Nothing is left if no slot is kept.
 fn with_maps(
     chained: bool,
     src: &[u8],
@@ -354,12 +368,13 @@ fn with_maps(
     back: &[u8],
     input: &[u8],
     ahead: &[u8],
+    listed: &[u8],
     covered: &[u8],
     slots: &mut [u8],
     work: &mut [u8],
     out: &mut [u8],
 ) -> Laid
-    requires { ⌜ Mapped chained (now src) (now glyphs) (now lookups) (now back) (now input) (now ahead) (now covered) (length (now slots)) (length (now work)) ⌝ }
+    requires { ⌜ Mapped chained (now src) (now glyphs) (now lookups) (now back) (now input) (now ahead) (now listed) (now covered) (length (now slots)) (length (now work)) ⌝ }
     ensures { λ r. ⌜ outcomeOf r (now (out .exit)) ≡ written (now (out .entry)) (cut (mapEntries (now (glyphs .entry))) (mapOf (now (lookups .entry))) (classContext chained (now (src .entry)))) ⌝ }
 {
     let slot = count_slot(chained);
@@ -373,6 +388,7 @@ fn with_maps(
         back,
         input,
         ahead,
+        listed,
         slots,
     );
     if n == 0 {
@@ -388,6 +404,183 @@ fn with_maps(
         ahead,
         slots,
         n,
+        work,
+        out,
+    )
+}
+
+// The same where the three class maps are listed and have few classes: they are laid out by number first.
+fn with_few(
+    chained: bool,
+    src: &[u8],
+    glyphs: &[u8],
+    lookups: &[u8],
+    back: &[u8],
+    input: &[u8],
+    ahead: &[u8],
+    covered: &[u8],
+    slots: &mut [u8],
+    work: &mut [u8],
+    out: &mut [u8],
+) -> Laid
+    requires { ⌜ Ranked chained (now src) (now glyphs) (now lookups) (now back) (now input) (now ahead) (now covered) (length (now slots)) (length (now work)) × Below (now back) 1024 true × Below (now input) 1024 true × Below (now ahead) 1024 true ⌝ }
+    ensures { λ r. ⌜ outcomeOf r (now (out .exit)) ≡ written (now (out .entry)) (cut (mapEntries (now (glyphs .entry))) (mapOf (now (lookups .entry))) (classContext chained (now (src .entry)))) ⌝ }
+{
+    let mut b = [0u8; 4 * FEW_CLASSES + 1];
+    let mut i = [0u8; 4 * FEW_CLASSES + 1];
+    let mut a = [0u8; 4 * FEW_CLASSES + 1];
+    by_number(back, &mut b);
+    by_number(input, &mut i);
+    by_number(ahead, &mut a);
+    with_maps(
+        chained,
+        src,
+        glyphs,
+        lookups,
+        &b,
+        &i,
+        &a,
+        input,
+        covered,
+        slots,
+        work,
+        out,
+    )
+}
+
+// The same where the sets share rules: the three class maps are laid out with the runs of the source first, so that a rule costs three comparisons however long it is.
+// It calls itself, so that the compiler keeps its large arrays out of its caller's frame; `rounds` is 0.
+fn with_runs(
+    chained: bool,
+    src: &[u8],
+    glyphs: &[u8],
+    lookups: &[u8],
+    back: &[u8],
+    input: &[u8],
+    ahead: &[u8],
+    covered: &[u8],
+    rounds: usize,
+    slots: &mut [u8],
+    work: &mut [u8],
+    out: &mut [u8],
+) -> Laid
+    requires { ⌜ Ranked chained (now src) (now glyphs) (now lookups) (now back) (now input) (now ahead) (now covered) (length (now slots)) (length (now work)) × (length (now src) ≤ 65536) ⌝ }
+    ensures { λ r. ⌜ outcomeOf r (now (out .exit)) ≡ written (now (out .entry)) (cut (mapEntries (now (glyphs .entry))) (mapOf (now (lookups .entry))) (classContext chained (now (src .entry)))) ⌝ }
+{
+    if rounds != 0 {
+        return with_runs(
+            chained,
+            src,
+            glyphs,
+            lookups,
+            back,
+            input,
+            ahead,
+            covered,
+            rounds - 1,
+            slots,
+            work,
+            out,
+        );
+    }
+    let mut b = [0u8; WITH_RUNS];
+    let mut i = [0u8; WITH_RUNS];
+    let mut a = [0u8; WITH_RUNS];
+    lay_runs(back, src, &mut b);
+    lay_runs(input, src, &mut i);
+    lay_runs(ahead, src, &mut a);
+    with_maps(
+        chained,
+        src,
+        glyphs,
+        lookups,
+        &b,
+        &i,
+        &a,
+        input,
+        covered,
+        slots,
+        work,
+        out,
+    )
+}
+
+// Whether the three class maps are to be laid out by number: the source is long enough to pay for it, and all classes are few.
+fn pays(src: &[u8], back: &[u8], input: &[u8], ahead: &[u8]) -> bool
+    ensures { λ r. ⌜ FewClasses (now (back .entry)) (now (input .entry)) (now (ahead .entry)) r ⌝ }
+{
+    if src.len() < PAYS_FOR_FEW {
+        return false;
+    }
+    if !all_below(back, FEW_CLASSES) {
+        return false;
+    }
+    if !all_below(input, FEW_CLASSES) {
+        return false;
+    }
+    all_below(ahead, FEW_CLASSES)
+}
+
+// What is left of a context whose class maps are listed: they are laid out with runs where the sets share rules, by number where that pays, and else asked as they are.
+fn with_ranks(
+    chained: bool,
+    src: &[u8],
+    glyphs: &[u8],
+    lookups: &[u8],
+    back: &[u8],
+    input: &[u8],
+    ahead: &[u8],
+    covered: &[u8],
+    slots: &mut [u8],
+    work: &mut [u8],
+    out: &mut [u8],
+) -> Laid
+    requires { ⌜ Ranked chained (now src) (now glyphs) (now lookups) (now back) (now input) (now ahead) (now covered) (length (now slots)) (length (now work)) ⌝ }
+    ensures { λ r. ⌜ outcomeOf r (now (out .exit)) ≡ written (now (out .entry)) (cut (mapEntries (now (glyphs .entry))) (mapOf (now (lookups .entry))) (classContext chained (now (src .entry)))) ⌝ }
+{
+    let slot = count_slot(chained);
+    if crowded(src, slot + 2, word_at(src, slot)) {
+        return with_runs(
+            chained,
+            src,
+            glyphs,
+            lookups,
+            back,
+            input,
+            ahead,
+            covered,
+            glyphs.len() % 4,
+            slots,
+            work,
+            out,
+        );
+    }
+    if pays(src, back, input, ahead) {
+        return with_few(
+            chained,
+            src,
+            glyphs,
+            lookups,
+            back,
+            input,
+            ahead,
+            covered,
+            slots,
+            work,
+            out,
+        );
+    }
+    with_maps(
+        chained,
+        src,
+        glyphs,
+        lookups,
+        back,
+        input,
+        ahead,
+        input,
+        covered,
+        slots,
         work,
         out,
     )
@@ -442,7 +635,7 @@ fn with_input(
 {
     let b = rank_at(src, back_at(chained, src), glyphs, back);
     let a = rank_at(src, ahead_at(chained, src), glyphs, ahead);
-    with_maps(
+    with_ranks(
         chained,
         src,
         glyphs,

@@ -10,6 +10,7 @@ ghost use Rattle.meaning.specs.Words.{ascends, keys};
 ghost use Rattle.meaning.specs.Maps.{mapEntries, goodGlyphs, goodLookups};
 ghost use Rattle.maps.specs.Forms.{mapOf, Listed, Numbered, Clear};
 ghost use Rattle.maps.specs.Found.{Answers};
+ghost use Rattle.maps.specs.Below.{allBelow, Rises};
 ghost use lib.ListN.{length};
 
 // What a map answers: the new number, or that there is none.
@@ -86,6 +87,17 @@ pub fn find(m: &[u8], old: usize) -> Found
         return look_up(m, 65536, old);
     }
     halve(m, old)
+}
+
+// Whether each old number of a listed map is below `n`: the last one tells.
+pub fn all_below(m: &[u8], n: usize) -> bool
+    requires { ⌜ Rises (now m) ⌝ }
+    ensures { λ r. ⌜ r ≡ allBelow n (keys (mapEntries (now (m .entry)))) ⌝ }
+{
+    if m.len() < 4 {
+        return true;
+    }
+    word_at(m, m.len() - 4) < n
 }
 
 // A listed map, laid out by number: `table`, which is all 0 and has four bytes for each old number and one byte more, becomes a map of the same entries.

@@ -1,1 +1,2 @@
+pub mod Crowded
 pub mod Sets

@@ -10,6 +10,7 @@ ghost use Rattle.meaning.specs.Layout.{blocks};
 ghost use Rattle.laws.specs.Written.{Wrote};
 ghost use Rattle.laws.specs.Slots.{slotBlocks};
 ghost use Rattle.gsubgpos.specs.Left.{NumbersServe, AllServe};
+ghost use Rattle.sets.specs.Crowded.{membersAt, crowds};
 ghost use Rattle.sets.specs.Sets.{setWordsOf, setStays, LaidDown, Fits};
 
 // The value formats of a pair table: those of the source, and those of the small table.
@@ -26,6 +27,35 @@ pub enum Kind {
     ChainedRules,
     Ligatures,
     Pairs(Formats),
+}
+
+// How many members the `n` sets have together whose offsets stand from `slot` on: a set's place has their number.
+fn members(src: &[u8], slot: usize, n: usize) -> usize
+    requires { ⌜ (slot < 65536) × (n < 65536) ⌝ }
+    ensures { λ r. ⌜ (r ≡ membersAt (now (src .entry)) (words (now (src .entry)) slot n)) × (r ≤ 0x1_0000_0000) ⌝ }
+{
+    let mut total = 0;
+    let mut i = 0;
+    while i < n {
+        let at = word_at(src, slot + 2 * i);
+        total += word_at(src, at);
+        i += 1;
+    }
+    total
+}
+
+// Whether these sets have more members than a source of 1,024 to 65,536 bytes has room for, so that they share some. Then it pays to lay maps out with the runs of the source.
+pub fn crowded(src: &[u8], slot: usize, n: usize) -> bool
+    requires { ⌜ (slot < 65536) × (n < 65536) ⌝ }
+    ensures { λ r. ⌜ r ≡ crowds (now (src .entry)) slot n ⌝ }
+{
+    if src.len() < 1024 {
+        return false;
+    }
+    if 65536 < src.len() {
+        return false;
+    }
+    src.len() < 8 * members(src, slot, n)
 }
 
 // Whether something of the set at `at` is left.

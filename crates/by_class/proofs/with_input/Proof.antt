@@ -2,7 +2,7 @@
 use mathlib.Core.Path.{refl}
 use borrow.Author.Needs.{needs}
 use Rattle.by_class.specs.Tables.{tableAt, ranks-fit, filled-part, filled-within}
-use Rattle.by_class.proofs.Asked.{back-sound, ahead-sound, begun-mapped}
+use Rattle.by_class.proofs.Asked.{back-sound, ahead-sound, begun-ranked}
 use Rattle.by_class.proofs.with_input.Statement.{statement}
 use Rattle.by_class.proofs.with_input.Tie as tie
 
@@ -40,7 +40,7 @@ with-maps-requires : tie.Need-with-maps-requires
 with-maps-requires c κs =
     let a = c .before .before .before .before .before .before .before in
     let b = a .before .before .before .before .before in
-    begun-mapped (b .before .before .before .before .before .before .before .before .before .before .before .before .before .pre) (b .before .before .back-at .ensures) (b .rank-at .ensures) refl (a .before .before .ahead-at .ensures) (a .rank-at2 .ensures) refl
+    begun-ranked (b .before .before .before .before .before .before .before .before .before .before .before .before .before .pre) (b .before .before .back-at .ensures) (b .rank-at .ensures) refl (a .before .before .ahead-at .ensures) (a .rank-at2 .ensures) refl
 
 pub with-input-spec : {M : Type 1} → statement M
 with-input-spec =

@@ -1,0 +1,41 @@
+-- How many members the sets of a table have together. Sets that share no rules take eight bytes or more for each.
+use Prim.Native.Nat.{ℕ, _+_, _-_, _*_, _≤_, _<_}
+use mathlib.Core.Path.{_≡_, refl, sym, ap, _∙_}
+use mathlib.Core.Bool.{Bool, _&&_}
+use mathlib.Core.List.{List, [], _∷_}
+use native.Mathlib.Omega.{arith}
+use lib.ListN.{length}
+use lib.Dec.{leb, ltb}
+use Rattle.meaning.specs.Words.{word, words}
+use Rattle.laws.specs.Left.{words-left, words-all, words-none}
+
+-- how many members the sets at these places have: each place has their number
+unfoldable pub membersAt : List ℕ → List ℕ → ℕ
+membersAt s [] = 0
+membersAt s (p ∷ ps) = word s p + membersAt s ps
+
+-- the members of the n sets whose offsets stand from `slot` on are more than a source of 1,024 to 65,536 bytes has room for
+abbrev pub crowds : List ℕ → ℕ → ℕ → Bool
+crowds s slot n = leb 1024 (length s) && (leb (length s) 65536 && ltb (length s) (8 * membersAt s (words s slot n)))
+
+-- What counting them keeps: those counted so far and those of the sets that are left are all.
+pub record Counting (s : List ℕ) (slot n total i : ℕ) : Type 0 where
+  pub within : i ≤ n
+  pub few : total ≤ 65536 * i
+  pub left : total + membersAt s (words s (slot + 2 * i) (n - i)) ≡ membersAt s (words s slot n)
+
+module _ {s : List ℕ} {slot n : ℕ} where
+  pub counting-all : Counting s slot n 0 0
+  counting-all = record { within = omega arith; few = omega arith; left = rw (words-all s slot n) refl }
+
+  pub counting-next : {total i p k : ℕ} → Counting s slot n total i → i < n → p ≡ word s (slot + 2 * i) → (k ≡ word s p) × (k < 65536) → Counting s slot n (total + k) (i + 1)
+  unfolding membersAt
+  counting-next {total} {i} {p} {k} c h e f =
+      let l = rw (words-left s slot n i h, ← e, ← (f .0)) at (c .left) in
+      record { within = omega arith; few = omega (arith, c .few, f .1); left = omega arith }
+
+  pub counting-end : {total i : ℕ} → Counting s slot n total i → n ≤ i → n < 65536 → (total ≡ membersAt s (words s slot n)) × (total ≤ 0x1_0000_0000)
+  unfolding membersAt
+  counting-end {total} {i} c h l =
+      let e = rw (words-none s (slot + 2 * i) n i h) at (c .left) in
+      (omega arith, omega (arith, c .few, c .within))
