@@ -1,6 +1,6 @@
 -- A context by classes, written from the start on, and laid into the buffer.
-use Prim.Native.Nat.{ℕ, _+_, _*_}
-use mathlib.Core.Path.{_≡_, refl, _∙_}
+use Prim.Native.Nat.{ℕ, _+_, _*_, _≤_}
+use mathlib.Core.Path.{_≡_, refl, ap, _∙_}
 use mathlib.Core.Bool.{Bool, true, false}
 use mathlib.Core.Option.{Option, none, some}
 use mathlib.Core.List.{List, []}
@@ -19,8 +19,9 @@ use Rattle.laws.specs.Slots.{slotBlock, slotBlocks}
 use Rattle.laws.specs.SetsTable.{firstSet, tailStart, table-size}
 use Rattle.gsubgpos.specs.Left.{Ascends, AllServe}
 use Rattle.sets.specs.Sets.{setWordsOf, LaidDown, Fits}
+use Rattle.sets.specs.Capped.{Capped, capped-more, capped-small}
 use Rattle.sets.specs.declared.Kind.{Kind}
-use Rattle.room.specs.Laid.{laidFor, outcomeOf, isKept, refused-room, kept-room, kept-small}
+use Rattle.room.specs.Laid.{laidFor, outcomeOf, isKept, same-room, refused-room, kept-room, kept-small}
 use Rattle.room.specs.declared.Laid.{Laid}
 use Rattle.by_class.specs.Tables.{tableAt, Remakes}
 use Rattle.by_class.specs.Context.{countSlot, kindOf}
@@ -83,28 +84,50 @@ module _ {chained : Bool} {s glyphs lookups b i a slots : List ℕ} {n start roo
         written-in-order 2 tail parts out e (rw (k .begins) at (f .bytes)) (rw (c, ← l) at (g .1)) (rw d at v)
 
 module _ {chained : Bool} {s glyphs lookups b i a : List ℕ} {n room : ℕ} (k : Lays chained s glyphs lookups b i a n room) (slots : List ℕ) {kind : Kind} {at size tail : ℕ} (ea : at ≡ countSlot chained) (ek : kind ≡ kindOf chained)
-    (es : size ≡ 2 * length (blocks (slotBlocks (setWordsOf kind b i a lookups s) (words slots 0 n)))) (et : Sized (tailOf chained (mapEntries glyphs) s) tail)
+    (es : Capped (2 * length (blocks (slotBlocks (setWordsOf kind b i a lookups s) (words slots 0 n)))) size) (et : Sized (tailOf chained (mapEntries glyphs) s) tail)
     (out : List ℕ) {t : Laid} (e : t ≡ laidFor (at + 2 + 2 * n + size + tail) (length out)) where
-  -- the layout of what is left, and its length
+  -- the layout of what is left
   abbrev bytes : List ℕ
   bytes = flat (contextWords chained s b i a lookups slots n (mapEntries glyphs))
 
-  begins-at : at + 2 + 2 * n + size ≡ tailStart 2 (tailOf chained (mapEntries glyphs) s) [] (setBlocks chained s b i a lookups slots n)
-  begins-at = omega (arith, tail-length chained (mapEntries glyphs) s, blocks-length chained s b i a lookups slots n, rw ek at es)
+  -- how many bytes the sets take, where they end, and how many bytes are laid in all
+  set-bytes : ℕ
+  set-bytes = 2 * length (blocks (setBlocks chained s b i a lookups slots n))
 
-  total : at + 2 + 2 * n + size + tail ≡ length bytes
+  first-at : at + 2 + 2 * n + set-bytes ≡ tailStart 2 (tailOf chained (mapEntries glyphs) s) [] (setBlocks chained s b i a lookups slots n)
+  unfolding set-bytes
+  first-at = omega (arith, tail-length chained (mapEntries glyphs) s, blocks-length chained s b i a lookups slots n)
+
+  total : at + 2 + 2 * n + set-bytes + tail ≡ length bytes
   total =
       let g = mapEntries glyphs in
-      omega (arith, begins-at, et .size, table-size 2 (tailOf chained g s) [] (setBlocks chained s b i a lookups slots n), flat-length (contextWords chained s b i a lookups slots n g))
+      omega (arith, first-at, et .size, table-size 2 (tailOf chained g s) [] (setBlocks chained s b i a lookups slots n), flat-length (contextWords chained s b i a lookups slots n g))
+
+  -- they were counted until they were over the limit
+  counted : Capped set-bytes size
+  unfolding set-bytes
+  counted = rw ek at es
+
+  -- the answer is that for the whole layout
+  said : t ≡ laidFor (length bytes) (length out)
+  said =
+      let c = capped-more counted (at + 2 + 2 * n) tail in
+      e ∙ same-room (at + 2 + 2 * n + size + tail) (at + 2 + 2 * n + set-bytes + tail) (length out) (c .exact) (c .over) ∙ ap (λ (m : ℕ). laidFor m (length out)) total
 
   -- it has no room, and nothing is written
   pub lay-refused : isKept t ≡ false → outcomeOf t out ≡ laidInto out bytes
-  lay-refused h = refused-room out bytes (rw total at e) h
+  lay-refused h = refused-room out bytes said h
 
-  -- it has room: then it can be written, and it was
-  pub lay-writes : {now : ℕ} → now ≡ room → isKept t ≡ true → Writes chained s glyphs lookups b i a slots n (at + 2 + 2 * n + size) now
+  -- it has room: then all sets were counted, it can be written, and it was
+  bytes-small : isKept t ≡ true → length bytes ≤ 65536
   unfolding limit
-  lay-writes f h = record { lays = rw f k; begins = begins-at; ends = omega (arith, kept-small out bytes (rw total at e) h, total, et .size) }
+  bytes-small h = kept-small out bytes said h
+
+  all-counted : isKept t ≡ true → size ≡ set-bytes
+  all-counted h = capped-small counted (omega (arith, total, bytes-small h))
+
+  pub lay-writes : {now : ℕ} → now ≡ room → isKept t ≡ true → Writes chained s glyphs lookups b i a slots n (at + 2 + 2 * n + size) now
+  lay-writes f h = record { lays = rw f k; begins = omega (arith, first-at, all-counted h); ends = omega (arith, bytes-small h, total, all-counted h, et .size) }
 
   pub lay-kept : {after : List ℕ} → isKept t ≡ true → after ≡ sets out 0 bytes → outcomeOf t after ≡ laidInto out bytes
-  lay-kept h f = kept-room out bytes (rw total at e) h f
+  lay-kept h f = kept-room out bytes said h f

@@ -27,7 +27,7 @@ use Rattle.coverage.specs.Glyphs.{glyphs-flat}
 use Rattle.coverage.specs.Glyphs as Coverage
 use Rattle.sets.specs.declared.Kind.{Kind}
 use Rattle.by_index.specs.Kept.{stays}
-use Rattle.by_index.specs.Tables.{setBlocks, tableOf, Lays, BothServe}
+use Rattle.by_index.specs.Tables.{setBlocks, tableOf}
 use Rattle.by_index.specs.Whole.{Asks, keptFrom, wordsOf, laidWords}
 
 -- words in pairs are words by themselves

@@ -1,12 +1,14 @@
 -- What was laid, as 01's number, length and buffer.
-use Prim.Native.Nat.{ℕ, _≤_}
+use Prim.Native.Nat.{ℕ, _≤_, _<_}
 use mathlib.Core.Path.{_≡_, refl, sym, ap, _∙_}
 use mathlib.Core.Bool.{Bool, true, false, cond, true≢false}
 use mathlib.Core.List.{List, _++_}
+use native.Mathlib.Decide.{decLt}
+use native.Mathlib.Omega.{arith}
 use lib.ListN.{length, drop}
 use lib.Seq.{sets}
 use lib.Dec.{ltb}
-use borrow.Author.Tests.{ltb-false}
+use borrow.Author.Tests.{ltb-false, lt-ltb}
 use Rattle.meaning.specs.Subset.{Outcome, refused, limit, laidInto}
 use Rattle.laws.specs.Written.{sets-front}
 use Rattle.room.specs.declared.Laid.{Laid}
@@ -15,6 +17,15 @@ use Rattle.room.specs.declared.Laid.the-variants.{Nothing, TooBig, NoRoo
 -- what becomes of a layout of `size` bytes in a buffer of `len` bytes
 unfoldable pub laidFor : ℕ → ℕ → Laid
 laidFor size len = cond (ltb limit size) TooBig (cond (ltb len size) (NoRoom size) (Kept size))
+
+-- sizes that are the same, or both over the limit, get the same answer
+pub same-room : (a b len : ℕ) → (a ≤ 65536 → a ≡ b) → (65536 < a → 65536 < b) → laidFor a len ≡ laidFor b len
+unfolding laidFor limit
+same-room a b len same over = step (decLt 65536 a)
+  where
+    step : Dec (65536 < a) → laidFor a len ≡ laidFor b len
+    step (yes h) = rw (lt-ltb 65536 a h, lt-ltb 65536 b (over h)) refl
+    step (no h) = ap (λ (n : ℕ). laidFor n len) (same (omega arith))
 
 -- 01's number and length for each case, with the buffer as it is left
 abbrev pub outcomeOf : Laid → List ℕ → Outcome

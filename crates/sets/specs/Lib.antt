@@ -1,2 +1,3 @@
 pub mod Crowded
 pub mod Sets
+pub mod Capped

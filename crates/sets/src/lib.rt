@@ -12,6 +12,10 @@ ghost use Rattle.laws.specs.Slots.{slotBlocks};
 ghost use Rattle.gsubgpos.specs.Left.{NumbersServe, AllServe};
 ghost use Rattle.sets.specs.Crowded.{membersAt, crowds};
 ghost use Rattle.sets.specs.Sets.{setWordsOf, setStays, LaidDown, Fits};
+ghost use Rattle.sets.specs.Capped.{Capped};
+
+// The most bytes of a plain layout.
+const LIMIT: usize = 65536;
 
 // The value formats of a pair table: those of the source, and those of the small table.
 pub struct Formats {
@@ -124,7 +128,7 @@ fn write_set(
     }
 }
 
-// How many bytes the sets in the first `n` slots take.
+// How many bytes the sets in the first `n` slots take; once they are over the limit, the others are not counted.
 pub fn sets_size(
     kind: Kind,
     src: &[u8],
@@ -136,7 +140,7 @@ pub fn sets_size(
     lookups: &[u8],
 ) -> usize
     requires { ⌜ (n < 65536) × AllServe (now src) (now back) (now input) (now ahead) (now lookups) ⌝ }
-    ensures { λ r. ⌜ (r ≡ 2 * length (blocks (slotBlocks (setWordsOf kind (now (back .entry)) (now (input .entry)) (now (ahead .entry)) (now (lookups .entry)) (now (src .entry))) (words (now (slots .entry)) 0 n)))) × (r < 0x100_0000_0000_0000) ⌝ }
+    ensures { λ r. ⌜ Capped (2 * length (blocks (slotBlocks (setWordsOf kind (now (back .entry)) (now (input .entry)) (now (ahead .entry)) (now (lookups .entry)) (now (src .entry))) (words (now (slots .entry)) 0 n)))) r × (r < 0x200_0000_0000) ⌝ }
 {
     let mut total = 0;
     let mut i = 0;
@@ -147,6 +151,9 @@ pub fn sets_size(
             continue;
         }
         total += set_size(kind, src, at, back, input, ahead, lookups);
+        if LIMIT < total {
+            return total;
+        }
     }
     total
 }

@@ -1,4 +1,4 @@
--- `by_class::lay` meets its contract: the size is exact, so whether there is room is known before anything is written. Assumes nothing.
+-- `by_class::lay` meets its contract: the size is exact or over the limit, so whether there is room is known before anything is written. Assumes nothing.
 use mathlib.Core.Path.{ap}
 use borrow.Author.Needs.{needs}
 use Rattle.room.specs.Laid.{isKept}
