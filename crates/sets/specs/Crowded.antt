@@ -1,13 +1,15 @@
 -- How many members the sets of a table have together. Sets that share no rules take eight bytes or more for each.
 use Prim.Native.Nat.{ℕ, _+_, _-_, _*_, _≤_, _<_}
 use mathlib.Core.Path.{_≡_, refl, sym, ap, _∙_}
-use mathlib.Core.Bool.{Bool, _&&_}
+use mathlib.Core.Bool.{Bool, true, false, _&&_}
 use mathlib.Core.List.{List, [], _∷_}
 use native.Mathlib.Omega.{arith}
 use lib.ListN.{length}
 use lib.Dec.{leb, ltb}
+use borrow.Author.Tests.{leb-true, le-leb, lt-leb}
 use Rattle.meaning.specs.Words.{word, words}
 use Rattle.laws.specs.Left.{words-left, words-all, words-none}
+use Rattle.laws.specs.Runs.{both}
 
 -- how many members the sets at these places have: each place has their number
 unfoldable pub membersAt : List ℕ → List ℕ → ℕ
@@ -26,7 +28,7 @@ pub record Counting (s : List ℕ) (slot n total i : ℕ) : Type 0 where
 
 module _ {s : List ℕ} {slot n : ℕ} where
   pub counting-all : Counting s slot n 0 0
-  counting-all = record { within = omega arith; few = omega arith; left = rw (words-all s slot n) refl }
+  counting-all = record { within = omega arith; few = omega arith; left = rw (words-all s slot n) (omega arith) }
 
   pub counting-next : {total i p k : ℕ} → Counting s slot n total i → i < n → p ≡ word s (slot + 2 * i) → (k ≡ word s p) × (k < 65536) → Counting s slot n (total + k) (i + 1)
   unfolding membersAt
@@ -39,3 +41,17 @@ module _ {s : List ℕ} {slot n : ℕ} where
   counting-end {total} {i} c h l =
       let e = rw (words-none s (slot + 2 * i) n i h) at (c .left) in
       (omega arith, omega (arith, c .few, c .within))
+
+-- The ways through `crowded`, and what its answer says of the source's length.
+module _ (s : List ℕ) (slot n : ℕ) where
+  pub crowds-short : length s < 1024 → false ≡ crowds s slot n
+  crowds-short h = rw (lt-leb 1024 (length s) h) refl
+
+  pub crowds-long : 1024 ≤ length s → 65536 < length s → false ≡ crowds s slot n
+  crowds-long g h = rw (le-leb 1024 (length s) g, lt-leb (length s) 65536 h) refl
+
+  pub crowds-by : 1024 ≤ length s → length s ≤ 65536 → {total : ℕ} → total ≡ membersAt s (words s slot n) → ltb (length s) (8 * total) ≡ crowds s slot n
+  crowds-by g h e = rw (le-leb 1024 (length s) g, le-leb (length s) 65536 h, ← e) refl
+
+  pub crowds-small : crowds s slot n ≡ true → length s ≤ 65536
+  crowds-small e = leb-true (length s) 65536 (both (leb (length s) 65536) _ (both (leb 1024 (length s)) _ e .1) .0)
