@@ -75,10 +75,21 @@ fn cut_small(sort: Sort, source: &[u8], glyphs: &[u8], lookups: &[u8], out: &mut
 }
 
 // The same with scratch for the longest glyph map.
-fn cut_large(sort: Sort, source: &[u8], glyphs: &[u8], lookups: &[u8], out: &mut [u8]) -> Laid
+// It calls itself, so that the compiler keeps its large arrays out of its caller's frame: the small job would pay for them, and docs/SPEED.md says how much. How often it does, `rounds`, is 0 for a map of whole entries.
+fn cut_large(
+    sort: Sort,
+    source: &[u8],
+    glyphs: &[u8],
+    lookups: &[u8],
+    rounds: usize,
+    out: &mut [u8],
+) -> Laid
     requires { ⌜ Asked sort (now source) (now glyphs) (now lookups) × (4 * length (mapOf (now glyphs)) ≤ 262144) ⌝ }
     ensures { λ r. ⌜ outcomeOf r (now (out .exit)) ≡ written (now (out .entry)) (cut (mapOf (now (glyphs .entry))) (mapOf (now (lookups .entry))) (sortTable sort (now (source .entry)))) ⌝ }
 {
+    if rounds != 0 {
+        return cut_large(sort, source, glyphs, lookups, rounds - 1, out);
+    }
     let mut to = [0u8; LONGEST_MAP];
     let mut places = [0u8; LONGEST_MAP / 2];
     cut_sort(sort, source, glyphs, lookups, &mut to, &mut places, out)
@@ -99,7 +110,7 @@ fn cut_sized(
     if size <= SMALL_MAP {
         return cut_small(sort, source, glyphs, lookups, out);
     }
-    cut_large(sort, source, glyphs, lookups, out)
+    cut_large(sort, source, glyphs, lookups, size % 4, out)
 }
 
 // Whether each old number of a listed map is below `n`: the last one tells.
@@ -122,11 +133,21 @@ fn cut_few(sort: Sort, source: &[u8], glyphs: &[u8], lookups: &[u8], out: &mut [
     cut_sized(sort, source, &table, lookups, glyphs.len(), out)
 }
 
-// What is left of a table whose glyph map is laid out by number, with a place for every number.
-fn cut_all(sort: Sort, source: &[u8], glyphs: &[u8], lookups: &[u8], out: &mut [u8]) -> Laid
+// What is left of a table whose glyph map is laid out by number, with a place for every number. It calls itself as `cut_large` does.
+fn cut_all(
+    sort: Sort,
+    source: &[u8],
+    glyphs: &[u8],
+    lookups: &[u8],
+    rounds: usize,
+    out: &mut [u8],
+) -> Laid
     requires { ⌜ Cuts sort (now source) (now glyphs) (now lookups) ⌝ }
     ensures { λ r. ⌜ outcomeOf r (now (out .exit)) ≡ written (now (out .entry)) (cut (mapEntries (now (glyphs .entry))) (mapEntries (now (lookups .entry))) (sortTable sort (now (source .entry)))) ⌝ }
 {
+    if rounds != 0 {
+        return cut_all(sort, source, glyphs, lookups, rounds - 1, out);
+    }
     let mut table = [0u8; LONGEST_MAP + 1];
     by_number(glyphs, &mut table);
     cut_sized(sort, source, &table, lookups, glyphs.len(), out)
@@ -146,5 +167,5 @@ pub fn cut_glyphs(sort: Sort, source: &[u8], glyphs: &[u8], lookups: &[u8], out:
     if source.len() < PAYS_FOR_ALL {
         return cut_sized(sort, source, glyphs, lookups, glyphs.len(), out);
     }
-    cut_all(sort, source, glyphs, lookups, out)
+    cut_all(sort, source, glyphs, lookups, glyphs.len() % 4, out)
 }

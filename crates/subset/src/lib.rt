@@ -135,16 +135,21 @@ fn by_class_small(
 }
 
 // Format 2 of contexts, with scratch for the longest glyph map.
+// It calls itself, so that the compiler keeps its large arrays out of its caller's frame: the small job would pay for them, and docs/SPEED.md says how much. How often it does, `rounds`, is 0 for a map of whole entries.
 fn by_class_large(
     chained: bool,
     source: &[u8],
     glyphs: &[u8],
     lookups: &[u8],
+    rounds: usize,
     out: &mut [u8],
 ) -> Laid
     requires { ⌜ CutsByClass chained (now source) (now glyphs) (now lookups) ⌝ }
     ensures { λ r. ⌜ outcomeOf r (now (out .exit)) ≡ written (now (out .entry)) (cut (mapEntries (now (glyphs .entry))) (mapEntries (now (lookups .entry))) (classContext chained (now (source .entry)))) ⌝ }
 {
+    if rounds != 0 {
+        return by_class_large(chained, source, glyphs, lookups, rounds - 1, out);
+    }
     let mut back = [0u8; LONGEST_MAP];
     let mut input = [0u8; LONGEST_MAP];
     let mut ahead = [0u8; LONGEST_MAP];
@@ -174,7 +179,7 @@ fn cut_by_class(chained: bool, source: &[u8], glyphs: &[u8], lookups: &[u8], out
     if glyphs.len() <= SMALL {
         return by_class_small(chained, source, glyphs, lookups, out);
     }
-    by_class_large(chained, source, glyphs, lookups, out)
+    by_class_large(chained, source, glyphs, lookups, glyphs.len() % 4, out)
 }
 
 // Format 1 of contexts.
