@@ -34,7 +34,7 @@ const SMALL_MAP: usize = 2048;
 const LONGEST_MAP: usize = 262144;
 
 // Old numbers that a small map by number has places for.
-const FEW_NUMBERS: usize = 2048;
+const FEW_NUMBERS: usize = 4096;
 
 // The shortest sources that pay for a small map by number, and for one of all numbers.
 const PAYS_FOR_FEW: usize = 512;
@@ -125,7 +125,7 @@ fn all_below(m: &[u8], n: usize) -> bool
 
 // What is left of a table whose glyph map has few numbers, laid out by number.
 fn cut_few(sort: Sort, source: &[u8], glyphs: &[u8], lookups: &[u8], out: &mut [u8]) -> Laid
-    requires { ⌜ Cuts sort (now source) (now glyphs) (now lookups) × Below (now glyphs) 2048 true ⌝ }
+    requires { ⌜ Cuts sort (now source) (now glyphs) (now lookups) × Below (now glyphs) 4096 true ⌝ }
     ensures { λ r. ⌜ outcomeOf r (now (out .exit)) ≡ written (now (out .entry)) (cut (mapEntries (now (glyphs .entry))) (mapEntries (now (lookups .entry))) (sortTable sort (now (source .entry)))) ⌝ }
 {
     let mut table = [0u8; 4 * FEW_NUMBERS + 1];

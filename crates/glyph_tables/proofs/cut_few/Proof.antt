@@ -12,7 +12,7 @@ by-number-requires : tie.Need-by-number-requires
 by-number-requires c κs =
     let g = c .before .before .before in
     let a = g .before .before in
-    table-clear (a .pre .0) (λ i. omega (arith, g .shared-slice-known2 .given i)) 8193 refl (a .pre .1 .below (a .pre .0 .good-glyphs) refl)
+    table-clear (a .pre .0) (λ i. omega (arith, g .shared-slice-known2 .given i)) 16385 refl (a .pre .1 .below (a .pre .0 .good-glyphs) refl)
 
 cut-sized-requires : tie.Need-cut-sized-requires
 cut-sized-requires c κs =
