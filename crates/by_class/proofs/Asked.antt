@@ -11,7 +11,7 @@ use lib.ListN.{length, take}
 use borrow.Author.Tests.{eq-eqb, ne-eqb}
 use Rattle.meaning.specs.Words.{word}
 use Rattle.meaning.specs.Maps.{mapEntries}
-use Rattle.maps.specs.Forms.{mapOf, of-glyphs, of-lookups}
+use Rattle.maps.specs.Forms.{mapOf, of-glyphs}
 use Rattle.meaning.specs.Parts.{coverage, coverageSound, classes, classesSound}
 use Rattle.meaning.specs.Tables.{Rule, Table, reach, reaches, ruleSet, classContext}
 use Rattle.meaning.specs.Fault.{faultThrough, coverageFault, classesFault, ruleFault, setFault, contextFault}
@@ -21,7 +21,7 @@ use Rattle.laws.specs.Stands.{twos-length}
 use Rattle.laws.specs.Through.{Opt}
 use Rattle.laws.specs.SoundGood.{part-sound, one-good, header-good}
 use Rattle.laws.specs.ClassesLeft.{class-map-length}
-use Rattle.laws.specs.Ascends.{glyphs-ascend, lookups-ascend}
+use Rattle.laws.specs.Ascends.{glyphs-ascend}
 use Rattle.classes.specs.Filled.{Filled, filled-map}
 use Rattle.retained.specs.Retained.{retainedEntries, retainedWords}
 use Rattle.retained.specs.Few.{entries-count, retained-fit}
@@ -142,7 +142,7 @@ asks-begun {s = s} {glyphs} k {at = at} e z f y h q r₀ t l =
 pub begun-mapped : {chained : Bool} {s glyphs lookups i c : List ℕ} {u v p w : ℕ} → Begun chained s glyphs lookups i c u v p w
     → {x y m n : ℕ} {b₀ b a₀ a : List ℕ} → x ≡ backAt chained s → Filled (mapAt (mapEntries glyphs) s x) b₀ m b → length b₀ ≡ u → y ≡ aheadAt chained s → Filled (mapAt (mapEntries glyphs) s y) a₀ n a → length a₀ ≡ v
     → Mapped chained s glyphs lookups (take m b) i (take n a) c p w
-begun-mapped {chained} {s} {glyphs} {lookups} k {x} {y} e f h q r t =
+begun-mapped {s = s} {glyphs} k {x} {y} e f h q r t =
     let j = k .good in
     let remakes-back : Remakes s x glyphs _ _ = record { sound = back-sound j e; good = j .good-glyphs; ranks = filled-map f (ranks-fit glyphs (tableAt s x) f (omega (arith, k .back, h))); fits = k .work } in
     let remakes-ahead : Remakes s y glyphs _ _ = record { sound = ahead-sound j q; good = j .good-glyphs; ranks = filled-map r (ranks-fit glyphs (tableAt s y) r (omega (arith, k .ahead, t))); fits = k .work } in
@@ -153,7 +153,7 @@ begun-mapped {chained} {s} {glyphs} {lookups} k {x} {y} e f h q r t =
             cover = all-sound j .cover (k .covers);
             short = k .short;
           };
-      old-lookups = rw (of-lookups lookups (j .good-lookups)) (lookups-ascend lookups (j .good-lookups));
+      old-lookups = j .old-lookups;
       covers = k .covers;
       classed = k .classed;
       held = k .held;

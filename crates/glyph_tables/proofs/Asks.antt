@@ -14,10 +14,10 @@ use Rattle.meaning.specs.Maps.{mapEntries, goodGlyphs}
 use Rattle.meaning.specs.Tables.{fieldCount}
 use Rattle.meaning.specs.Fault.{ruleFault, ligatureFault, setFault, pairSetFault, enough, headerFault}
 use Rattle.laws.specs.Runs.{both}
-use Rattle.laws.specs.Ascends.{ascends-rise, glyphs-ascend, lookups-ascend, map-length, map-key}
+use Rattle.laws.specs.Ascends.{ascends-rise, glyphs-ascend, map-length, map-key}
 use Rattle.laws.specs.ClassesLeft.{index-low}
 use Rattle.laws.specs.Left.{entries-length}
-use Rattle.maps.specs.Forms.{mapOf, of-glyphs, of-lookups, Clear}
+use Rattle.maps.specs.Forms.{mapOf, of-glyphs, Clear}
 use Rattle.checks.specs.Parts.{pairFields}
 use Rattle.by_cover.specs.Roomy.{map-roomy}
 use Rattle.by_cover.specs.Context.{Asks as CoverAsks}
@@ -80,7 +80,7 @@ module _ {sort : Sort} {s g l : List ℕ} (c : Cuts sort s g l) (bytes : (i : �
       sound = c .sound;
       maps = record {
         glyphs = rw e (glyphs-ascend g (c .good-glyphs));
-        lookups = rw (of-lookups l (c .good-lookups)) (lookups-ascend l (c .good-lookups));
+        lookups = c .old-lookups;
       };
     };
     entries = rw e (omega (arith, entries-length g 0 (length g / 4)));
@@ -90,12 +90,18 @@ module _ {sort : Sort} {s g l : List ℕ} (c : Cuts sort s g l) (bytes : (i : �
   pub listed-ready : Ready sort s g l (length g)
   listed-ready = other-ready (of-glyphs g (c .good-glyphs))
 
-  -- a table of n zeros can take the glyph map, if it has places for the numbers
-  pub table-clear : (n : ℕ) → n % 4 ≡ 1 → ((k : ℕ) → k < length g / 4 → word g (4 * k) < n / 4) → Clear g (replicate n 0)
+  -- any glyph has a place among all
+  pub all-places : (k : ℕ) → k < length g / 4 → word g (4 * k) < 262145 / 4
+  all-places k h = omega (arith, word-small g (4 * k) bytes)
+
+-- what is known of a listed map whose old numbers ascend
+module _ (m : List ℕ) (up : ascends (keys (mapEntries m)) ≡ true) where
+  -- a table of n zeros can take it, if the table has places for the numbers
+  pub table-clear : (n : ℕ) → n % 4 ≡ 1 → ((k : ℕ) → k < length m / 4 → word m (4 * k) < n / 4) → Clear m (replicate n 0)
   table-clear n e h = record {
     zeros = λ j. zero j (decLt j n);
     form = rw (length-replicate {A = ℕ} n 0) e;
-    ascend = glyphs-ascend g (c .good-glyphs);
+    ascend = up;
     fits = rw (length-replicate {A = ℕ} n 0) h;
   }
     where
@@ -103,19 +109,18 @@ module _ {sort : Sort} {s g l : List ℕ} (c : Cuts sort s g l) (bytes : (i : �
       zero j (yes l) = getD-replicate n j 0 0 l
       zero j (no l) = List·getD-eq-default (replicate n 0) 0 (omega (arith, length-replicate {A = ℕ} n 0))
 
-  -- any glyph has a place among all
-  pub all-places : (k : ℕ) → k < length g / 4 → word g (4 * k) < 262145 / 4
-  all-places k h = omega (arith, word-small g (4 * k) bytes)
+  -- no old number is above the last
+  last-most : (k : ℕ) → k < length m / 4 → word m (4 * k) ≤ word m (4 * (length m / 4 - 1))
+  last-most k h = step (decLt k (length m / 4 - 1))
+    where
+      step : Dec (k < length m / 4 - 1) → word m (4 * k) ≤ word m (4 * (length m / 4 - 1))
+      step (yes d) =
+          let rise = rw (map-key m k h, map-key m (length m / 4 - 1) (omega arith)) at (ascends-rise (keys (mapEntries m)) up k (length m / 4 - 1) d (omega (arith, map-length m))) in
+          omega (arith, rise)
+      step (no d) =
+          let e : k ≡ length m / 4 - 1 = omega arith in
+          rw e (omega arith)
 
 -- the last number is below n
-pub last-below : (m : List ℕ) (n : ℕ) {w : ℕ} → 4 ≤ length m → w ≡ word m (length m - 4) → Below m n (ltb w n)
-last-below m n {w} l e = record { below = λ good t k h. step good (ltb-true w n t) k h (decLt k (length m / 4 - 1)) }
-  where
-    step : goodGlyphs m ≡ true → w < n → (k : ℕ) → k < length m / 4 → Dec (k < length m / 4 - 1) → word m (4 * k) < n
-    step good t k h (yes d) =
-        let q : length m - 4 ≡ 4 * (length m / 4 - 1) = omega (arith, glyphs-whole m good) in
-        let up = rw (map-key m k h, map-key m (length m / 4 - 1) (omega arith)) at (ascends-rise (keys (mapEntries m)) (glyphs-ascend m good) k (length m / 4 - 1) d (omega (arith, map-length m))) in
-        omega (arith, up, rw q at e)
-    step good t k h (no d) =
-        let q : length m - 4 ≡ 4 * k = omega (arith, glyphs-whole m good) in
-        omega (arith, rw q at e)
+pub last-below : (m : List ℕ) (n : ℕ) {w : ℕ} → w ≡ word m (4 * (length m / 4 - 1)) → Below m n (ltb w n)
+last-below m n {w} e = record { below = λ up t k h. omega (arith, ltb-true w n t, last-most m up k h, e) }

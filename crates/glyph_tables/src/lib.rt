@@ -34,10 +34,10 @@ const SMALL_MAP: usize = 2048;
 const LONGEST_MAP: usize = 262144;
 
 // Old numbers that a small map by number has places for.
-const FEW_NUMBERS: usize = 4096;
+pub const FEW_NUMBERS: usize = 4096;
 
 // The shortest sources that pay for a small map by number, and for one of all numbers.
-const PAYS_FOR_FEW: usize = 512;
+pub const PAYS_FOR_FEW: usize = 512;
 
 const PAYS_FOR_ALL: usize = 16384;
 
@@ -114,19 +114,19 @@ fn cut_sized(
 }
 
 // Whether each old number of a listed map is below `n`: the last one tells.
-fn all_below(m: &[u8], n: usize) -> bool
+pub fn all_below(m: &[u8], n: usize) -> bool
     ensures { λ r. ⌜ Below (now (m .entry)) n r ⌝ }
 {
     if m.len() < 4 {
         return true;
     }
-    word_at(m, m.len() - 4) < n
+    word_at(m, 4 * (m.len() / 4 - 1)) < n
 }
 
 // What is left of a table whose glyph map has few numbers, laid out by number.
 fn cut_few(sort: Sort, source: &[u8], glyphs: &[u8], lookups: &[u8], out: &mut [u8]) -> Laid
     requires { ⌜ Cuts sort (now source) (now glyphs) (now lookups) × Below (now glyphs) 4096 true ⌝ }
-    ensures { λ r. ⌜ outcomeOf r (now (out .exit)) ≡ written (now (out .entry)) (cut (mapEntries (now (glyphs .entry))) (mapEntries (now (lookups .entry))) (sortTable sort (now (source .entry)))) ⌝ }
+    ensures { λ r. ⌜ outcomeOf r (now (out .exit)) ≡ written (now (out .entry)) (cut (mapEntries (now (glyphs .entry))) (mapOf (now (lookups .entry))) (sortTable sort (now (source .entry)))) ⌝ }
 {
     let mut table = [0u8; 4 * FEW_NUMBERS + 1];
     by_number(glyphs, &mut table);
@@ -143,7 +143,7 @@ fn cut_all(
     out: &mut [u8],
 ) -> Laid
     requires { ⌜ Cuts sort (now source) (now glyphs) (now lookups) ⌝ }
-    ensures { λ r. ⌜ outcomeOf r (now (out .exit)) ≡ written (now (out .entry)) (cut (mapEntries (now (glyphs .entry))) (mapEntries (now (lookups .entry))) (sortTable sort (now (source .entry)))) ⌝ }
+    ensures { λ r. ⌜ outcomeOf r (now (out .exit)) ≡ written (now (out .entry)) (cut (mapEntries (now (glyphs .entry))) (mapOf (now (lookups .entry))) (sortTable sort (now (source .entry)))) ⌝ }
 {
     if rounds != 0 {
         return cut_all(sort, source, glyphs, lookups, rounds - 1, out);
@@ -153,10 +153,10 @@ fn cut_all(
     cut_sized(sort, source, &table, lookups, glyphs.len(), out)
 }
 
-// What is left of a table whose numbers are glyphs, under a glyph map and a lookup map, laid into the buffer if it is not over the limit and the buffer is not shorter.
+// What is left of a table whose numbers are glyphs, under a listed glyph map and a lookup map of either form, laid into the buffer if it is not over the limit and the buffer is not shorter.
 pub fn cut_glyphs(sort: Sort, source: &[u8], glyphs: &[u8], lookups: &[u8], out: &mut [u8]) -> Laid
     requires { ⌜ Cuts sort (now source) (now glyphs) (now lookups) ⌝ }
-    ensures { λ r. ⌜ outcomeOf r (now (out .exit)) ≡ written (now (out .entry)) (cut (mapEntries (now (glyphs .entry))) (mapEntries (now (lookups .entry))) (sortTable sort (now (source .entry)))) ⌝ }
+    ensures { λ r. ⌜ outcomeOf r (now (out .exit)) ≡ written (now (out .entry)) (cut (mapEntries (now (glyphs .entry))) (mapOf (now (lookups .entry))) (sortTable sort (now (source .entry)))) ⌝ }
 {
     if source.len() < PAYS_FOR_FEW {
         return cut_sized(sort, source, glyphs, lookups, glyphs.len(), out);

@@ -5,7 +5,7 @@ use native.Mathlib.Omega.{arith}
 use borrow.Author.Needs.{needs}
 use borrow.Fn.Kinds.{In}
 use borrow.Fn.PlainCycle.{Measures, is, falls, and}
-use Rattle.maps.specs.Forms.{of-lookups}
+use Rattle.laws.specs.Ascends.{glyphs-ascend}
 use Rattle.maps.proofs.by_number.Reads as by-number-reads
 use Rattle.glyph_tables.proofs.Asks.{other-ready, table-clear, all-places}
 use Rattle.glyph_tables.proofs.cut_all.Reads as cut-all
@@ -34,7 +34,7 @@ by-number-requires : (t : ℕ) → cut-all-lts.Need-by-number-requires (cut-all-
 by-number-requires t c κs =
     let g = c .before .before .before .before in
     let a = g .before .before in
-    table-clear (a .pre .1) (λ i. omega (arith, g .shared-slice-known2 .given i)) 262145 refl (all-places (a .pre .1) (λ i. omega (arith, g .shared-slice-known2 .given i)))
+    table-clear (a .args .glyphs .now) (glyphs-ascend (a .args .glyphs .now) (a .pre .1 .good-glyphs)) 262145 refl (all-places (a .pre .1) (λ i. omega (arith, g .shared-slice-known2 .given i)))
 
 cut-sized-requires : (t : ℕ) → cut-all-lts.Need-cut-sized-requires (cut-all-below t, cut-all.Post, by-number-reads.Asked, by-number-reads.Learnt, cut-sized-reads.Asked, cut-sized-reads.Learnt) (cut-all-at t) cut-all.Post
 cut-sized-requires t c κs =
@@ -45,8 +45,7 @@ cut-sized-requires t c κs =
 returns : (t : ℕ) → cut-all-lts.Need-returns-2 (cut-all-below t, cut-all.Post, by-number-reads.Asked, by-number-reads.Learnt, cut-sized-reads.Asked, cut-sized-reads.Learnt) (cut-all-at t) cut-all.Post
 returns t c =
     let n = c .before .before .before .before .before .before in
-    let a = n .before .before .before .before .before .before .before in
-    rw (n .by-number .ensures .0, of-lookups (a .args .lookups .now) (a .pre .1 .good-lookups)) at (c .before .before .cut-sized .ensures)
+    rw (n .by-number .ensures .0) at (c .before .before .cut-sized .ensures)
 
 pub +cut-all-spec : {M : Type 1} → statement M
 +cut-all-spec =

@@ -4,7 +4,6 @@ use native.Mathlib.Omega.{arith}
 use borrow.Author.Needs.{needs}
 use borrow.Fn.Kinds.{In}
 use borrow.Fn.PlainCycle.{Measures, is, falls, and}
-use Rattle.maps.specs.Forms.{of-lookups}
 use Rattle.by_class.proofs.by_class.Reads as by-class-reads
 use Rattle.glyph_tables.proofs.Asks.{glyphs-short}
 use Rattle.subset.proofs.Scratch.{class-asks}
@@ -37,9 +36,7 @@ by-class-requires t c κs =
 
 returns : (t : ℕ) → by-class-large-lts.Need-returns-2 (by-class-large-below t, by-class-large.Post, by-class-reads.Asked, by-class-reads.Learnt) (by-class-large-at t) by-class-large.Post
 returns t c =
-    let k = c .before .before .before .before .before .before .before .before in
-    let a = k .before .before .before .before .before .before .before .before .before .before .before .before .before in
-    rw (of-lookups (a .args .lookups .now) (a .pre .1 .cuts .good-lookups)) at (k .by-class .ensures)
+    c .before .before .before .before .before .before .before .before .by-class .ensures
 
 pub +by-class-large-spec : {M : Type 1} → statement M
 +by-class-large-spec =
