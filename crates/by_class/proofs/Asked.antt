@@ -11,7 +11,7 @@ use lib.ListN.{length, take}
 use borrow.Author.Tests.{eq-eqb, ne-eqb}
 use Rattle.meaning.specs.Words.{word}
 use Rattle.meaning.specs.Maps.{mapEntries}
-use Rattle.maps.specs.Forms.{mapOf, of-listed, of-glyphs, of-lookups}
+use Rattle.maps.specs.Forms.{mapOf, of-listed, of-glyphs}
 use Rattle.meaning.specs.Parts.{coverage, coverageSound, classes, classesSound}
 use Rattle.meaning.specs.Tables.{Rule, Table, reach, reaches, ruleSet, classContext}
 use Rattle.meaning.specs.Fault.{faultThrough, coverageFault, classesFault, ruleFault, setFault, contextFault}
@@ -21,7 +21,7 @@ use Rattle.laws.specs.Stands.{twos-length}
 use Rattle.laws.specs.Through.{Opt}
 use Rattle.laws.specs.SoundGood.{part-sound, one-good, header-good}
 use Rattle.laws.specs.ClassesLeft.{class-map-length}
-use Rattle.laws.specs.Ascends.{glyphs-ascend, lookups-ascend}
+use Rattle.laws.specs.Ascends.{glyphs-ascend}
 use Rattle.classes.specs.Filled.{Filled, filled-map}
 use Rattle.retained.specs.Retained.{retainedEntries, retainedWords}
 use Rattle.retained.specs.Few.{entries-count, retained-fit}
@@ -143,7 +143,7 @@ asks-begun {s = s} {glyphs} k {at = at} e z f y h q r₀ t l =
 pub begun-ranked : {chained : Bool} {s glyphs lookups i c : List ℕ} {u v p w : ℕ} → Begun chained s glyphs lookups i c u v p w
     → {x y m n : ℕ} {b₀ b a₀ a : List ℕ} → x ≡ backAt chained s → Filled (mapAt (mapEntries glyphs) s x) b₀ m b → length b₀ ≡ u → y ≡ aheadAt chained s → Filled (mapAt (mapEntries glyphs) s y) a₀ n a → length a₀ ≡ v
     → Ranked chained s glyphs lookups (take m b) i (take n a) c p w
-begun-ranked {chained} {s} {glyphs} {lookups} k {x} {y} e f h q r t =
+begun-ranked {chained} {s} {glyphs} k {x} {y} e f h q r t =
     let j = k .good in
     let fits-back = ranks-fit glyphs (tableAt s x) f (omega (arith, k .back, h)) in
     let fits-ahead = ranks-fit glyphs (tableAt s y) r (omega (arith, k .ahead, t)) in
@@ -164,7 +164,7 @@ begun-ranked {chained} {s} {glyphs} {lookups} k {x} {y} e f h q r t =
               input = serves-plain (ranks-ascend remakes-input) (λ z. omega (arith, k .listed));
               ahead = serves-plain (ranks-ascend remakes-ahead) (λ z. omega (arith, filled-part r fits-ahead, r .used));
             };
-        old-lookups = rw (of-lookups lookups (j .good-lookups)) (lookups-ascend lookups (j .good-lookups));
+        old-lookups = j .old-lookups;
         covers = k .covers;
         classed = k .classed;
         held = k .held;

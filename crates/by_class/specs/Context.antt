@@ -7,12 +7,13 @@ use mathlib.Core.List.{List, [], _∷_}
 use native.Mathlib.Nat.{zero-add}
 use lib.ListN.{length}
 use Rattle.meaning.specs.Words.{word, keys}
-use Rattle.meaning.specs.Maps.{goodGlyphs, goodLookups}
+use Rattle.meaning.specs.Maps.{goodGlyphs}
 use Rattle.meaning.specs.Parts.{coverage}
 use Rattle.meaning.specs.Tables.{Table, reach, reaches, ruleSet, classContext}
 use Rattle.meaning.specs.Fault.{contextFault}
 use Rattle.meaning.specs.Cut.{numbered, heldBy, classMap, retained}
 use Rattle.retained.specs.Retained.{retainedEntries, entries-keys}
+use Rattle.gsubgpos.specs.Left.{Ascends}
 use Rattle.sets.specs.declared.Kind.{Kind}
 use Rattle.sets.specs.declared.Kind.the-variants.{Rules, ChainedRules}
 use Rattle.by_class.specs.Tables.{tableAt}
@@ -40,12 +41,12 @@ abbrev pub kindOf : Bool → Kind
 kindOf false = Rules
 kindOf true = ChainedRules
 
--- The source has no fault and its format is 2, and both maps are good.
+-- The source has no fault and its format is 2, the glyph map is good, and the lookup map, in either form, can be asked.
 pub record Good (chained : Bool) (s glyphs lookups : List ℕ) : Type 0 where
   pub sound : contextFault chained s ≡ none
   pub format : word s 0 ≡ 2
   pub good-glyphs : goodGlyphs glyphs ≡ true
-  pub good-lookups : goodLookups lookups ≡ true
+  pub old-lookups : Ascends lookups
 
 -- What `by_class` asks: all is good, and scratch has room for as many entries as there are glyphs, or words in `slots`; b, i, a, c, p and w are the lengths of `back`, `input`, `ahead`, `covered`, `slots` and `work`.
 pub record Asks (chained : Bool) (s glyphs lookups : List ℕ) (b i a c p w : ℕ) : Type 0 where

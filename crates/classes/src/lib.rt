@@ -161,14 +161,18 @@ pub fn rank(src: &[u8], at: usize, glyphs: &[u8], scratch: &mut [u8]) -> usize
     if mark(src, at, glyphs, &mut marks) {
         return number(&marks, scratch);
     }
-    rank_large(src, at, glyphs, scratch)
+    rank_large(src, at, glyphs, glyphs.len() % 4, scratch)
 }
 
 // The same, with a place for a mark for each class that there can be.
-fn rank_large(src: &[u8], at: usize, glyphs: &[u8], scratch: &mut [u8]) -> usize
+// It calls itself, so that the compiler keeps its large array out of its caller's frame: a table of low classes would pay for it, and docs/SPEED.md says how much. How often it does, `rounds`, is 0 for a map of whole entries.
+fn rank_large(src: &[u8], at: usize, glyphs: &[u8], rounds: usize, scratch: &mut [u8]) -> usize
     requires { ⌜ classesSound (now src) at ≡ true ⌝ }
     ensures { λ r. ⌜ Filled (classMap (mapEntries (now (glyphs .entry))) (classes (now (src .entry)) at)) (now (scratch .entry)) r (now (scratch .exit)) ⌝ }
 {
+    if rounds != 0 {
+        return rank_large(src, at, glyphs, rounds - 1, scratch);
+    }
     let mut marks = [0u8; 65536];
     mark(src, at, glyphs, &mut marks);
     number(&marks, scratch)

@@ -1,29 +1,29 @@
 -- What is asked where a table is cut, by its sort, by the form of its glyph map and by its scratch.
-use Prim.Native.Nat.{ℕ, _+_, _-_, _*_, _/_, _%_, _≤_, _<_}
-use mathlib.Core.Path.{_≡_, sym, ap, subst, _∙_}
-use mathlib.Core.Bool.{Bool, true, false, _&&_}
+use Prim.Native.Nat.{ℕ, _+_, _*_, _/_, _%_, _≤_, _<_}
+use mathlib.Core.Path.{_≡_, subst}
+use mathlib.Core.Bool.{Bool, true, false}
 use mathlib.Core.Option.{Option, none}
 use mathlib.Core.List.{List}
 use native.Mathlib.Omega.{arith}
 use native.Mathlib.Decide.{decLt}
-use lib.ListN.{length, getD, replicate, length-replicate, getD-replicate, List·getD-eq-default}
-use lib.Dec.{eqb, ltb}
-use borrow.Author.Tests.{eqb-true, ltb-true}
-use Rattle.meaning.specs.Words.{word, ascends, keys, values}
+use lib.ListN.{length, getD, replicate, length-replicate}
+use lib.Dec.{eqb}
+use Rattle.meaning.specs.Words.{word}
 use Rattle.meaning.specs.Maps.{mapEntries, goodGlyphs}
 use Rattle.meaning.specs.Tables.{fieldCount}
 use Rattle.meaning.specs.Fault.{ruleFault, ligatureFault, setFault, pairSetFault, enough, headerFault}
 use Rattle.laws.specs.Runs.{both}
-use Rattle.laws.specs.Ascends.{ascends-rise, glyphs-ascend, lookups-ascend, map-length, map-key}
+use Rattle.laws.specs.Ascends.{glyphs-ascend}
 use Rattle.laws.specs.ClassesLeft.{index-low}
 use Rattle.laws.specs.Left.{entries-length}
-use Rattle.maps.specs.Forms.{mapOf, of-glyphs, of-lookups, Clear}
+use Rattle.maps.specs.Forms.{mapOf, glyphs-form, of-glyphs}
+use Rattle.maps.specs.Below.{zeros-read}
+use Rattle.sequences.specs.Served.{Serves, serves-plain, Unlaid}
 use Rattle.checks.specs.Parts.{pairFields}
 use Rattle.by_cover.specs.Roomy.{map-roomy}
 use Rattle.by_cover.specs.Context.{Asks as CoverAsks}
-use Rattle.by_index.specs.Tables.{serves-plain}
 use Rattle.by_index.specs.Whole.{Asks as IndexAsks, header-asks}
-use Rattle.glyph_tables.specs.Sorts.{sortFault, Asked, Spacious, Ready, Below, Cuts}
+use Rattle.glyph_tables.specs.Sorts.{sortFault, Asked, Spacious, Ready, Cuts}
 use Rattle.glyph_tables.specs.declared.Sort.{Sort}
 use Rattle.glyph_tables.specs.declared.Sort.the-variants.{Rules, ChainedRules, Ligatures, Pairs, Covers, ChainedCovers}
 
@@ -60,67 +60,39 @@ word-small : (s : List ℕ) (at : ℕ) → ((i : ℕ) → getD s i 0 < 256) → 
 unfolding word
 word-small s at h = omega (arith, h at, h (at + 1))
 
--- a good glyph map has whole entries, and at most 65,536 of them
-glyphs-whole : (g : List ℕ) → goodGlyphs g ≡ true → length g % 4 ≡ 0
-unfolding goodGlyphs
-glyphs-whole g k = eqb-true (length g % 4) 0 (both (eqb (length g % 4) 0) (ascends (keys (mapEntries g)) && ascends (values (mapEntries g))) k .0)
-
+-- a good glyph map has at most 65,536 entries
 pub glyphs-short : (g : List ℕ) → ((i : ℕ) → getD g i 0 < 256) → goodGlyphs g ≡ true → length g ≤ 262144
 glyphs-short g h k = step (decLt 65536 (length g / 4))
   where
     step : Dec (65536 < length g / 4) → length g ≤ 262144
     step (yes l) = omega (arith, index-low g (glyphs-ascend g k) 65536 l, word-small g (4 * 65536) h)
-    step (no l) = omega (arith, glyphs-whole g k)
+    step (no l) = omega (arith, glyphs-form g k)
 
 module _ {sort : Sort} {s g l : List ℕ} (c : Cuts sort s g l) (bytes : (i : ℕ) → getD g i 0 < 256) where
-  -- a map of the same entries without runs serves as well as the glyph map itself
-  other-ready : {t : List ℕ} → mapOf t ≡ mapEntries g → (length t % 4 ≡ 2 → ⊥) → Ready sort s t l (length g)
+  -- a map of the same entries that serves the source is as good as the glyph map itself
+  pub other-ready : {t : List ℕ} → mapOf t ≡ mapEntries g → Serves s t → Ready sort s t l (length g)
   unfolding mapEntries
-  other-ready {t} e plain = record {
-    asked = record {
-      sound = c .sound;
-      maps = record {
-        glyphs = serves-plain (rw e (glyphs-ascend g (c .good-glyphs))) plain;
-        lookups = rw (of-lookups l (c .good-lookups)) (lookups-ascend l (c .good-lookups));
-      };
-    };
+  other-ready {t} e serves = record {
+    asked = record { sound = c .sound; maps = record { glyphs = serves; lookups = c .old-lookups } };
     entries = rw e (omega (arith, entries-length g 0 (length g / 4)));
     most = glyphs-short g bytes (c .good-glyphs);
   }
 
+  -- one without runs serves it
+  plain-ready : {t : List ℕ} → mapOf t ≡ mapEntries g → (length t % 4 ≡ 2 → ⊥) → Ready sort s t l (length g)
+  plain-ready e plain = other-ready e (serves-plain (rw e (glyphs-ascend g (c .good-glyphs))) plain)
+
   pub listed-ready : Ready sort s g l (length g)
-  listed-ready = other-ready (of-glyphs g (c .good-glyphs)) (λ z. omega (arith, glyphs-whole g (c .good-glyphs)))
+  listed-ready = plain-ready (of-glyphs g (c .good-glyphs)) (λ z. omega (arith, glyphs-form g (c .good-glyphs)))
 
   -- so does a table of n zeros that was made a map of the same entries by number
   pub table-ready : (n : ℕ) → n % 4 ≡ 1 → {t : List ℕ} → (mapOf t ≡ mapEntries g) × (length t ≡ length {A = ℕ} (replicate n 0)) → Ready sort s t l (length g)
-  table-ready n e h = other-ready (h .0) (λ z. omega (arith, h .1, length-replicate {A = ℕ} n 0))
+  table-ready n e h = plain-ready (h .0) (λ z. omega (arith, h .1, length-replicate {A = ℕ} n 0))
 
-  -- a table of n zeros can take the glyph map, if it has places for the numbers
-  pub table-clear : (n : ℕ) → n % 4 ≡ 1 → ((k : ℕ) → k < length g / 4 → word g (4 * k) < n / 4) → Clear g (replicate n 0)
-  table-clear n e h = record {
-    zeros = λ j. zero j (decLt j n);
-    form = rw (length-replicate {A = ℕ} n 0) e;
-    ascend = glyphs-ascend g (c .good-glyphs);
-    fits = rw (length-replicate {A = ℕ} n 0) h;
-  }
-    where
-      zero : (j : ℕ) → Dec (j < n) → _≡_ {A = ℕ} (getD (replicate n 0) j 0) 0
-      zero j (yes l) = getD-replicate n j 0 0 l
-      zero j (no l) = List·getD-eq-default (replicate n 0) 0 (omega (arith, length-replicate {A = ℕ} n 0))
+  -- a table of zeros can take the glyph map with the runs of a short source
+  pub runs-unlaid : length s ≤ 65536 → Unlaid g s (replicate 393218 0)
+  runs-unlaid h = record { zeros = zeros-read 393218; long = length-replicate {A = ℕ} 393218 0; small = h; ascend = glyphs-ascend g (c .good-glyphs) }
 
   -- any glyph has a place among all
   pub all-places : (k : ℕ) → k < length g / 4 → word g (4 * k) < 262145 / 4
   all-places k h = omega (arith, word-small g (4 * k) bytes)
-
--- the last number is below n
-pub last-below : (m : List ℕ) (n : ℕ) {w : ℕ} → 4 ≤ length m → w ≡ word m (length m - 4) → Below m n (ltb w n)
-last-below m n {w} l e = record { below = λ good t k h. step good (ltb-true w n t) k h (decLt k (length m / 4 - 1)) }
-  where
-    step : goodGlyphs m ≡ true → w < n → (k : ℕ) → k < length m / 4 → Dec (k < length m / 4 - 1) → word m (4 * k) < n
-    step good t k h (yes d) =
-        let q : length m - 4 ≡ 4 * (length m / 4 - 1) = omega (arith, glyphs-whole m good) in
-        let up = rw (map-key m k h, map-key m (length m / 4 - 1) (omega arith)) at (ascends-rise (keys (mapEntries m)) (glyphs-ascend m good) k (length m / 4 - 1) d (omega (arith, map-length m))) in
-        omega (arith, up, rw q at e)
-    step good t k h (no d) =
-        let q : length m - 4 ≡ 4 * k = omega (arith, glyphs-whole m good) in
-        omega (arith, rw q at e)

@@ -1,12 +1,12 @@
 -- The tables whose numbers are glyphs, by their sort, and what is asked where one is cut.
-use Prim.Native.Nat.{ℕ, _*_, _/_, _≤_, _<_}
+use Prim.Native.Nat.{ℕ, _*_, _≤_, _<_}
 use mathlib.Core.Path.{_≡_}
 use mathlib.Core.Bool.{Bool, true, false}
 use mathlib.Core.Option.{Option, none}
 use mathlib.Core.List.{List}
 use lib.ListN.{length}
-use Rattle.meaning.specs.Words.{word}
-use Rattle.meaning.specs.Maps.{goodGlyphs, goodLookups}
+use Rattle.meaning.specs.Words.{ascends, keys}
+use Rattle.meaning.specs.Maps.{goodGlyphs}
 use Rattle.meaning.specs.Tables.{Table, coverContext}
 use Rattle.meaning.specs.Fault.{coversFault}
 use Rattle.maps.specs.Forms.{mapOf}
@@ -52,12 +52,8 @@ pub record Ready (sort : Sort) (s glyphs lookups : List ℕ) (size : ℕ) : Type
   pub entries : 4 * length (mapOf glyphs) ≤ size
   pub most : size ≤ 262144
 
--- r says true only if each old number of a listed map is below n
-pub record Below (m : List ℕ) (n : ℕ) (r : Bool) : Type 0 where
-  pub below : goodGlyphs m ≡ true → r ≡ true → (k : ℕ) → k < length m / 4 → word m (4 * k) < n
-
--- what is asked by the caller: the source has no fault, and both maps are good
+-- what is asked by the caller: the source has no fault, the glyph map is good, and the lookup map, in either form, can be asked
 pub record Cuts (sort : Sort) (s glyphs lookups : List ℕ) : Type 0 where
   pub sound : sortFault sort s ≡ none
   pub good-glyphs : goodGlyphs glyphs ≡ true
-  pub good-lookups : goodLookups lookups ≡ true
+  pub old-lookups : ascends (keys (mapOf lookups)) ≡ true

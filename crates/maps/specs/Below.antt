@@ -3,14 +3,24 @@ use Prim.Native.Nat.{ℕ, zero, suc, _+_, _-_, _*_, _/_, _%_, _≤_, _<_}
 use mathlib.Core.Path.{_≡_, refl, sym, ap, _∙_}
 use mathlib.Core.Bool.{Bool, true, false, _&&_}
 use mathlib.Core.List.{List, [], _∷_}
+use native.Mathlib.Decide.{decLt}
 use native.Mathlib.Omega.{arith}
-use lib.ListN.{length, getD}
+use lib.ListN.{length, getD, replicate, length-replicate, getD-replicate, List·getD-eq-default}
 use lib.Dec.{ltb}
 use borrow.Author.Tests.{ltb-true, lt-ltb}
 use Rattle.meaning.specs.Words.{word, ascends, keys}
-use Rattle.meaning.specs.Maps.{mapEntries}
-use Rattle.laws.specs.Ascends.{map-length, map-key}
+use Rattle.meaning.specs.Maps.{mapEntries, goodGlyphs, goodLookups}
+use Rattle.laws.specs.Ascends.{map-length, map-key, glyphs-ascend, lookups-ascend}
 use Rattle.laws.specs.Runs.{both}
+use Rattle.maps.specs.Forms.{Clear, glyphs-form, lookups-form}
+
+-- what is read of zeros
+pub zeros-read : (n j : ℕ) → _≡_ {A = ℕ} (getD (replicate n 0) j 0) 0
+zeros-read n j = step (decLt j n)
+  where
+    step : Dec (j < n) → _≡_ {A = ℕ} (getD (replicate n 0) j 0) 0
+    step (yes l) = getD-replicate n j 0 0 l
+    step (no l) = List·getD-eq-default (replicate n 0) 0 (omega (arith, length-replicate {A = ℕ} n 0))
 
 -- whether each of these numbers is below n
 unfoldable pub allBelow : ℕ → List ℕ → Bool
@@ -21,6 +31,13 @@ allBelow n (k ∷ ks) = ltb k n && allBelow n ks
 pub record Rises (m : List ℕ) : Type 0 where
   pub whole : length m % 4 ≡ 0
   pub ascend : ascends (keys (mapEntries m)) ≡ true
+
+-- good maps are such
+pub glyphs-rise : (m : List ℕ) → goodGlyphs m ≡ true → Rises m
+glyphs-rise m h = record { whole = glyphs-form m h; ascend = glyphs-ascend m h }
+
+pub lookups-rise : (m : List ℕ) → goodLookups m ≡ true → Rises m
+lookups-rise m h = record { whole = lookups-form m h; ascend = lookups-ascend m h }
 
 -- numbers that are all below n are so one by one
 pub below-each : (n : ℕ) (ks : List ℕ) → allBelow n ks ≡ true → (i : ℕ) → i < length ks → getD ks i 0 < n
@@ -76,3 +93,11 @@ below-by-last m n {w} r h e =
 -- so each old number of such a map is below n
 pub below-word : (m : List ℕ) (n : ℕ) → allBelow n (keys (mapEntries m)) ≡ true → (k : ℕ) → k < length m / 4 → word m (4 * k) < n
 below-word m n e k h = rw (map-key m k h) at (below-each n (keys (mapEntries m)) e k (omega (arith, map-length m)))
+
+-- a table of n zeros can take a listed map by number, if it has places for the old numbers
+pub table-clear : (m : List ℕ) (n : ℕ) → n % 4 ≡ 1 → ascends (keys (mapEntries m)) ≡ true → ((k : ℕ) → k < length m / 4 → word m (4 * k) < n / 4) → Clear m (replicate n 0)
+table-clear m n e up h = record { zeros = zeros-read n; form = rw (length-replicate {A = ℕ} n 0) e; ascend = up; fits = rw (length-replicate {A = ℕ} n 0) h }
+
+-- one that has few numbers has places
+pub few-clear : (m : List ℕ) (n : ℕ) → n % 4 ≡ 1 → ascends (keys (mapEntries m)) ≡ true → allBelow (n / 4) (keys (mapEntries m)) ≡ true → Clear m (replicate n 0)
+few-clear m n e up b = table-clear m n e up (below-word m (n / 4) b)

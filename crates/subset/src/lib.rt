@@ -1,8 +1,11 @@
 // The call: a kind, a source, a glyph map, a lookup map and a lent buffer, and the lowest of document 01's answers that applies.
 use by_class::by_class;
 use checks::check;
+use glyph_tables::FEW_NUMBERS;
 use glyph_tables::Sort;
 use glyph_tables::cut_glyphs;
+use maps::all_below;
+use maps::by_number;
 use maps::good_glyphs;
 use maps::good_lookups;
 use room::LIMIT;
@@ -11,7 +14,7 @@ use wire::Fault;
 use wire::inside;
 use wire::word_at;
 ghost use mathlib.Core.Path.{_≡_};
-ghost use mathlib.Core.Bool.{_&&_, _||_, not};
+ghost use mathlib.Core.Bool.{true, _&&_, _||_, not};
 ghost use Prim.Native.Nat.{_≤_};
 ghost use lib.ListN.{length};
 ghost use lib.Dec.{eqb};
@@ -21,11 +24,13 @@ ghost use Rattle.meaning.specs.Tables.{table, context, classContext, coverConte
 ghost use Rattle.meaning.specs.Fault.{fault, contextFault, coversFault};
 ghost use Rattle.meaning.specs.Cut.{cut};
 ghost use Rattle.meaning.specs.Subset.{goodKind, hasFormat, hasDevice, written, subset};
+ghost use Rattle.maps.specs.Forms.{mapOf};
 ghost use Rattle.room.specs.Laid.{outcomeOf};
 ghost use Rattle.checks.specs.Parts.{byGlyphFault};
 ghost use Rattle.by_index.specs.Whole.{glyphContext};
+ghost use Rattle.maps.specs.Below.{allBelow, Rises};
 ghost use Rattle.subset.specs.Answers.{numberOf, lengthOf, outcome, decoded, answerOf};
-ghost use Rattle.subset.specs.Asked.{Cuts, CutsByClass};
+ghost use Rattle.subset.specs.Asked.{Cuts, CutsByClass, CutsListed};
 
 // The answers of document 01. With `Kept` comes the number of bytes written, with `NoRoom` the length needed; the length of any other is 0.
 // `BadJob` is given by the label job alone.
@@ -48,6 +53,12 @@ pub enum Answer {
 const SMALL: usize = 2048;
 
 const LONGEST_MAP: usize = 262144;
+
+// The fewest lookups for which a map by number is shorter to ask than a listed one.
+const MANY_LOOKUPS: usize = 4;
+
+// The shortest source that pays for one.
+const PAYS_FOR_LOOKUPS: usize = 512;
 
 // Whether the kind is 1 context, 2 chained, 3 ligature or 4 pair.
 fn good_kind(kind: usize) -> bool
@@ -111,7 +122,7 @@ fn by_class_small(
     out: &mut [u8],
 ) -> Laid
     requires { ⌜ CutsByClass chained (now source) (now glyphs) (now lookups) × (length (now glyphs) ≤ 2048) ⌝ }
-    ensures { λ r. ⌜ outcomeOf r (now (out .exit)) ≡ written (now (out .entry)) (cut (mapEntries (now (glyphs .entry))) (mapEntries (now (lookups .entry))) (classContext chained (now (source .entry)))) ⌝ }
+    ensures { λ r. ⌜ outcomeOf r (now (out .exit)) ≡ written (now (out .entry)) (cut (mapEntries (now (glyphs .entry))) (mapOf (now (lookups .entry))) (classContext chained (now (source .entry)))) ⌝ }
 {
     let mut back = [0u8; SMALL];
     let mut input = [0u8; SMALL];
@@ -135,16 +146,21 @@ fn by_class_small(
 }
 
 // Format 2 of contexts, with scratch for the longest glyph map.
+// It calls itself, so that the compiler keeps its large arrays out of its caller's frame: the small job would pay for them, and docs/SPEED.md says how much. How often it does, `rounds`, is 0 for a map of whole entries.
 fn by_class_large(
     chained: bool,
     source: &[u8],
     glyphs: &[u8],
     lookups: &[u8],
+    rounds: usize,
     out: &mut [u8],
 ) -> Laid
     requires { ⌜ CutsByClass chained (now source) (now glyphs) (now lookups) ⌝ }
-    ensures { λ r. ⌜ outcomeOf r (now (out .exit)) ≡ written (now (out .entry)) (cut (mapEntries (now (glyphs .entry))) (mapEntries (now (lookups .entry))) (classContext chained (now (source .entry)))) ⌝ }
+    ensures { λ r. ⌜ outcomeOf r (now (out .exit)) ≡ written (now (out .entry)) (cut (mapEntries (now (glyphs .entry))) (mapOf (now (lookups .entry))) (classContext chained (now (source .entry)))) ⌝ }
 {
+    if rounds != 0 {
+        return by_class_large(chained, source, glyphs, lookups, rounds - 1, out);
+    }
     let mut back = [0u8; LONGEST_MAP];
     let mut input = [0u8; LONGEST_MAP];
     let mut ahead = [0u8; LONGEST_MAP];
@@ -169,18 +185,18 @@ fn by_class_large(
 // Format 2 of contexts.
 fn cut_by_class(chained: bool, source: &[u8], glyphs: &[u8], lookups: &[u8], out: &mut [u8]) -> Laid
     requires { ⌜ CutsByClass chained (now source) (now glyphs) (now lookups) ⌝ }
-    ensures { λ r. ⌜ outcomeOf r (now (out .exit)) ≡ written (now (out .entry)) (cut (mapEntries (now (glyphs .entry))) (mapEntries (now (lookups .entry))) (classContext chained (now (source .entry)))) ⌝ }
+    ensures { λ r. ⌜ outcomeOf r (now (out .exit)) ≡ written (now (out .entry)) (cut (mapEntries (now (glyphs .entry))) (mapOf (now (lookups .entry))) (classContext chained (now (source .entry)))) ⌝ }
 {
     if glyphs.len() <= SMALL {
         return by_class_small(chained, source, glyphs, lookups, out);
     }
-    by_class_large(chained, source, glyphs, lookups, out)
+    by_class_large(chained, source, glyphs, lookups, glyphs.len() % 4, out)
 }
 
 // Format 1 of contexts.
 fn cut_by_glyph(chained: bool, source: &[u8], glyphs: &[u8], lookups: &[u8], out: &mut [u8]) -> Laid
     requires { ⌜ Cuts (byGlyphFault chained (now source)) (now source) (now glyphs) (now lookups) ⌝ }
-    ensures { λ r. ⌜ outcomeOf r (now (out .exit)) ≡ written (now (out .entry)) (cut (mapEntries (now (glyphs .entry))) (mapEntries (now (lookups .entry))) (glyphContext chained (now (source .entry)))) ⌝ }
+    ensures { λ r. ⌜ outcomeOf r (now (out .exit)) ≡ written (now (out .entry)) (cut (mapEntries (now (glyphs .entry))) (mapOf (now (lookups .entry))) (glyphContext chained (now (source .entry)))) ⌝ }
 {
     if chained {
         return cut_glyphs(Sort::ChainedRules, source, glyphs, lookups, out);
@@ -191,7 +207,7 @@ fn cut_by_glyph(chained: bool, source: &[u8], glyphs: &[u8], lookups: &[u8], out
 // Format 3 of contexts.
 fn cut_by_cover(chained: bool, source: &[u8], glyphs: &[u8], lookups: &[u8], out: &mut [u8]) -> Laid
     requires { ⌜ Cuts (coversFault chained (now source)) (now source) (now glyphs) (now lookups) ⌝ }
-    ensures { λ r. ⌜ outcomeOf r (now (out .exit)) ≡ written (now (out .entry)) (cut (mapEntries (now (glyphs .entry))) (mapEntries (now (lookups .entry))) (coverContext chained (now (source .entry)))) ⌝ }
+    ensures { λ r. ⌜ outcomeOf r (now (out .exit)) ≡ written (now (out .entry)) (cut (mapEntries (now (glyphs .entry))) (mapOf (now (lookups .entry))) (coverContext chained (now (source .entry)))) ⌝ }
 {
     if chained {
         return cut_glyphs(Sort::ChainedCovers, source, glyphs, lookups, out);
@@ -202,7 +218,7 @@ fn cut_by_cover(chained: bool, source: &[u8], glyphs: &[u8], lookups: &[u8], out
 // A context, plain or chained, by its format.
 fn cut_context(chained: bool, source: &[u8], glyphs: &[u8], lookups: &[u8], out: &mut [u8]) -> Laid
     requires { ⌜ Cuts (contextFault chained (now source)) (now source) (now glyphs) (now lookups) ⌝ }
-    ensures { λ r. ⌜ outcomeOf r (now (out .exit)) ≡ written (now (out .entry)) (cut (mapEntries (now (glyphs .entry))) (mapEntries (now (lookups .entry))) (context chained (now (source .entry)))) ⌝ }
+    ensures { λ r. ⌜ outcomeOf r (now (out .exit)) ≡ written (now (out .entry)) (cut (mapEntries (now (glyphs .entry))) (mapOf (now (lookups .entry))) (context chained (now (source .entry)))) ⌝ }
 {
     let format = word_at(source, 0);
     match format {
@@ -212,10 +228,10 @@ fn cut_context(chained: bool, source: &[u8], glyphs: &[u8], lookups: &[u8], out:
     }
 }
 
-// What is left of a sound source, laid into the buffer if its plain layout has room: 1 context, 2 chained, 3 ligature, and pair for any other.
-fn cut_into(kind: usize, source: &[u8], glyphs: &[u8], lookups: &[u8], out: &mut [u8]) -> Laid
+// What is left of a sound source, laid into the buffer if its plain layout has room: 1 context, 2 chained, 3 ligature, and pair for any other. The lookup map is of either form.
+fn cut_kind(kind: usize, source: &[u8], glyphs: &[u8], lookups: &[u8], out: &mut [u8]) -> Laid
     requires { ⌜ Cuts (fault kind (now source)) (now source) (now glyphs) (now lookups) ⌝ }
-    ensures { λ r. ⌜ outcomeOf r (now (out .exit)) ≡ written (now (out .entry)) (cut (mapEntries (now (glyphs .entry))) (mapEntries (now (lookups .entry))) (table kind (now (source .entry)))) ⌝ }
+    ensures { λ r. ⌜ outcomeOf r (now (out .exit)) ≡ written (now (out .entry)) (cut (mapEntries (now (glyphs .entry))) (mapOf (now (lookups .entry))) (table kind (now (source .entry)))) ⌝ }
 {
     match kind {
         1 => cut_context(false, source, glyphs, lookups, out),
@@ -223,6 +239,41 @@ fn cut_into(kind: usize, source: &[u8], glyphs: &[u8], lookups: &[u8], out: &mut
         3 => cut_glyphs(Sort::Ligatures, source, glyphs, lookups, out),
         _ => cut_glyphs(Sort::Pairs, source, glyphs, lookups, out),
     }
+}
+
+// Whether a source pays for the lookup map by number, and all its numbers have a place there.
+fn pays_for_lookups(source: &[u8], lookups: &[u8]) -> bool
+    requires { ⌜ Rises (now lookups) ⌝ }
+    ensures { λ r. ⌜ r ≡ true → allBelow 4096 (keys (mapEntries (now (lookups .entry)))) ≡ true ⌝ }
+{
+    if source.len() < PAYS_FOR_LOOKUPS {
+        return false;
+    }
+    if lookups.len() < 4 * MANY_LOOKUPS {
+        return false;
+    }
+    all_below(lookups, FEW_NUMBERS)
+}
+
+// What is left of a sound source under a listed lookup map of few numbers, which is laid out by number: then each question to it is one reading.
+fn cut_numbered(kind: usize, source: &[u8], glyphs: &[u8], lookups: &[u8], out: &mut [u8]) -> Laid
+    requires { ⌜ CutsListed (fault kind (now source)) (now source) (now glyphs) (now lookups) × (allBelow 4096 (keys (mapEntries (now lookups))) ≡ true) ⌝ }
+    ensures { λ r. ⌜ outcomeOf r (now (out .exit)) ≡ written (now (out .entry)) (cut (mapEntries (now (glyphs .entry))) (mapEntries (now (lookups .entry))) (table kind (now (source .entry)))) ⌝ }
+{
+    let mut table = [0u8; 4 * FEW_NUMBERS + 1];
+    by_number(lookups, &mut table);
+    cut_kind(kind, source, glyphs, &table, out)
+}
+
+// What is left of a sound source under a listed lookup map, which is laid out by number where the source pays for it.
+fn cut_into(kind: usize, source: &[u8], glyphs: &[u8], lookups: &[u8], out: &mut [u8]) -> Laid
+    requires { ⌜ CutsListed (fault kind (now source)) (now source) (now glyphs) (now lookups) ⌝ }
+    ensures { λ r. ⌜ outcomeOf r (now (out .exit)) ≡ written (now (out .entry)) (cut (mapEntries (now (glyphs .entry))) (mapEntries (now (lookups .entry))) (table kind (now (source .entry)))) ⌝ }
+{
+    if pays_for_lookups(source, lookups) {
+        return cut_numbered(kind, source, glyphs, lookups, out);
+    }
+    cut_kind(kind, source, glyphs, lookups, out)
 }
 
 // The answer for what was laid.

@@ -2,29 +2,28 @@
 use Prim.Native.Nat.{_<_}
 use mathlib.Core.Path.{refl}
 use native.Mathlib.Omega.{arith}
-use Rattle.maps.specs.Forms.{of-lookups}
-use Rattle.glyph_tables.proofs.Asks.{table-clear, table-ready}
+use Rattle.laws.specs.Ascends.{glyphs-ascend}
+use Rattle.maps.specs.Below.{few-clear}
+use Rattle.glyph_tables.proofs.Asks.{table-ready}
 use borrow.Author.Needs.{needs}
 use Rattle.glyph_tables.proofs.cut_few.Statement.{statement}
 use Rattle.glyph_tables.proofs.cut_few.Tie as tie
 
 by-number-requires : tie.Need-by-number-requires
 by-number-requires c κs =
-    let g = c .before .before .before in
-    let a = g .before .before in
-    table-clear (a .pre .0) (λ i. omega (arith, g .shared-slice-known2 .given i)) 8193 refl (a .pre .1 .below (a .pre .0 .good-glyphs) refl)
+    let a = c .before .before .before .before .before in
+    few-clear (a .args .glyphs .now) 16385 refl (glyphs-ascend (a .args .glyphs .now) (a .pre .0 .good-glyphs)) (a .pre .1)
 
 cut-sized-requires : tie.Need-cut-sized-requires
 cut-sized-requires c κs =
     let g = c .before .before .before .before .before .before .before in
     let a = g .before .before in
-    table-ready (a .pre .0) (λ i. omega (arith, g .shared-slice-known2 .given i)) 8193 refl (c .before .before .before .by-number .ensures)
+    table-ready (a .pre .0) (λ i. omega (arith, g .shared-slice-known2 .given i)) 16385 refl (c .before .before .before .by-number .ensures)
 
 returns : tie.Need-returns
 returns c =
     let n = c .before .before .before .before .before .before in
-    let a = n .before .before .before .before .before .before in
-    rw (n .by-number .ensures .0, of-lookups (a .args .lookups .now) (a .pre .0 .good-lookups)) at (c .before .before .cut-sized .ensures)
+    rw (n .by-number .ensures .0) at (c .before .before .cut-sized .ensures)
 
 pub cut-few-spec : {M : Type 1} → statement M
 cut-few-spec =

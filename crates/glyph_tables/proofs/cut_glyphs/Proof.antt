@@ -1,7 +1,7 @@
 -- `glyph_tables::cut_glyphs` meets its contract: the glyph map itself, or one of its entries by number. Assumes nothing.
 use mathlib.Core.Path.{sym}
 use native.Mathlib.Omega.{arith}
-use Rattle.maps.specs.Forms.{of-glyphs, of-lookups}
+use Rattle.maps.specs.Forms.{of-glyphs}
 use Rattle.glyph_tables.proofs.Asks.{listed-ready}
 use borrow.Author.Needs.{needs}
 use Rattle.glyph_tables.proofs.cut_glyphs.Statement.{statement}
@@ -15,7 +15,7 @@ cut-sized-requires c κs =
 returns : tie.Need-returns
 returns c =
     let a = c .before .before .before .before .before .before .before .before .before in
-    rw (of-glyphs (a .args .glyphs .now) (a .pre .good-glyphs), of-lookups (a .args .lookups .now) (a .pre .good-lookups)) at (c .before .before .cut-sized .ensures)
+    rw (of-glyphs (a .args .glyphs .now) (a .pre .good-glyphs)) at (c .before .before .cut-sized .ensures)
 
 cut-few-requires : tie.Need-cut-few-requires
 cut-few-requires c κs = (c .before .before .before .before .before .before .before .before .pre, rw (c .before .if2 .taken) at (c .before .before .all-below .ensures))
@@ -28,7 +28,7 @@ cut-sized-requires-2 c κs =
 returns-3 : tie.Need-returns-3
 returns-3 c =
     let a = c .before .before .before .before .before .before .before .before .before .before .before .before in
-    rw (of-glyphs (a .args .glyphs .now) (a .pre .good-glyphs), of-lookups (a .args .lookups .now) (a .pre .good-lookups)) at (c .before .before .cut-sized2 .ensures)
+    rw (of-glyphs (a .args .glyphs .now) (a .pre .good-glyphs)) at (c .before .before .cut-sized2 .ensures)
 
 pub cut-glyphs-spec : {M : Type 1} → statement M
 cut-glyphs-spec =

@@ -1,7 +1,6 @@
 -- `subset::by_class_small` meets its contract: scratch is as long as a small glyph map. Assumes nothing.
 use native.Mathlib.Omega.{arith}
 use borrow.Author.Needs.{needs}
-use Rattle.maps.specs.Forms.{of-lookups}
 use Rattle.subset.proofs.Scratch.{class-asks}
 use Rattle.subset.proofs.by_class_small.Statement.{statement}
 use Rattle.subset.proofs.by_class_small.Tie as tie
@@ -13,9 +12,7 @@ by-class-requires c κs =
 
 returns : tie.Need-returns
 returns c =
-    let k = c .before .before .before .before .before .before .before .before in
-    let a = k .before .before .before .before .before .before .before .before .before .before .before .before in
-    rw (of-lookups (a .args .lookups .now) (a .pre .0 .cuts .good-lookups)) at (k .by-class .ensures)
+    c .before .before .before .before .before .before .before .before .by-class .ensures
 
 pub by-class-small-spec : {M : Type 1} → statement M
 by-class-small-spec =
