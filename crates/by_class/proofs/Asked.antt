@@ -1,5 +1,5 @@
 -- What a source without a fault gives: its coverage and its class tables are sound, and their class maps are at the front of scratch.
-use Prim.Native.Nat.{ℕ, _+_, _*_, _≤_}
+use Prim.Native.Nat.{ℕ, _+_, _*_, _%_, _≤_}
 use mathlib.Core.Path.{_≡_, refl, sym, _∙_}
 use mathlib.Core.Bool.{Bool, true, false}
 use mathlib.Core.Option.{Option, none, some}
@@ -7,11 +7,13 @@ use mathlib.Core.List.{List}
 use native.Mathlib.Nat.{zero-add}
 use native.Mathlib.Numerals.{add-one}
 use native.Mathlib.Omega.{arith}
-use lib.ListN.{length, take}
+use lib.ListN.{length, take, replicate, length-replicate}
 use borrow.Author.Tests.{eq-eqb, ne-eqb}
 use Rattle.meaning.specs.Words.{word}
 use Rattle.meaning.specs.Maps.{mapEntries}
 use Rattle.maps.specs.Forms.{mapOf, of-listed, of-glyphs}
+use Rattle.maps.specs.Below.{Rises}
+use Rattle.sequences.specs.Served.{Serves, RunsLaid}
 use Rattle.meaning.specs.Parts.{coverage, coverageSound, classes, classesSound}
 use Rattle.meaning.specs.Tables.{Rule, Table, reach, reaches, ruleSet, classContext}
 use Rattle.meaning.specs.Fault.{faultThrough, coverageFault, classesFault, ruleFault, setFault, contextFault}
@@ -139,6 +141,10 @@ asks-begun {s = s} {glyphs} k {at = at} e z f y h q r₀ t l =
       short = omega (arith, k .short);
     }
 
+-- a map of whole entries whose old numbers ascend is listed so
+map-rises : {m : List ℕ} → length m % 4 ≡ 0 → Ascends m → Rises m
+map-rises {m} w up = record { whole = w; ascend = rw (of-listed m w) at up }
+
 -- once the maps of backtrack and lookahead are filled in, all classes are ranked
 pub begun-ranked : {chained : Bool} {s glyphs lookups i c : List ℕ} {u v p w : ℕ} → Begun chained s glyphs lookups i c u v p w
     → {x y m n : ℕ} {b₀ b a₀ a : List ℕ} → x ≡ backAt chained s → Filled (mapAt (mapEntries glyphs) s x) b₀ m b → length b₀ ≡ u → y ≡ aheadAt chained s → Filled (mapAt (mapEntries glyphs) s y) a₀ n a → length a₀ ≡ v
@@ -172,6 +178,50 @@ begun-ranked {chained} {s} {glyphs} k {x} {y} e f h q r t =
         listed = of-listed _ (k .listed);
         places = k .slots;
       };
-      back = of-listed _ (omega (arith, filled-part f fits-back, f .used));
-      ahead = of-listed _ (omega (arith, filled-part r fits-ahead, r .used));
+      back = map-rises (omega (arith, filled-part f fits-back, f .used)) (ranks-ascend remakes-back);
+      input = map-rises (k .listed) (ranks-ascend remakes-input);
+      ahead = map-rises (omega (arith, filled-part r fits-ahead, r .used)) (ranks-ascend remakes-ahead);
     }
+
+-- a class table is made anew by any map of the same entries
+same-ranks : {s : List ℕ} {at : ℕ} {glyphs m t : List ℕ} {room : ℕ} → Remakes s at glyphs m room → mapOf t ≡ mapOf m → Remakes s at glyphs t room
+same-ranks r e = record { sound = r .sound; good = r .good; ranks = e ∙ r .ranks; fits = r .fits }
+
+-- Class maps in another form, of the same entries.
+module _ {chained : Bool} {s glyphs lookups b i a c : List ℕ} {slots room : ℕ} (k : Ranked chained s glyphs lookups b i a c slots room) where
+  -- they serve as well, where they serve the source
+  pub other-maps : {t u v : List ℕ} → mapOf t ≡ mapEntries b → mapOf u ≡ mapEntries i → mapOf v ≡ mapEntries a → Serves s t → Serves s u → Serves s v
+      → Mapped chained s glyphs lookups t u v i c slots room
+  other-maps e f g st su sv =
+      let m = k .mapped in
+      let same-back = e ∙ sym (of-listed b (k .back .whole)) in
+      let same-input = f ∙ sym (of-listed i (k .input .whole)) in
+      let same-ahead = g ∙ sym (of-listed a (k .ahead .whole)) in
+      record {
+        ready =
+            record {
+              tables = record { back = same-ranks (m .ready .tables .back) same-back; input = same-ranks (m .ready .tables .input) same-input; ahead = same-ranks (m .ready .tables .ahead) same-ahead };
+              cover = m .ready .cover;
+              short = m .ready .short;
+            };
+        maps = record { back = st; input = su; ahead = sv };
+        old-lookups = m .old-lookups;
+        covers = m .covers;
+        classed = m .classed;
+        held = m .held;
+        few = m .few;
+        listed = f;
+        places = m .places;
+      }
+
+  -- maps by number, in tables of n zeros
+  pub number-maps : (n : ℕ) → n % 4 ≡ 1 → {t u v : List ℕ} → (mapOf t ≡ mapEntries b) × (length t ≡ length {A = ℕ} (replicate n 0)) → (mapOf u ≡ mapEntries i) × (length u ≡ length {A = ℕ} (replicate n 0)) → (mapOf v ≡ mapEntries a) × (length v ≡ length {A = ℕ} (replicate n 0))
+      → Mapped chained s glyphs lookups t u v i c slots room
+  number-maps n e f g h = other-maps (f .0) (g .0) (h .0) (serves f (k .back)) (serves g (k .input)) (serves h (k .ahead))
+    where
+      serves : {t m : List ℕ} → (mapOf t ≡ mapEntries m) × (length t ≡ length {A = ℕ} (replicate n 0)) → Rises m → Serves s t
+      serves f r = serves-plain (rw (f .0) (r .ascend)) (λ z. omega (arith, f .1, length-replicate {A = ℕ} n 0))
+
+  -- maps with the runs of the source
+  pub runs-maps : {t u v z : List ℕ} → RunsLaid b s z t → RunsLaid i s z u → RunsLaid a s z v → Mapped chained s glyphs lookups t u v i c slots room
+  runs-maps f g h = other-maps (f .numbers) (g .numbers) (h .numbers) (f .serves) (g .serves) (h .serves)

@@ -1,13 +1,14 @@
 -- A context by classes as a whole: what is asked of what is made of it, and the words of what is left of it.
 use Prim.Native.Nat.{ℕ, _%_, _+_, _*_, _≤_, _<_}
 use mathlib.Core.Path.{_≡_}
-use mathlib.Core.Bool.{Bool}
+use mathlib.Core.Bool.{Bool, true}
 use mathlib.Core.Option.{Option}
 use mathlib.Core.List.{List, []}
 use lib.ListN.{length}
-use Rattle.meaning.specs.Words.{word, words}
+use Rattle.meaning.specs.Words.{word, words, keys}
 use Rattle.meaning.specs.Maps.{mapEntries}
 use Rattle.maps.specs.Forms.{mapOf}
+use Rattle.maps.specs.Below.{allBelow, Rises}
 use Rattle.meaning.specs.Parts.{coverage, classes}
 use Rattle.meaning.specs.Cut.{classMap}
 use Rattle.meaning.specs.Layout.{blocks, setsLayout}
@@ -57,8 +58,9 @@ pub record Mapped (chained : Bool) (s glyphs lookups b i a x c : List ℕ) (slot
 -- The same where the three class maps are listed.
 pub record Ranked (chained : Bool) (s glyphs lookups b i a c : List ℕ) (slots room : ℕ) : Type 0 where
   pub mapped : Mapped chained s glyphs lookups b i a i c slots room
-  pub back : mapOf b ≡ mapEntries b
-  pub ahead : mapOf a ≡ mapEntries a
+  pub back : Rises b
+  pub input : Rises i
+  pub ahead : Rises a
 
 -- What is known once the classes of the input are ranked: neither the coverage nor the input's class table is null, `i` has its class map and `c` the classes that retained covered glyphs hold, and there is room for the rest; u, v, p and w are the lengths of `back`, `ahead`, `slots` and `work`.
 pub record Begun (chained : Bool) (s glyphs lookups i c : List ℕ) (u v p w : ℕ) : Type 0 where
@@ -75,7 +77,8 @@ pub record Begun (chained : Bool) (s glyphs lookups i c : List ℕ) (u v p w : �
   pub work : length glyphs ≤ w
   pub short : w ≤ 0x1_0000_0000
 
--- r says that each class of the three maps is below 1,024
-abbrev pub FewClasses : List ℕ → List ℕ → List ℕ → Bool → Type 0
-FewClasses b i a true = Below b 1024 true × Below i 1024 true × Below a 1024 true
-FewClasses b i a false = ⊤
+-- each class of the three maps is below 1,024
+pub record FewClasses (b i a : List ℕ) : Type 0 where
+  pub back : allBelow 1024 (keys (mapEntries b)) ≡ true
+  pub input : allBelow 1024 (keys (mapEntries i)) ≡ true
+  pub ahead : allBelow 1024 (keys (mapEntries a)) ≡ true

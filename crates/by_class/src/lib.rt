@@ -32,7 +32,7 @@ ghost use lib.Seq.{sets};
 ghost use Rattle.meaning.specs.Words.{words, flat, keys};
 ghost use Rattle.meaning.specs.Maps.{mapEntries};
 ghost use Rattle.maps.specs.Forms.{mapOf};
-ghost use Rattle.maps.specs.Below.{Below};
+ghost use Rattle.maps.specs.Below.{Rises};
 ghost use Rattle.meaning.specs.Parts.{coverage, coverageSound, classes, classesSound};
 ghost use Rattle.meaning.specs.Tables.{classContext};
 ghost use Rattle.meaning.specs.Cut.{classMap, cut};
@@ -423,7 +423,7 @@ fn with_few(
     work: &mut [u8],
     out: &mut [u8],
 ) -> Laid
-    requires { ⌜ Ranked chained (now src) (now glyphs) (now lookups) (now back) (now input) (now ahead) (now covered) (length (now slots)) (length (now work)) × Below (now back) 1024 true × Below (now input) 1024 true × Below (now ahead) 1024 true ⌝ }
+    requires { ⌜ Ranked chained (now src) (now glyphs) (now lookups) (now back) (now input) (now ahead) (now covered) (length (now slots)) (length (now work)) × FewClasses (now back) (now input) (now ahead) ⌝ }
     ensures { λ r. ⌜ outcomeOf r (now (out .exit)) ≡ written (now (out .entry)) (cut (mapEntries (now (glyphs .entry))) (mapOf (now (lookups .entry))) (classContext chained (now (src .entry)))) ⌝ }
 {
     let mut b = [0u8; 4 * FEW_CLASSES + 1];
@@ -507,7 +507,8 @@ fn with_runs(
 
 // Whether the three class maps are to be laid out by number: the source is long enough to pay for it, and all classes are few.
 fn pays(src: &[u8], back: &[u8], input: &[u8], ahead: &[u8]) -> bool
-    ensures { λ r. ⌜ FewClasses (now (back .entry)) (now (input .entry)) (now (ahead .entry)) r ⌝ }
+    requires { ⌜ Rises (now back) × Rises (now input) × Rises (now ahead) ⌝ }
+    ensures { λ r. ⌜ (r ≡ true → FewClasses (now (back .entry)) (now (input .entry)) (now (ahead .entry))) ⌝ }
 {
     if src.len() < PAYS_FOR_FEW {
         return false;

@@ -17,8 +17,7 @@ use Rattle.laws.specs.Ascends.{glyphs-ascend}
 use Rattle.laws.specs.ClassesLeft.{index-low}
 use Rattle.laws.specs.Left.{entries-length}
 use Rattle.maps.specs.Forms.{mapOf, glyphs-form, of-glyphs}
-use Rattle.maps.specs.Below.{zeros-read}
-use Rattle.sequences.specs.Served.{Serves, serves-plain, Unlaid}
+use Rattle.sequences.specs.Served.{Serves, serves-plain}
 use Rattle.checks.specs.Parts.{pairFields}
 use Rattle.by_cover.specs.Roomy.{map-roomy}
 use Rattle.by_cover.specs.Context.{Asks as CoverAsks}
@@ -88,10 +87,6 @@ module _ {sort : Sort} {s g l : List ℕ} (c : Cuts sort s g l) (bytes : (i : �
   -- so does a table of n zeros that was made a map of the same entries by number
   pub table-ready : (n : ℕ) → n % 4 ≡ 1 → {t : List ℕ} → (mapOf t ≡ mapEntries g) × (length t ≡ length {A = ℕ} (replicate n 0)) → Ready sort s t l (length g)
   table-ready n e h = plain-ready (h .0) (λ z. omega (arith, h .1, length-replicate {A = ℕ} n 0))
-
-  -- a table of zeros can take the glyph map with the runs of a short source
-  pub runs-unlaid : length s ≤ 65536 → Unlaid g s (replicate 393218 0)
-  runs-unlaid h = record { zeros = zeros-read 393218; long = length-replicate {A = ℕ} 393218 0; small = h; ascend = glyphs-ascend g (c .good-glyphs) }
 
   -- any glyph has a place among all
   pub all-places : (k : ℕ) → k < length g / 4 → word g (4 * k) < 262145 / 4

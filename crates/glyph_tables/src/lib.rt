@@ -195,7 +195,7 @@ fn cut_plain(sort: Sort, source: &[u8], glyphs: &[u8], lookups: &[u8], out: &mut
 
 // Whether the sets of a table, by its sort, share members; pairs are not shared by sets, and contexts by coverages have no sets.
 fn shares(sort: Sort, source: &[u8]) -> bool
-    ensures { λ r. ⌜ r ≡ true → length (now (source .entry)) ≤ 65536 ⌝ }
+    ensures { λ r. ⌜ (r ≡ true → length (now (source .entry)) ≤ 65536) ⌝ }
 {
     match sort {
         Sort::Rules => crowded(source, 6, word_at(source, 4)),

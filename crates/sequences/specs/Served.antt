@@ -3,11 +3,12 @@ use Prim.Native.Nat.{ℕ, _+_, _*_, _%_, _≤_, _<_}
 use mathlib.Core.Path.{_≡_}
 use mathlib.Core.Bool.{true}
 use mathlib.Core.List.{List}
-use lib.ListN.{length, getD}
+use lib.ListN.{length, getD, replicate, length-replicate}
 use lib.Dec.{leb}
 use Rattle.meaning.specs.Words.{word, words, ascends, keys, find, mapAll, isSome}
 use Rattle.meaning.specs.Maps.{mapEntries}
 use Rattle.maps.specs.Forms.{mapOf}
+use Rattle.maps.specs.Below.{zeros-read}
 use Rattle.sequences.specs.Renumbered.{Ascends}
 
 -- where the run of a place of the source stands in a table with runs
@@ -57,6 +58,10 @@ pub record Unlaid (map src table : List ℕ) : Type 0 where
   pub long : length table ≡ 393218
   pub small : length src ≤ 65536
   pub ascend : ascends (keys (mapEntries map)) ≡ true
+
+-- a table of zeros can take a listed map with the runs of a short source
+pub zeros-unlaid : {map src : List ℕ} → ascends (keys (mapEntries map)) ≡ true → length src ≤ 65536 → Unlaid map src (replicate 393218 0)
+zeros-unlaid up h = record { zeros = zeros-read 393218; long = length-replicate {A = ℕ} 393218 0; small = h; ascend = up }
 
 -- The map is laid out: the table says the same numbers, and serves the source.
 pub record RunsLaid (map src before after : List ℕ) : Type 0 where

@@ -244,7 +244,7 @@ fn cut_kind(kind: usize, source: &[u8], glyphs: &[u8], lookups: &[u8], out: &mut
 // Whether a source pays for the lookup map by number, and all its numbers have a place there.
 fn pays_for_lookups(source: &[u8], lookups: &[u8]) -> bool
     requires { ⌜ Rises (now lookups) ⌝ }
-    ensures { λ r. ⌜ r ≡ true → allBelow 4096 (keys (mapEntries (now (lookups .entry)))) ≡ true ⌝ }
+    ensures { λ r. ⌜ (r ≡ true → allBelow 4096 (keys (mapEntries (now (lookups .entry)))) ≡ true) ⌝ }
 {
     if source.len() < PAYS_FOR_LOOKUPS {
         return false;
