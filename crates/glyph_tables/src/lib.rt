@@ -14,6 +14,7 @@ ghost use Prim.Native.Nat.{_*_, _≤_};
 ghost use mathlib.Core.Path.{_≡_};
 ghost use mathlib.Core.Bool.{true};
 ghost use lib.ListN.{length};
+ghost use Rattle.meaning.specs.Words.{keys};
 ghost use Rattle.meaning.specs.Maps.{mapEntries};
 ghost use Rattle.meaning.specs.Cut.{cut};
 ghost use Rattle.meaning.specs.Subset.{written};
