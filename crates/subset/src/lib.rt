@@ -18,7 +18,7 @@ ghost use mathlib.Core.Bool.{true, _&&_, _||_, not};
 ghost use Prim.Native.Nat.{_≤_};
 ghost use lib.ListN.{length};
 ghost use lib.Dec.{eqb};
-ghost use Rattle.meaning.specs.Words.{word, inside};
+ghost use Rattle.meaning.specs.Words.{word, inside, keys};
 ghost use Rattle.meaning.specs.Maps.{mapEntries};
 ghost use Rattle.meaning.specs.Tables.{table, context, classContext, coverContext};
 ghost use Rattle.meaning.specs.Fault.{fault, contextFault, coversFault};
