@@ -20,11 +20,11 @@ inside-true s at n h = leb-true (at + n) (length s) h
 
 module _ (s : List ℕ) (at : ℕ) where
   -- what the glyphs are, by the format
-  covers-list : word s at ≡ 1 → coverage s at ≡ words s (at + 4) (word s (at + 2))
+  pub covers-list : word s at ≡ 1 → coverage s at ≡ words s (at + 4) (word s (at + 2))
   unfolding coverage
   covers-list h = rw (eq-eqb _ _ h)
 
-  covers-ranges : (word s at ≡ 1 → ⊥) → coverage s at ≡ rangeGlyphs (triples s (at + 4) (word s (at + 2)))
+  pub covers-ranges : (word s at ≡ 1 → ⊥) → coverage s at ≡ rangeGlyphs (triples s (at + 4) (word s (at + 2)))
   unfolding coverage
   covers-ranges h = rw (ne-eqb _ _ h)
 
@@ -34,7 +34,7 @@ module _ (s : List ℕ) (at : ℕ) where
     unfolding coverageSound
     header-fits = inside-true s at 4 (both (inside s at 4) _ h .0)
 
-    list-fits : word s at ≡ 1 → at + 4 + 2 * word s (at + 2) ≤ length s
+    pub list-fits : word s at ≡ 1 → at + 4 + 2 * word s (at + 2) ≤ length s
     unfolding coverageSound
     list-fits f =
         let n = word s (at + 2) in

@@ -1,7 +1,7 @@
 -- The retained glyphs of a coverage, as words in scratch.
 use Prim.Native.Nat.{ℕ}
 use mathlib.Core.Path.{_≡_, refl, ap, _∙_}
-use mathlib.Core.Bool.{Bool, cond}
+use mathlib.Core.Bool.{Bool, true, false, cond}
 use mathlib.Core.Option.{Option, none, some}
 use mathlib.Core.List.{List, [], _∷_, _++_}
 use Rattle.meaning.specs.Words.{find, isSome, push, mapSome, twos, keys, values}
@@ -22,31 +22,31 @@ retainedEntries g (c ∷ cov) = entryOf c (find g c) ++ retainedEntries g cov
 abbrev pub retainedWords : List (ℕ × ℕ) → List ℕ → List ℕ
 retainedWords g cov = twos (retainedEntries g cov)
 
--- a new number as words, where there is one, alone and after the old number
-abbrev pub newWord : Option ℕ → List ℕ
-newWord none = []
-newWord (some n) = n ∷ []
+-- the words of a glyph that has a new number: that number, alone or after the old one
+abbrev pub glyphWords : Bool → ℕ → Option ℕ → List ℕ
+glyphWords both c none = []
+glyphWords both c (some n) = cond both (c ∷ n ∷ []) (n ∷ [])
 
-abbrev pub entryWords : ℕ → Option ℕ → List ℕ
-entryWords c none = []
-entryWords c (some n) = c ∷ n ∷ []
+-- what a glyph gives
+abbrev pub given : Bool → List (ℕ × ℕ) → ℕ → List ℕ
+given both g c = glyphWords both c (find g c)
 
--- both gather words glyph by glyph
-pub new-pieces : (g : List (ℕ × ℕ)) (cov : List ℕ) → pieces (λ c. newWord (find g c)) cov ≡ newCoverage g cov
+-- the new numbers alone are the new coverage, and with the old ones they are the entries
+pub new-pieces : (g : List (ℕ × ℕ)) (cov : List ℕ) → pieces (given false g) cov ≡ newCoverage g cov
 unfolding pieces newCoverage mapSome push
 new-pieces g [] = refl
 new-pieces g (c ∷ cov) = step (find g c) (new-pieces g cov)
   where
-    step : (o : Option ℕ) → pieces (λ c. newWord (find g c)) cov ≡ newCoverage g cov → newWord o ++ pieces (λ c. newWord (find g c)) cov ≡ push o (newCoverage g cov)
+    step : (o : Option ℕ) → pieces (given false g) cov ≡ newCoverage g cov → glyphWords false c o ++ pieces (given false g) cov ≡ push o (newCoverage g cov)
     step none e = e
     step (some n) e = ap (λ (l : List ℕ). n ∷ l) e
 
-pub entry-pieces : (g : List (ℕ × ℕ)) (cov : List ℕ) → pieces (λ c. entryWords c (find g c)) cov ≡ retainedWords g cov
+pub entry-pieces : (g : List (ℕ × ℕ)) (cov : List ℕ) → pieces (given true g) cov ≡ retainedWords g cov
 unfolding pieces retainedEntries twos
 entry-pieces g [] = refl
 entry-pieces g (c ∷ cov) = step (find g c) (entry-pieces g cov)
   where
-    step : (o : Option ℕ) → pieces (λ c. entryWords c (find g c)) cov ≡ retainedWords g cov → entryWords c o ++ pieces (λ c. entryWords c (find g c)) cov ≡ twos (entryOf c o ++ retainedEntries g cov)
+    step : (o : Option ℕ) → pieces (given true g) cov ≡ retainedWords g cov → glyphWords true c o ++ pieces (given true g) cov ≡ twos (entryOf c o ++ retainedEntries g cov)
     step none e = e
     step (some n) e = ap (λ (l : List ℕ). c ∷ n ∷ l) e
 
