@@ -1,3 +1,4 @@
 pub mod Formats
+pub mod Stretches
 pub mod Filled
 pub mod Marks

@@ -10,11 +10,12 @@ use wire::put_entry;
 use wire::put_record;
 use wire::word_at;
 ghost use mathlib.Core.Path.{_≡_};
-ghost use mathlib.Core.Bool.{true};
+ghost use mathlib.Core.Bool.{true, _&&_};
 ghost use mathlib.Core.Option.{Option·getD};
 ghost use mathlib.Core.List.{[]};
 ghost use Prim.Native.Nat.{_+_, _*_, _/_, _≤_, _<_};
 ghost use lib.ListN.{length, replicate};
+ghost use lib.Dec.{leb};
 ghost use Rattle.meaning.specs.Words.{word, words, triples, threes, ascends, keys, find};
 ghost use Rattle.meaning.specs.Parts.{rangesAscend, arrayClasses, rangeClasses, classes, classesSound, classOf};
 ghost use Rattle.meaning.specs.Fault.{classesFault};
@@ -27,6 +28,7 @@ ghost use Rattle.laws.specs.RunsLeft.{goesOn};
 ghost use Rattle.laws.specs.ClassesLeft.{entriesFrom};
 ghost use Rattle.wire.specs.Fault.{faultOf};
 ghost use Rattle.classes.specs.Formats.{arraySound, CountsIds};
+ghost use Rattle.classes.specs.Stretches.{Passed, Reached, Stretched, Around, newClassOf};
 ghost use Rattle.classes.specs.Marks.{marked, Marked};
 ghost use Rattle.classes.specs.Filled.{Filled, Ranked};
 
@@ -100,55 +102,176 @@ fn ranges_ascend(src: &[u8], at: usize, n: usize) -> bool
     true
 }
 
+// The glyphs from `first` to `last`, whose classes have one number, `class`. The search for a later glyph begins with the class range `next`.
+struct Stretch {
+    first: usize,
+    last: usize,
+    class: usize,
+    next: usize,
+}
+
 // The class of a glyph in the sound class table at `at`; a glyph that is not listed holds class 0.
 pub fn class_of(src: &[u8], at: usize, glyph: usize) -> usize
     requires { ⌜ classesSound (now src) at ≡ true ⌝ }
     ensures { λ r. ⌜ (r ≡ classOf (classes (now (src .entry)) at) glyph) × (r < 65536) ⌝ }
 {
-    if word_at(src, at) == 1 {
-        return array_class(src, at, glyph);
-    }
-    range_class(src, at + 4, word_at(src, at + 2), glyph)
+    let found = stretch_at(src, at, 0, glyph);
+    found.class
 }
 
-// The class of a glyph in the class array of the table at `at`.
-fn array_class(src: &[u8], at: usize, glyph: usize) -> usize
+// A glyph's class in the sound class table at `at`, and up to which glyph it stays the same for certain. Among ranges the search begins with the range `from`.
+fn stretch_at(src: &[u8], at: usize, from: usize, glyph: usize) -> Stretch
+    requires { ⌜ classesSound (now src) at ≡ true ⌝ }
+    ensures { λ r. ⌜ Around (classOf (classes (now (src .entry)) at)) glyph r ⌝ }
+{
+    if word_at(src, at) == 1 {
+        return array_stretch(src, at, glyph);
+    }
+    range_stretch(src, at + 4, word_at(src, at + 2), from, glyph)
+}
+
+// The same in the class array of the table at `at`: class 0 up to the array and after it, and in it a class for each glyph.
+fn array_stretch(src: &[u8], at: usize, glyph: usize) -> Stretch
     requires { ⌜ at + 6 + 2 * word (now src) (at + 4) < 0x1_0000_0000_0000_0000 ⌝ }
-    ensures { λ r. ⌜ (r ≡ classOf (arrayClasses (word (now (src .entry)) (at + 2)) (words (now (src .entry)) (at + 6) (word (now (src .entry)) (at + 4)))) glyph) × (r < 65536) ⌝ }
+    ensures { λ r. ⌜ Around (classOf (arrayClasses (word (now (src .entry)) (at + 2)) (words (now (src .entry)) (at + 6) (word (now (src .entry)) (at + 4))))) glyph r ⌝ }
 {
     let first = word_at(src, at + 2);
     if glyph < first {
-        return 0;
+        return Stretch {
+            first: glyph,
+            last: first - 1,
+            class: 0,
+            next: 0,
+        };
     }
     let i = glyph - first;
     if word_at(src, at + 4) <= i {
-        return 0;
+        return Stretch {
+            first: glyph,
+            last: 65535,
+            class: 0,
+            next: 0,
+        };
     }
-    word_at(src, at + 6 + 2 * i)
+    Stretch {
+        first: glyph,
+        last: glyph,
+        class: word_at(src, at + 6 + 2 * i),
+        next: 0,
+    }
 }
 
-// The class of a glyph in the `n` class ranges from `at` on, which ascend: by halving, the first range that ends at the glyph or later is found, and decides.
-fn range_class(src: &[u8], at: usize, n: usize, glyph: usize) -> usize
+// The same in the `n` class ranges from `at` on, which ascend: the first range that ends at the glyph or later decides.
+fn range_stretch(src: &[u8], at: usize, n: usize, from: usize, glyph: usize) -> Stretch
     requires { ⌜ (at + 6 * n < 0x1_0000_0000_0000_0000) × (rangesAscend 0 (triples (now src) at n) ≡ true) ⌝ }
-    ensures { λ r. ⌜ (r ≡ classOf (rangeClasses (triples (now (src .entry)) at n)) glyph) × (r < 65536) ⌝ }
+    ensures { λ r. ⌜ Around (classOf (rangeClasses (triples (now (src .entry)) at n))) glyph r ⌝ }
 {
-    let mut lo = 0;
+    let r = reach(src, at, n, from, glyph);
+    if n <= r {
+        return Stretch {
+            first: glyph,
+            last: 65535,
+            class: 0,
+            next: r,
+        };
+    }
+    let first = word_at(src, at + 6 * r);
+    if glyph < first {
+        return Stretch {
+            first: glyph,
+            last: first - 1,
+            class: 0,
+            next: r,
+        };
+    }
+    Stretch {
+        first: glyph,
+        last: word_at(src, at + 6 * r + 2),
+        class: word_at(src, at + 6 * r + 4),
+        next: r + 1,
+    }
+}
+
+// The first of the `n` class ranges from `at` on, which ascend, that ends at the glyph or later; `n` if none does.
+// The search begins with the range `from` if those before it end before the glyph, else with the first: it looks at four ranges one by one, then it halves.
+fn reach(src: &[u8], at: usize, n: usize, from: usize, glyph: usize) -> usize
+    requires { ⌜ at + 6 * n < 0x1_0000_0000_0000_0000 ⌝ }
+    ensures { λ r. ⌜ Reached (now (src .entry)) at n glyph r ⌝ }
+{
+    let mut lo = passed(src, at, n, from, glyph);
     let mut hi = n;
+    let near = lo + 4;
     while lo < hi {
-        let mid = lo + (hi - lo) / 2;
+        let mid = probe(lo, hi, near);
         if word_at(src, at + 6 * mid + 2) < glyph {
             lo = mid + 1;
         } else {
             hi = mid;
         }
     }
-    if n <= lo {
+    lo
+}
+
+// `from`, if there are so many among the `n` class ranges from `at` on and the last of so many ends before the glyph; else 0.
+fn passed(src: &[u8], at: usize, n: usize, from: usize, glyph: usize) -> usize
+    requires { ⌜ at + 6 * n < 0x1_0000_0000_0000_0000 ⌝ }
+    ensures { λ r. ⌜ (r ≤ n) × Passed (now (src .entry)) at glyph r ⌝ }
+{
+    if from == 0 {
         return 0;
     }
-    if glyph < word_at(src, at + 6 * lo) {
+    if n < from {
         return 0;
     }
-    word_at(src, at + 6 * lo + 4)
+    if word_at(src, at + 6 * (from - 1) + 2) < glyph {
+        return from;
+    }
+    0
+}
+
+// Which of the places from `lo` up to `hi` to look at next: the first one while it is before `near`, else the middle one.
+fn probe(lo: usize, hi: usize, near: usize) -> usize
+    requires { ⌜ lo < hi ⌝ }
+    ensures { λ r. ⌜ (lo ≤ r) × (r < hi) ⌝ }
+{
+    if lo < near {
+        return lo;
+    }
+    lo + (hi - lo) / 2
+}
+
+// A stretch with no glyph: where a walk over glyphs begins.
+fn no_stretch() -> Stretch
+    ensures { λ r. ⌜ (r .last < r .first) × (r .class < 65536) ⌝ }
+{
+    Stretch {
+        first: 1,
+        last: 0,
+        class: 0,
+        next: 0,
+    }
+}
+
+// Whether the glyph is one of the stretch.
+fn holds(stretch: Stretch, glyph: usize) -> bool
+    ensures { λ r. ⌜ r ≡ leb (stretch .first) glyph && leb glyph (stretch .last) ⌝ }
+{
+    if glyph < stretch.first {
+        return false;
+    }
+    glyph <= stretch.last
+}
+
+// The stretch of a glyph in the sound class table at `at`: `stretch` itself, that of another glyph, if it holds the glyph.
+fn stretch_on(src: &[u8], at: usize, stretch: Stretch, glyph: usize) -> Stretch
+    requires { ⌜ (classesSound (now src) at ≡ true) × Stretched (classOf (classes (now src) at)) stretch ⌝ }
+    ensures { λ r. ⌜ Around (classOf (classes (now (src .entry)) at)) glyph r ⌝ }
+{
+    if holds(stretch, glyph) {
+        return stretch;
+    }
+    let next = stretch.next;
+    stretch_at(src, at, next, glyph)
 }
 
 // The class map of a sound class table, in `scratch`: the classes that retained glyphs hold, each with its rank from 0, four bytes an entry.
@@ -183,14 +306,16 @@ fn mark(src: &[u8], at: usize, glyphs: &[u8], marks: &mut [u8]) -> bool
     requires { ⌜ (classesSound (now src) at ≡ true) × (marked 0 (now marks) ≡ []) ⌝ }
     ensures { λ r. ⌜ Marked (classes (now (src .entry)) at) (mapEntries (now (glyphs .entry))) (now (marks .entry)) r (now (marks .exit)) ⌝ }
 {
-    let mut i = glyphs.len() / 4;
-    while 0 < i {
-        i -= 1;
-        let class = class_of(src, at, word_at(glyphs, 4 * i));
+    let mut stretch = no_stretch();
+    let mut i = 0;
+    while i < glyphs.len() / 4 {
+        stretch = stretch_on(src, at, stretch, word_at(glyphs, 4 * i));
+        let class = stretch.class;
         if marks.len() <= class {
             return false;
         }
         put_byte(marks, class, 1);
+        i += 1;
     }
     true
 }
@@ -218,10 +343,12 @@ pub fn list_new(src: &[u8], at: usize, glyphs: &[u8], map: &[u8], scratch: &mut 
     requires { ⌜ Ranked (now src) at (now glyphs) (now map) ⌝ }
     ensures { λ r. ⌜ Filled (newClasses (mapEntries (now (glyphs .entry))) (classes (now (src .entry)) at)) (now (scratch .entry)) r (now (scratch .exit)) ⌝ }
 {
+    let mut stretch = no_stretch();
     let mut k = 0;
     let mut i = 0;
     while i < glyphs.len() / 4 {
-        let new = new_class(src, at, map, word_at(glyphs, 4 * i));
+        stretch = new_stretch(src, at, map, stretch, word_at(glyphs, 4 * i));
+        let new = stretch.class;
         if new != 0 {
             put_entry(scratch, 4 * k, word_at(glyphs, 4 * i + 2), new);
             k += 1;
@@ -231,15 +358,34 @@ pub fn list_new(src: &[u8], at: usize, glyphs: &[u8], map: &[u8], scratch: &mut 
     4 * k
 }
 
-// The new number of a glyph's class; 0 if the class has none.
-fn new_class(src: &[u8], at: usize, map: &[u8], glyph: usize) -> usize
-    requires { ⌜ (classesSound (now src) at ≡ true) × (ascends (keys (mapOf (now map))) ≡ true) ⌝ }
-    ensures { λ r. ⌜ (r ≡ Option·getD (find (mapOf (now (map .entry))) (classOf (classes (now (src .entry)) at) glyph)) 0) × (r < 65536) ⌝ }
+// The stretch of a glyph with the new number of its class, 0 if the class has none: `stretch` itself, that of another glyph, if it holds the glyph.
+fn new_stretch(src: &[u8], at: usize, map: &[u8], stretch: Stretch, glyph: usize) -> Stretch
+    requires { ⌜ (classesSound (now src) at ≡ true) × (ascends (keys (mapOf (now map))) ≡ true) × Stretched (newClassOf (mapOf (now map)) (classes (now src) at)) stretch ⌝ }
+    ensures { λ r. ⌜ Around (newClassOf (mapOf (now (map .entry))) (classes (now (src .entry)) at)) glyph r ⌝ }
 {
-    let Found::New(class) = find(map, class_of(src, at, glyph)) else {
+    if holds(stretch, glyph) {
+        return stretch;
+    }
+    let next = stretch.next;
+    let old = stretch_at(src, at, next, glyph);
+    let class = old.class;
+    Stretch {
+        first: old.first,
+        last: old.last,
+        class: new_class(map, class),
+        next: old.next,
+    }
+}
+
+// The new number of a class; 0 if it has none.
+fn new_class(map: &[u8], class: usize) -> usize
+    requires { ⌜ ascends (keys (mapOf (now map))) ≡ true ⌝ }
+    ensures { λ r. ⌜ (r ≡ Option·getD (find (mapOf (now (map .entry))) class) 0) × (r < 65536) ⌝ }
+{
+    let Found::New(new) = find(map, class) else {
         return 0;
     };
-    class
+    new
 }
 
 // How many bytes the smaller format takes for these entries of glyphs and classes.
