@@ -7,6 +7,7 @@ use classes::rank;
 use classes::size;
 use classes::write;
 use maps::Found;
+use maps::WITH_RUNS;
 use maps::all_below;
 use maps::by_number;
 use maps::find;
@@ -53,9 +54,6 @@ ghost use Rattle.by_class.specs.Whole.{contextWords, Lays, Writes, Mappe
 const FEW_CLASSES: usize = 1024;
 
 const PAYS_FOR_FEW: usize = 512;
-
-// The bytes of a map with runs.
-const WITH_RUNS: usize = 393218;
 
 // The place of the set of a class, by the `n` offsets from `slot` on, if a retained covered glyph holds the class and something of the set is left; else 0.
 fn slot_place(

@@ -284,6 +284,18 @@ pub fn rank(src: &[u8], at: usize, glyphs: &[u8], scratch: &mut [u8]) -> usize
     if mark(src, at, glyphs, &mut marks) {
         return number(&marks, scratch);
     }
+    rank_some(src, at, glyphs, scratch)
+}
+
+// The same, with places for marks of classes below 4,096.
+fn rank_some(src: &[u8], at: usize, glyphs: &[u8], scratch: &mut [u8]) -> usize
+    requires { ⌜ classesSound (now src) at ≡ true ⌝ }
+    ensures { λ r. ⌜ Filled (classMap (mapEntries (now (glyphs .entry))) (classes (now (src .entry)) at)) (now (scratch .entry)) r (now (scratch .exit)) ⌝ }
+{
+    let mut marks = [0u8; 4096];
+    if mark(src, at, glyphs, &mut marks) {
+        return number(&marks, scratch);
+    }
     rank_large(src, at, glyphs, glyphs.len() % 4, scratch)
 }
 

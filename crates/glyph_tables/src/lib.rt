@@ -4,6 +4,7 @@ use by_cover::by_cover;
 use by_index::ligatures;
 use by_index::pairs;
 use by_index::rules;
+use maps::WITH_RUNS;
 use maps::all_below;
 use maps::by_number;
 use room::Laid;
@@ -48,9 +49,6 @@ const PAYS_FOR_ALL: usize = 16384;
 
 // The fewest glyphs for which a map by number is shorter to ask than a listed one.
 const MANY_GLYPHS: usize = 8;
-
-// The bytes of a map with runs.
-const WITH_RUNS: usize = 393218;
 
 // What is left of a table, with lent scratch.
 fn cut_sort(

@@ -1,7 +1,7 @@
--- A map of numbers comes in three forms, told apart by what its length leaves when it is divided by 4.
--- Listed (0): entries of four bytes, an old number and its new one, the old ones ascending.
--- By number (1): four bytes for each old number from 0 on, a word that is 0 if the number is not mapped, and its new number; and one byte more.
--- With runs (2): the same for each of the 65,536 numbers, then a word for each place of a source, which says how many words from there on are mapped, and two bytes more.
+-- A map of numbers comes in three forms, told apart by its length.
+-- Listed: entries of four bytes, an old number and its new one, the old ones ascending. The length is a multiple of 4.
+-- By number: four bytes for each old number from 0 on, a word that is 0 if the number is not mapped, and its new number; and one byte more, so that the length divided by 4 leaves 1.
+-- With runs: the same for each of the 65,536 numbers, then a word for each place of a source, from 0 to 65,536, which says how many words from there on are mapped. The length is 393,218.
 use Prim.Native.Nat.{ℕ, zero, suc, _+_, _*_, _/_, _%_, _≤_, _<_}
 use mathlib.Core.Path.{_≡_, refl, sym, ap, ap₂, _∙_}
 use mathlib.Core.Bool.{Bool, true, false, cond}
@@ -30,34 +30,34 @@ present i (e ∷ es) = cond (eqb (e .0) 0) (present (i + 1) es) ((i, e .1) ∷ p
 unfoldable pub mapOf : List ℕ → List (ℕ × ℕ)
 mapOf m =
     cond (eqb (length m % 4) 1) (present 0 (mapEntries m))
-    (cond (eqb (length m % 4) 2) (present 0 (entries m 0 65536)) (mapEntries m))
+    (cond (eqb (length m) 393218) (present 0 (entries m 0 65536)) (mapEntries m))
 
 -- the entries of each form
 pub of-numbers : (m : List ℕ) → length m % 4 ≡ 1 → mapOf m ≡ present 0 (mapEntries m)
 unfolding mapOf
 of-numbers m e = rw (eq-eqb (length m % 4) 1 e) refl
 
-pub of-runs : (m : List ℕ) → length m % 4 ≡ 2 → mapOf m ≡ present 0 (entries m 0 65536)
+pub of-runs : (m : List ℕ) → length m ≡ 393218 → mapOf m ≡ present 0 (entries m 0 65536)
 unfolding mapOf
-of-runs m e = rw (ne-eqb (length m % 4) 1 (λ f. omega arith), eq-eqb (length m % 4) 2 e) refl
+of-runs m e = rw (ne-eqb (length m % 4) 1 (λ f. omega arith), eq-eqb (length m) 393218 e) refl
 
-pub of-listed-form : (m : List ℕ) → eqb (length m % 4) 1 ≡ false → eqb (length m % 4) 2 ≡ false → mapOf m ≡ mapEntries m
+pub of-listed-form : (m : List ℕ) → eqb (length m % 4) 1 ≡ false → eqb (length m) 393218 ≡ false → mapOf m ≡ mapEntries m
 unfolding mapOf
 of-listed-form m e f = rw (e, f) refl
 
 pub of-listed : (m : List ℕ) → length m % 4 ≡ 0 → mapOf m ≡ mapEntries m
-of-listed m z = of-listed-form m (ne-eqb (length m % 4) 1 (λ e. omega arith)) (ne-eqb (length m % 4) 2 (λ e. omega arith))
+of-listed m z = of-listed-form m (ne-eqb (length m % 4) 1 (λ e. omega arith)) (ne-eqb (length m) 393218 (λ e. omega arith))
 
 -- what halving asks of a map: it is listed, and its old numbers ascend
 pub record Listed (m : List ℕ) : Type 0 where
   pub not-numbers : eqb (length m % 4) 1 ≡ false
-  pub not-runs : eqb (length m % 4) 2 ≡ false
+  pub not-runs : eqb (length m) 393218 ≡ false
   pub ascend : ascends (keys (mapOf m)) ≡ true
 
 -- what looking a number up at its place asks of a map: it has four bytes for each of n numbers
 pub record Numbered (m : List ℕ) (n : ℕ) : Type 0 where
   pub places : mapOf m ≡ present 0 (entries m 0 n)
-  pub near : 4 * n < 0x1_0000_0000_0000_0000
+  pub near : 4 * n ≤ length m
 
 -- the length of a good map, which is listed
 pub glyphs-form : (m : List ℕ) → goodGlyphs m ≡ true → length m % 4 ≡ 0
@@ -322,12 +322,12 @@ unfolding mapEntries
 runs-numbers m e =
     let long : length (take 262145 m) ≡ 262145 = length-take-le 262145 m (omega arith) in
     let quarter : length (take 262145 m) / 4 ≡ 65536 = omega (arith, long) in
-    of-runs m (omega arith)
+    of-runs m e
     ∙ ap (present 0) (entries-same m (take 262145 m) 262145 0 65536 (omega arith) (λ q l. sym (getD-take 262145 m q 0 l)))
     ∙ sym (of-numbers (take 262145 m) (omega (arith, long)) ∙ rw quarter refl)
 
 -- what is written after the numbers leaves them as they are
-pub runs-written : (m : List ℕ) (p : ℕ) (vs : List ℕ) → length m % 4 ≡ 2 → 262144 ≤ p → mapOf (sets m p vs) ≡ mapOf m
+pub runs-written : (m : List ℕ) (p : ℕ) (vs : List ℕ) → length m ≡ 393218 → 262144 ≤ p → mapOf (sets m p vs) ≡ mapOf m
 runs-written m p vs e h =
     of-runs (sets m p vs) (omega (arith, length-sets m p vs))
     ∙ ap (present 0) (entries-same (sets m p vs) m p 0 65536 (omega arith) (λ q l. read-before vs m p q l))

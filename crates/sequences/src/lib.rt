@@ -1,6 +1,7 @@
 // Sequences of glyphs or of classes: whether each has a new number, and the new numbers written.
 // A map may carry runs of the source: then whether all of a sequence have new numbers takes one comparison.
 use maps::Found;
+use maps::WITH_RUNS;
 use maps::by_number;
 use maps::find;
 use wire::put;
@@ -36,7 +37,7 @@ pub fn mapped(src: &[u8], at: usize, n: usize, map: &[u8]) -> bool
     requires { ⌜ (at + 2 * n < 0x1_0000_0000_0000) × Serves (now src) (now map) ⌝ }
     ensures { λ r. ⌜ r ≡ isSome (mapAll (find (mapOf (now (map .entry)))) (words (now (src .entry)) at n)) ⌝ }
 {
-    if map.len() % 4 == 2 {
+    if map.len() == WITH_RUNS {
         if at + 2 * n <= src.len() {
             return n <= word_at(map, RUNS + 2 * at);
         }

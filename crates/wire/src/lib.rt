@@ -2,7 +2,7 @@
 ghost use mathlib.Core.Path.{_≡_};
 ghost use mathlib.Core.List.{[], _∷_};
 ghost use Prim.Native.Nat.{_+_, _*_, _<_};
-ghost use lib.ListN.{getD, set};
+ghost use lib.ListN.{length, getD, set};
 ghost use lib.Seq.{sets};
 ghost use Rattle.meaning.specs.Words.{word, bytes2, flat, inside, ascends};
 ghost use Rattle.meaning.specs.Fault.{lowest};
@@ -25,6 +25,14 @@ pub fn byte(s: &[u8], at: usize) -> usize
     0
 }
 
+// The word at `at`, which lies inside: it is read without a test.
+pub fn word_inside(s: &[u8], at: usize) -> usize
+    requires { ⌜ at + 1 < length (now s) ⌝ }
+    ensures { λ r. ⌜ (r ≡ word (now (s .entry)) at) × (r < 65536) ⌝ }
+{
+    s[at] as usize * 256 + s[at + 1] as usize
+}
+
 // The word at `at`; bytes past the end read as 0. Both bytes are read after one test, so that they are read at once.
 pub fn word_at(s: &[u8], at: usize) -> usize
     ensures { λ r. ⌜ (r ≡ word (now (s .entry)) at) × (r < 65536) ⌝ }
@@ -35,7 +43,7 @@ pub fn word_at(s: &[u8], at: usize) -> usize
     if s.len() - 1 <= at {
         return byte(s, at) * 256;
     }
-    s[at] as usize * 256 + s[at + 1] as usize
+    word_inside(s, at)
 }
 
 // Whether the `n` bytes from `at` on lie inside the source.

@@ -23,8 +23,8 @@ look-up-requires-2 c κs =
 halve-requires : tie.Need-halve-requires
 halve-requires c κs =
     let a = c .before .before .before in
-    let rest = length (a .args .m .now) % 4 in
-    record { not-numbers = ne-eqb rest 1 (c .before .if1 .left); not-runs = ne-eqb rest 2 (c .if2 .left); ascend = a .pre }
+    let size = length (a .args .m .now) in
+    record { not-numbers = ne-eqb (size % 4) 1 (c .before .if1 .left); not-runs = ne-eqb size 393218 (c .if2 .left); ascend = a .pre }
 
 pub find-spec : {M : Type 1} → statement M
 find-spec = tie.close (tie.spec look-up-requires (λ c. search needs) look-up-requires-2 (λ c. search needs) halve-requires (λ c. search needs))

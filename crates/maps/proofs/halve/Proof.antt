@@ -19,21 +19,21 @@ returns c =
     let w = c .before .before in
     let l = w .before .before in
     let mid = l .loop .lo + (l .loop .hi - l .loop .lo) / 2 in
-    halving-found mid (l .loop .inv) (omega arith) (w .word-at .ensures .0) (c .before .if1 .taken) (c .word-at2 .ensures)
+    halving-found mid (l .loop .inv) (omega arith) (w .word-inside .ensures .0) (c .before .if1 .taken) (c .word-inside2 .ensures)
 
 loop-again : tie.Need-loop-again Inv-loop μ-loop
 loop-again c =
     let w = c .before .before in
     let l = w .before .before in
     let mid = l .loop .lo + (l .loop .hi - l .loop .lo) / 2 in
-    halving-up mid (l .loop .inv) (omega arith) (w .word-at .ensures .0) (c .if2 .taken)
+    halving-up mid (l .loop .inv) (omega arith) (w .word-inside .ensures .0) (c .if2 .taken)
 
 loop-again-2 : tie.Need-loop-again-2 Inv-loop μ-loop
 loop-again-2 c =
     let w = c .before .before in
     let l = w .before .before in
     let mid = l .loop .lo + (l .loop .hi - l .loop .lo) / 2 in
-    halving-down mid (l .loop .inv) (omega arith) (w .word-at .ensures .0) (omega arith) (omega arith)
+    halving-down mid (l .loop .inv) (omega arith) (w .word-inside .ensures .0) (omega arith) (omega arith)
 
 returns-2 : tie.Need-returns-2 Inv-loop μ-loop
 returns-2 c = halving-gone (c .before .loop .inv) (c .loop-test .left)

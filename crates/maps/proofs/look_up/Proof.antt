@@ -14,13 +14,13 @@ returns-2 : tie.Need-returns-2
 returns-2 c =
     let i = c .before .before in
     let a = i .before .before in
-    gone-answers (a .args .m .now) (a .args .n) (a .pre) (a .args .old) (omega arith) (c .before .word-at .ensures .0) (c .if2 .taken)
+    gone-answers (a .args .m .now) (a .args .n) (a .pre) (a .args .old) (omega arith) (c .before .word-inside .ensures .0) (c .if2 .taken)
 
 returns-3 : tie.Need-returns-3
 returns-3 c =
     let w = c .before .before in
     let a = w .before .before .before in
-    new-answers (a .args .m .now) (a .args .n) (a .pre) (a .args .old) (omega arith) (w .word-at .ensures .0) (c .before .if2 .left) (c .word-at2 .ensures)
+    new-answers (a .args .m .now) (a .args .n) (a .pre) (a .args .old) (omega arith) (w .word-inside .ensures .0) (c .before .if2 .left) (c .word-inside2 .ensures)
 
 pub look-up-spec : {M : Type 1} → statement M
 look-up-spec =
