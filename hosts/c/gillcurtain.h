@@ -45,9 +45,9 @@ enum gillcurtain_answer {
   GILLCURTAIN_NO_ROOM = 10      /* `out` is too short; the length is what is needed */
 };
 
-/* The stack, in bytes, that a call may use at most: 1.75 MiB. hosts/c/limits.c
+/* The stack, in bytes, that a call may use at most: 2.75 MiB. hosts/c/limits.c
  * holds the call that goes deepest to it. */
-#define GILLCURTAIN_STACK (7u << 18)
+#define GILLCURTAIN_STACK (11u << 18)
 
 /* Cuts `source`, a subtable of this kind. `glyphs` and `lookups` are maps:
  * entries of four bytes, the old number and the new one, both big-endian, with

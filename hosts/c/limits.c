@@ -1,9 +1,9 @@
 /* Holds the call to what gillcurtain.h says of pointers and of the stack.
  *
  * Each part in turn is empty and its pointer null. Then the call that goes
- * deepest, a chained context by class under a long glyph map, runs on a stack
- * of GILLCURTAIN_STACK bytes above pages that nobody may touch, which was
- * filled before, and what it used of it is printed. */
+ * deepest, a chained context by class whose classes share their rules, under
+ * long maps, runs on a stack of GILLCURTAIN_STACK bytes above pages that nobody
+ * may touch, which was filled before, and what it used of it is printed. */
 #define _GNU_SOURCE
 #include <pthread.h>
 #include <stdio.h>
@@ -26,6 +26,11 @@ static const uint8_t source[] = {
   0, 1, 0, 1, 0, 1, 0, 1                                  /* the classes: glyph 1 is of class 1 */
 };
 static const uint8_t lookup[] = { 0, 0, 0, 0 };
+
+/* The same with a slot for each of 300 classes, all of which have the one set, and four lookups. */
+enum { SLOTS = 300, BEFORE_SLOTS = 12, SHIFT = 2 * (SLOTS - 2) };
+static uint8_t shared[1024];
+static const uint8_t lookups[] = { 0, 0, 0, 0, 0, 1, 0, 1, 0, 2, 0, 2, 0, 3, 0, 3 };
 static uint8_t glyphs[4 * GLYPHS];
 
 static int faults;
@@ -35,6 +40,20 @@ static void expect (const char *what, uint64_t result, unsigned number, size_t l
   if (gillcurtain_number (result) == number && gillcurtain_length (result) == length) return;
   printf ("%s: answer %u, length %zu\n", what, gillcurtain_number (result), gillcurtain_length (result));
   faults++;
+}
+
+static void word (uint8_t *at, unsigned w) { at[0] = w >> 8; at[1] = w & 255; }
+
+static void share (void)
+{
+  const size_t set = BEFORE_SLOTS + 2 * SLOTS;
+  memcpy (shared, source, BEFORE_SLOTS);
+  memcpy (shared + set, source + BEFORE_SLOTS + 4, sizeof source - BEFORE_SLOTS - 4);
+  for (unsigned at = 2; at <= 8; at += 2)
+    word (shared + at, source[at + 1] + SHIFT);
+  word (shared + BEFORE_SLOTS - 2, SLOTS);
+  for (unsigned i = 0; i < SLOTS; i++)
+    word (shared + BEFORE_SLOTS + 2 * i, set);
 }
 
 static void empty_parts (void)
@@ -60,7 +79,7 @@ static void *deepest (void *used)
   size_t below = (size_t) (here - stack - GILLCURTAIN_STACK) / PAGE * PAGE;
   uint8_t *low = stack + below;
   if (mprotect (stack, below, PROT_NONE)) { perror ("mprotect"); faults++; return NULL; }
-  expect ("deepest", gillcurtain_subset (GILLCURTAIN_CHAINED, source, sizeof source, glyphs, sizeof glyphs, lookup, 4, out, KEPT),
+  expect ("deepest", gillcurtain_subset (GILLCURTAIN_CHAINED, shared, sizeof shared, glyphs, sizeof glyphs, lookups, sizeof lookups, out, KEPT),
           GILLCURTAIN_KEPT, KEPT);
   while (*low == FILL) low++;
   *(size_t *) used = (size_t) (here - low);
@@ -75,6 +94,7 @@ int main (void)
   for (unsigned i = 0; i < GLYPHS; i++)
     glyphs[4 * i] = glyphs[4 * i + 2] = i >> 8, glyphs[4 * i + 1] = glyphs[4 * i + 3] = i & 255;
   empty_parts ();
+  share ();
   stack = mmap (NULL, size, PROT_READ | PROT_WRITE, MAP_PRIVATE | MAP_ANONYMOUS, -1, 0);
   if (stack == MAP_FAILED) { perror ("mmap"); return 1; }
   memset (stack, FILL, size);

@@ -11,9 +11,10 @@ pub const CHAINED: u64 = 2;
 pub const LIGATURE: u64 = 3;
 pub const PAIR: u64 = 4;
 
-/// The stack, in bytes, that a call may use at most. A thread that Rust starts has more, unless it
-/// was asked for less. With too little, the call ends the process at the stack's guard page.
-pub const STACK: usize = 7 << 18;
+/// The stack, in bytes, that a call may use at most. The main thread has more on most systems; a
+/// thread that Rust starts has 2 MiB, so ask for more with `std::thread::Builder::stack_size` where
+/// fonts come from anywhere. With too little, the call ends the process at the stack's guard page.
+pub const STACK: usize = 11 << 18;
 
 /// What comes back. Where several refusals apply, the first of them is given.
 #[derive(Clone, Copy, Debug, PartialEq, Eq)]
