@@ -39,8 +39,10 @@ const SMALL_MAP: usize = 2048;
 
 const LONGEST_MAP: usize = 262144;
 
-// Old numbers that a small map by number has places for.
-pub const FEW_NUMBERS: usize = 4096;
+// Old numbers that small maps by number have places for, of two sizes.
+const FEW_NUMBERS: usize = 1024;
+
+pub const SOME_NUMBERS: usize = 4096;
 
 // The shortest sources that pay for a small map by number, and for one of all numbers.
 const PAYS_FOR_FEW: usize = 128;
@@ -124,10 +126,20 @@ fn cut_sized(
 
 // What is left of a table whose glyph map has few numbers, laid out by number.
 fn cut_few(sort: Sort, source: &[u8], glyphs: &[u8], lookups: &[u8], out: &mut [u8]) -> Laid
-    requires { ⌜ Cuts sort (now source) (now glyphs) (now lookups) × (allBelow 4096 (keys (mapEntries (now glyphs))) ≡ true) ⌝ }
+    requires { ⌜ Cuts sort (now source) (now glyphs) (now lookups) × (allBelow 1024 (keys (mapEntries (now glyphs))) ≡ true) ⌝ }
     ensures { λ r. ⌜ outcomeOf r (now (out .exit)) ≡ written (now (out .entry)) (cut (mapEntries (now (glyphs .entry))) (mapOf (now (lookups .entry))) (sortTable sort (now (source .entry)))) ⌝ }
 {
     let mut table = [0u8; 4 * FEW_NUMBERS + 1];
+    by_number(glyphs, &mut table);
+    cut_sized(sort, source, &table, lookups, glyphs.len(), out)
+}
+
+// The same of one that has some more.
+fn cut_some(sort: Sort, source: &[u8], glyphs: &[u8], lookups: &[u8], out: &mut [u8]) -> Laid
+    requires { ⌜ Cuts sort (now source) (now glyphs) (now lookups) × (allBelow 4096 (keys (mapEntries (now glyphs))) ≡ true) ⌝ }
+    ensures { λ r. ⌜ outcomeOf r (now (out .exit)) ≡ written (now (out .entry)) (cut (mapEntries (now (glyphs .entry))) (mapOf (now (lookups .entry))) (sortTable sort (now (source .entry)))) ⌝ }
+{
+    let mut table = [0u8; 4 * SOME_NUMBERS + 1];
     by_number(glyphs, &mut table);
     cut_sized(sort, source, &table, lookups, glyphs.len(), out)
 }
@@ -185,6 +197,9 @@ fn cut_plain(sort: Sort, source: &[u8], glyphs: &[u8], lookups: &[u8], out: &mut
     }
     if all_below(glyphs, FEW_NUMBERS) {
         return cut_few(sort, source, glyphs, lookups, out);
+    }
+    if all_below(glyphs, SOME_NUMBERS) {
+        return cut_some(sort, source, glyphs, lookups, out);
     }
     if source.len() < PAYS_FOR_ALL {
         return cut_sized(sort, source, glyphs, lookups, glyphs.len(), out);

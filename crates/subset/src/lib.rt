@@ -1,7 +1,7 @@
 // The call: a kind, a source, a glyph map, a lookup map and a lent buffer, and the lowest of document 01's answers that applies.
 use by_class::by_class;
 use checks::check;
-use glyph_tables::FEW_NUMBERS;
+use glyph_tables::SOME_NUMBERS;
 use glyph_tables::Sort;
 use glyph_tables::cut_glyphs;
 use maps::all_below;
@@ -252,7 +252,7 @@ fn pays_for_lookups(source: &[u8], lookups: &[u8]) -> bool
     if lookups.len() < 4 * MANY_LOOKUPS {
         return false;
     }
-    all_below(lookups, FEW_NUMBERS)
+    all_below(lookups, SOME_NUMBERS)
 }
 
 // What is left of a sound source under a listed lookup map of few numbers, which is laid out by number: then each question to it is one reading.
@@ -260,7 +260,7 @@ fn cut_numbered(kind: usize, source: &[u8], glyphs: &[u8], lookups: &[u8], out: 
     requires { ⌜ CutsListed (fault kind (now source)) (now source) (now glyphs) (now lookups) × (allBelow 4096 (keys (mapEntries (now lookups))) ≡ true) ⌝ }
     ensures { λ r. ⌜ outcomeOf r (now (out .exit)) ≡ written (now (out .entry)) (cut (mapEntries (now (glyphs .entry))) (mapEntries (now (lookups .entry))) (table kind (now (source .entry)))) ⌝ }
 {
-    let mut table = [0u8; 4 * FEW_NUMBERS + 1];
+    let mut table = [0u8; 4 * SOME_NUMBERS + 1];
     by_number(lookups, &mut table);
     cut_kind(kind, source, glyphs, &table, out)
 }

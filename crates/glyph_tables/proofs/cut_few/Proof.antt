@@ -12,13 +12,13 @@ use Rattle.glyph_tables.proofs.cut_few.Tie as tie
 by-number-requires : tie.Need-by-number-requires
 by-number-requires c κs =
     let a = c .before .before .before .before .before in
-    few-clear (a .args .glyphs .now) 16385 refl (glyphs-ascend (a .args .glyphs .now) (a .pre .0 .good-glyphs)) (a .pre .1)
+    few-clear (a .args .glyphs .now) 4097 refl (glyphs-ascend (a .args .glyphs .now) (a .pre .0 .good-glyphs)) (a .pre .1)
 
 cut-sized-requires : tie.Need-cut-sized-requires
 cut-sized-requires c κs =
     let g = c .before .before .before .before .before .before .before in
     let a = g .before .before in
-    table-ready (a .pre .0) (λ i. omega (arith, g .shared-slice-known2 .given i)) 16385 refl (c .before .before .before .by-number .ensures)
+    table-ready (a .pre .0) (λ i. omega (arith, g .shared-slice-known2 .given i)) 4097 refl (c .before .before .before .by-number .ensures)
 
 returns : tie.Need-returns
 returns c =

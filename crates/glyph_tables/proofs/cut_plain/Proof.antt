@@ -20,7 +20,7 @@ cut-sized-requires-2 c κs =
 
 cut-sized-requires-3 : tie.Need-cut-sized-requires-3
 cut-sized-requires-3 c κs =
-    let g = c .before .before .before .before .before .before .before .before in
+    let g = c .before .before .before .before .before .before .before .before .before .before in
     listed-ready (g .before .before .pre) (λ i. omega (arith, g .shared-slice-known2 .given i))
 
 returns : tie.Need-returns
@@ -33,9 +33,9 @@ returns-2 c =
     let a = c .before .before .before .before .before .before .before .before .before .before in
     rw (of-glyphs (a .args .glyphs .now) (a .pre .good-glyphs)) at (c .before .before .cut-sized2 .ensures)
 
-returns-4 : tie.Need-returns-4
-returns-4 c =
-    let a = c .before .before .before .before .before .before .before .before .before .before .before .before .before in
+returns-5 : tie.Need-returns-5
+returns-5 c =
+    let a = c .before .before .before .before .before .before .before .before .before .before .before .before .before .before .before in
     rw (of-glyphs (a .args .glyphs .now) (a .pre .good-glyphs)) at (c .before .before .cut-sized3 .ensures)
 
 all-below-requires : tie.Need-all-below-requires
@@ -45,6 +45,14 @@ all-below-requires c κs =
 
 cut-few-requires : tie.Need-cut-few-requires
 cut-few-requires c κs = (c .before .before .before .before .before .before .before .before .before .pre, sym (c .before .before .all-below .ensures) ∙ c .before .if3 .taken)
+
+all-below-requires-2 : tie.Need-all-below-requires-2
+all-below-requires-2 c κs =
+    let a = c .before .before .before .before .before .before .before .before in
+    glyphs-rise (a .args .glyphs .now) (a .pre .good-glyphs)
+
+cut-some-requires : tie.Need-cut-some-requires
+cut-some-requires c κs = (c .before .before .before .before .before .before .before .before .before .before .before .pre, sym (c .before .before .all-below2 .ensures) ∙ c .before .if4 .taken)
 
 pub cut-plain-spec : {M : Type 1} → statement M
 cut-plain-spec =
@@ -61,9 +69,13 @@ cut-plain-spec =
     cut-few-requires
     (λ c. search needs)
     (λ c. search needs)
+    all-below-requires-2
+    cut-some-requires
+    (λ c. search needs)
+    (λ c. search needs)
     cut-sized-requires-3
     (λ c. search needs)
-    returns-4
+    returns-5
     (λ c κs. search needs)
     (λ c. search needs)
     (λ c. search needs))
