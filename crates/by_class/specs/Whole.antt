@@ -77,8 +77,8 @@ pub record Begun (chained : Bool) (s glyphs lookups i c : List ℕ) (u v p w : �
   pub work : length glyphs ≤ w
   pub short : w ≤ 0x1_0000_0000
 
--- each class of the three maps is below 1,024
-pub record FewClasses (b i a : List ℕ) : Type 0 where
-  pub back : allBelow 1024 (keys (mapEntries b)) ≡ true
-  pub input : allBelow 1024 (keys (mapEntries i)) ≡ true
-  pub ahead : allBelow 1024 (keys (mapEntries a)) ≡ true
+-- each class of the three maps is below n
+pub record FewClasses (n : ℕ) (b i a : List ℕ) : Type 0 where
+  pub back : allBelow n (keys (mapEntries b)) ≡ true
+  pub input : allBelow n (keys (mapEntries i)) ≡ true
+  pub ahead : allBelow n (keys (mapEntries a)) ≡ true

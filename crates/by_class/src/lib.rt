@@ -50,7 +50,9 @@ ghost use Rattle.by_class.specs.Context.{backAt, inputAt, aheadAt, count
 ghost use Rattle.by_class.specs.Tail.{classTables, tailOf, Remaking, Ready, Sized, Apart};
 ghost use Rattle.by_class.specs.Whole.{contextWords, Lays, Writes, Mapped, Ranked, Begun, FewClasses};
 
-// Classes that a small class map by number has places for, and the shortest source that pays for one.
+// Classes that small class maps by number have places for, of two sizes, and the shortest source that pays for one.
+const LOW_CLASSES: usize = 256;
+
 const FEW_CLASSES: usize = 1024;
 
 const PAYS_FOR_FEW: usize = 512;
@@ -421,12 +423,51 @@ fn with_few(
     work: &mut [u8],
     out: &mut [u8],
 ) -> Laid
-    requires { ⌜ Ranked chained (now src) (now glyphs) (now lookups) (now back) (now input) (now ahead) (now covered) (length (now slots)) (length (now work)) × FewClasses (now back) (now input) (now ahead) ⌝ }
+    requires { ⌜ Ranked chained (now src) (now glyphs) (now lookups) (now back) (now input) (now ahead) (now covered) (length (now slots)) (length (now work)) × FewClasses 1024 (now back) (now input) (now ahead) ⌝ }
     ensures { λ r. ⌜ outcomeOf r (now (out .exit)) ≡ written (now (out .entry)) (cut (mapEntries (now (glyphs .entry))) (mapOf (now (lookups .entry))) (classContext chained (now (src .entry)))) ⌝ }
 {
     let mut b = [0u8; 4 * FEW_CLASSES + 1];
     let mut i = [0u8; 4 * FEW_CLASSES + 1];
     let mut a = [0u8; 4 * FEW_CLASSES + 1];
+    by_number(back, &mut b);
+    by_number(input, &mut i);
+    by_number(ahead, &mut a);
+    with_maps(
+        chained,
+        src,
+        glyphs,
+        lookups,
+        &b,
+        &i,
+        &a,
+        input,
+        covered,
+        slots,
+        work,
+        out,
+    )
+}
+
+// The same where all classes are low.
+fn with_low(
+    chained: bool,
+    src: &[u8],
+    glyphs: &[u8],
+    lookups: &[u8],
+    back: &[u8],
+    input: &[u8],
+    ahead: &[u8],
+    covered: &[u8],
+    slots: &mut [u8],
+    work: &mut [u8],
+    out: &mut [u8],
+) -> Laid
+    requires { ⌜ Ranked chained (now src) (now glyphs) (now lookups) (now back) (now input) (now ahead) (now covered) (length (now slots)) (length (now work)) × FewClasses 256 (now back) (now input) (now ahead) ⌝ }
+    ensures { λ r. ⌜ outcomeOf r (now (out .exit)) ≡ written (now (out .entry)) (cut (mapEntries (now (glyphs .entry))) (mapOf (now (lookups .entry))) (classContext chained (now (src .entry)))) ⌝ }
+{
+    let mut b = [0u8; 4 * LOW_CLASSES + 1];
+    let mut i = [0u8; 4 * LOW_CLASSES + 1];
+    let mut a = [0u8; 4 * LOW_CLASSES + 1];
     by_number(back, &mut b);
     by_number(input, &mut i);
     by_number(ahead, &mut a);
@@ -503,24 +544,100 @@ fn with_runs(
     )
 }
 
-// Whether the three class maps are to be laid out by number: the source is long enough to pay for it, and all classes are few.
-fn pays(src: &[u8], back: &[u8], input: &[u8], ahead: &[u8]) -> bool
+// Whether each class of the three class maps is below `n`.
+fn all_low(back: &[u8], input: &[u8], ahead: &[u8], n: usize) -> bool
     requires { ⌜ Rises (now back) × Rises (now input) × Rises (now ahead) ⌝ }
-    ensures { λ r. ⌜ (r ≡ true → FewClasses (now (back .entry)) (now (input .entry)) (now (ahead .entry))) ⌝ }
+    ensures { λ r. ⌜ (r ≡ true → FewClasses n (now (back .entry)) (now (input .entry)) (now (ahead .entry))) ⌝ }
 {
-    if src.len() < PAYS_FOR_FEW {
+    if !all_below(back, n) {
         return false;
     }
-    if !all_below(back, FEW_CLASSES) {
+    if !all_below(input, n) {
         return false;
     }
-    if !all_below(input, FEW_CLASSES) {
-        return false;
-    }
-    all_below(ahead, FEW_CLASSES)
+    all_below(ahead, n)
 }
 
-// What is left of a context whose class maps are listed: they are laid out with runs where the sets share rules, by number where that pays, and else asked as they are.
+// What is left of a context whose class maps are listed, and whose sets share few rules: the maps are laid out by number where the source pays for it, and else asked as they are.
+fn with_numbers(
+    chained: bool,
+    src: &[u8],
+    glyphs: &[u8],
+    lookups: &[u8],
+    back: &[u8],
+    input: &[u8],
+    ahead: &[u8],
+    covered: &[u8],
+    slots: &mut [u8],
+    work: &mut [u8],
+    out: &mut [u8],
+) -> Laid
+    requires { ⌜ Ranked chained (now src) (now glyphs) (now lookups) (now back) (now input) (now ahead) (now covered) (length (now slots)) (length (now work)) ⌝ }
+    ensures { λ r. ⌜ outcomeOf r (now (out .exit)) ≡ written (now (out .entry)) (cut (mapEntries (now (glyphs .entry))) (mapOf (now (lookups .entry))) (classContext chained (now (src .entry)))) ⌝ }
+{
+    if src.len() < PAYS_FOR_FEW {
+        return with_maps(
+            chained,
+            src,
+            glyphs,
+            lookups,
+            back,
+            input,
+            ahead,
+            input,
+            covered,
+            slots,
+            work,
+            out,
+        );
+    }
+    if all_low(back, input, ahead, LOW_CLASSES) {
+        return with_low(
+            chained,
+            src,
+            glyphs,
+            lookups,
+            back,
+            input,
+            ahead,
+            covered,
+            slots,
+            work,
+            out,
+        );
+    }
+    if all_low(back, input, ahead, FEW_CLASSES) {
+        return with_few(
+            chained,
+            src,
+            glyphs,
+            lookups,
+            back,
+            input,
+            ahead,
+            covered,
+            slots,
+            work,
+            out,
+        );
+    }
+    with_maps(
+        chained,
+        src,
+        glyphs,
+        lookups,
+        back,
+        input,
+        ahead,
+        input,
+        covered,
+        slots,
+        work,
+        out,
+    )
+}
+
+// What is left of a context whose class maps are listed: they are laid out with runs where the sets share rules.
 fn with_ranks(
     chained: bool,
     src: &[u8],
@@ -554,22 +671,7 @@ fn with_ranks(
             out,
         );
     }
-    if pays(src, back, input, ahead) {
-        return with_few(
-            chained,
-            src,
-            glyphs,
-            lookups,
-            back,
-            input,
-            ahead,
-            covered,
-            slots,
-            work,
-            out,
-        );
-    }
-    with_maps(
+    with_numbers(
         chained,
         src,
         glyphs,
@@ -577,7 +679,6 @@ fn with_ranks(
         back,
         input,
         ahead,
-        input,
         covered,
         slots,
         work,

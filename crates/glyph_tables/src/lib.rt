@@ -1,5 +1,5 @@
 // Tables whose numbers are glyphs, formats 1 and 3 of each kind, with scratch of their own.
-// Scratch comes in two sizes, so that no large array is cleared for a small glyph map. Where the source is long enough to pay for it, the glyph map is laid out by number first: then each question to it is one reading.
+// Scratch comes in three sizes, so that no large array is cleared for a small glyph map. Where the source is long enough to pay for it, the glyph map is laid out by number first: then each question to it is one reading.
 use by_cover::by_cover;
 use by_index::ligatures;
 use by_index::pairs;
@@ -34,7 +34,9 @@ pub enum Sort {
     ChainedCovers,
 }
 
-// Bytes for the glyph map of a small job, and for any.
+// Bytes for the glyph map of a tiny job, of a small one, and for any.
+const TINY_MAP: usize = 256;
+
 const SMALL_MAP: usize = 2048;
 
 const LONGEST_MAP: usize = 262144;
@@ -73,6 +75,16 @@ fn cut_sort(
         Sort::Covers => by_cover(false, source, glyphs, lookups, to, out),
         Sort::ChainedCovers => by_cover(true, source, glyphs, lookups, to, out),
     }
+}
+
+// The same with scratch for a tiny glyph map.
+fn cut_tiny(sort: Sort, source: &[u8], glyphs: &[u8], lookups: &[u8], out: &mut [u8]) -> Laid
+    requires { ⌜ Asked sort (now source) (now glyphs) (now lookups) × (4 * length (mapOf (now glyphs)) ≤ 256) ⌝ }
+    ensures { λ r. ⌜ outcomeOf r (now (out .exit)) ≡ written (now (out .entry)) (cut (mapOf (now (glyphs .entry))) (mapOf (now (lookups .entry))) (sortTable sort (now (source .entry)))) ⌝ }
+{
+    let mut to = [0u8; TINY_MAP];
+    let mut places = [0u8; TINY_MAP / 2];
+    cut_sort(sort, source, glyphs, lookups, &mut to, &mut places, out)
 }
 
 // The same with scratch for a small glyph map.
@@ -118,6 +130,9 @@ fn cut_sized(
     requires { ⌜ Ready sort (now source) (now glyphs) (now lookups) size ⌝ }
     ensures { λ r. ⌜ outcomeOf r (now (out .exit)) ≡ written (now (out .entry)) (cut (mapOf (now (glyphs .entry))) (mapOf (now (lookups .entry))) (sortTable sort (now (source .entry)))) ⌝ }
 {
+    if size <= TINY_MAP {
+        return cut_tiny(sort, source, glyphs, lookups, out);
+    }
     if size <= SMALL_MAP {
         return cut_small(sort, source, glyphs, lookups, out);
     }

@@ -49,7 +49,9 @@ pub enum Answer {
     BadJob,
 }
 
-// Scratch for class maps comes in two sizes, so that no large array is cleared for a small glyph map. The large size is that of the longest map.
+// Scratch for class maps comes in three sizes, so that no large array is cleared for a small glyph map. The largest is that of the longest map.
+const TINY: usize = 256;
+
 const SMALL: usize = 2048;
 
 const LONGEST_MAP: usize = 262144;
@@ -111,6 +113,38 @@ fn pair_device(kind: usize, source: &[u8]) -> bool
         return true;
     }
     has_device(word_at(source, 6))
+}
+
+// Format 2 of contexts, with scratch for a tiny glyph map.
+fn by_class_tiny(
+    chained: bool,
+    source: &[u8],
+    glyphs: &[u8],
+    lookups: &[u8],
+    out: &mut [u8],
+) -> Laid
+    requires { ⌜ CutsByClass chained (now source) (now glyphs) (now lookups) × (length (now glyphs) ≤ 256) ⌝ }
+    ensures { λ r. ⌜ outcomeOf r (now (out .exit)) ≡ written (now (out .entry)) (cut (mapEntries (now (glyphs .entry))) (mapOf (now (lookups .entry))) (classContext chained (now (source .entry)))) ⌝ }
+{
+    let mut back = [0u8; TINY];
+    let mut input = [0u8; TINY];
+    let mut ahead = [0u8; TINY];
+    let mut covered = [0u8; TINY];
+    let mut slots = [0u8; TINY / 2];
+    let mut work = [0u8; TINY];
+    by_class(
+        chained,
+        source,
+        glyphs,
+        lookups,
+        &mut back,
+        &mut input,
+        &mut ahead,
+        &mut covered,
+        &mut slots,
+        &mut work,
+        out,
+    )
 }
 
 // Format 2 of contexts, with scratch for a small glyph map.
@@ -187,6 +221,9 @@ fn cut_by_class(chained: bool, source: &[u8], glyphs: &[u8], lookups: &[u8], out
     requires { ⌜ CutsByClass chained (now source) (now glyphs) (now lookups) ⌝ }
     ensures { λ r. ⌜ outcomeOf r (now (out .exit)) ≡ written (now (out .entry)) (cut (mapEntries (now (glyphs .entry))) (mapOf (now (lookups .entry))) (classContext chained (now (source .entry)))) ⌝ }
 {
+    if glyphs.len() <= TINY {
+        return by_class_tiny(chained, source, glyphs, lookups, out);
+    }
     if glyphs.len() <= SMALL {
         return by_class_small(chained, source, glyphs, lookups, out);
     }

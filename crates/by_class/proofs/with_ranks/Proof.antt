@@ -12,11 +12,6 @@ with-runs-requires c κs =
     let s = k .before .before .before .before .before .before .before .before .before .before .before .before .before in
     (s .pre, crowds-small (s .args .src .now) (k .before .before .count-slot .result + 2) (k .before .word-at .result) (sym (k .crowded .ensures) ∙ c .before .before .before .if1 .taken))
 
-with-few-requires : tie.Need-with-few-requires
-with-few-requires c κs =
-    let p = c .before .before .before .before in
-    (p .before .before .before .before .before .before .before .before .before .before .before .before .before .before .before .pre, p .pays .ensures (c .before .before .before .if2 .taken))
-
 pub with-ranks-spec : {M : Type 1} → statement M
 with-ranks-spec =
     tie.close
@@ -26,12 +21,6 @@ with-ranks-spec =
     (λ c κs. search needs)
     (λ c κs. search needs)
     with-runs-requires
-    (λ c. search needs)
-    (λ c. search needs)
-    (λ c. search needs)
-    (λ c. search needs)
-    (λ c κs. search needs)
-    with-few-requires
     (λ c. search needs)
     (λ c. search needs)
     (λ c. search needs)
