@@ -222,7 +222,7 @@ fn cut_plain(sort: Sort, source: &[u8], glyphs: &[u8], lookups: &[u8], out: &mut
     cut_all(sort, source, glyphs, lookups, glyphs.len() % 4, out)
 }
 
-// Whether the sets of a table, by its sort, share members; pairs are not shared by sets, and contexts by coverages have no sets.
+// Whether the sets of a table share members, by its sort. Pairs and coverages have no sequences, so that runs would not help them.
 fn shares(sort: Sort, source: &[u8]) -> bool
     ensures { λ r. ⌜ (r ≡ true → length (now (source .entry)) ≤ 65536) ⌝ }
 {

@@ -1,4 +1,4 @@
--- How many members the sets of a table have together. Sets that share no rules take eight bytes or more for each.
+-- How many members the sets of a table have together. A member that is not shared and has a number after the first, or a record, takes eight bytes or more with its offset.
 use Prim.Native.Nat.{ℕ, _+_, _-_, _*_, _≤_, _<_}
 use mathlib.Core.Path.{_≡_, refl, sym, ap, _∙_}
 use mathlib.Core.Bool.{Bool, true, false, _&&_}
@@ -16,7 +16,7 @@ unfoldable pub membersAt : List ℕ → List ℕ → ℕ
 membersAt s [] = 0
 membersAt s (p ∷ ps) = word s p + membersAt s ps
 
--- the members of the n sets whose offsets stand from `slot` on are more than a source of 1,024 to 65,536 bytes has room for
+-- the n sets whose offsets stand from `slot` on have more than one member for each eight bytes of a source of 1,024 to 65,536 bytes
 abbrev pub crowds : List ℕ → ℕ → ℕ → Bool
 crowds s slot n = leb 1024 (length s) && (leb (length s) 65536 && ltb (length s) (8 * membersAt s (words s slot n)))
 

@@ -48,7 +48,7 @@ fn members(src: &[u8], slot: usize, n: usize) -> usize
     total
 }
 
-// Whether these sets have more members than a source of 1,024 to 65,536 bytes has room for, so that they share some. Then it pays to lay maps out with the runs of the source.
+// Whether these sets have more than one member for each eight bytes of a source of 1,024 to 65,536 bytes, so that they share members or have such as say next to nothing. Then it pays to lay maps out with the runs of the source.
 pub fn crowded(src: &[u8], slot: usize, n: usize) -> bool
     requires { ⌜ (slot < 65536) × (n < 65536) ⌝ }
     ensures { λ r. ⌜ r ≡ crowds (now (src .entry)) slot n ⌝ }
