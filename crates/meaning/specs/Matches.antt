@@ -22,6 +22,14 @@ covers = 3 ∷ 1 ∷ 22 ∷ 2 ∷ 28 ∷ 34 ∷ 1 ∷ 40 ∷ 1 ∷ 0 ∷ 3 ∷ 1
 abbrev names-null : List ℕ
 names-null = 0x0002 ∷ 0x001C ∷ 0x0000 ∷ 0x0022 ∷ 0x0000 ∷ 0x0001 ∷ 0x000E ∷ 0x0001 ∷ 0x0004 ∷ 0x0001 ∷ 0x0000 ∷ 0x0001 ∷ 0x0000 ∷ 0x0000 ∷ 0x0001 ∷ 0x0001 ∷ 0x0005 ∷ 0x0002 ∷ 0x0000 ∷ []
 
+-- chained, by glyph: for glyph 5 a rule with backtrack 2 and then 1, away from the place, and the record (0, 4)
+abbrev two-before : List ℕ
+two-before = 1 ∷ 28 ∷ 1 ∷ 8 ∷ 1 ∷ 4 ∷ 2 ∷ 2 ∷ 1 ∷ 1 ∷ 0 ∷ 1 ∷ 0 ∷ 4 ∷ 1 ∷ 1 ∷ 5 ∷ []
+
+-- plain, by class: glyph 5 is covered; 5 and 6 hold class 1, 7 holds class 2; after class 1 a rule asks for class 2, with the record (1, 3)
+abbrev rules-by-classes : List ℕ
+rules-by-classes = 2 ∷ 26 ∷ 32 ∷ 2 ∷ 0 ∷ 12 ∷ 1 ∷ 4 ∷ 2 ∷ 1 ∷ 2 ∷ 1 ∷ 3 ∷ 1 ∷ 1 ∷ 5 ∷ 1 ∷ 5 ∷ 3 ∷ 1 ∷ 1 ∷ 2 ∷ []
+
 -- plain, by glyph: a rule of glyph count 0 for glyph 5
 abbrev count-none : List ℕ
 count-none = 1 ∷ 16 ∷ 1 ∷ 8 ∷ 1 ∷ 4 ∷ 0 ∷ 0 ∷ 1 ∷ 1 ∷ 5 ∷ []
@@ -52,6 +60,15 @@ asked =
     ∷ record { kind = 2; source = names-null; string = 4 ∷ 5 ∷ []; place = 1; answers = none }
     -- a count of 0 matches nowhere
     ∷ record { kind = 1; source = count-none; string = 5 ∷ []; place = 0; answers = none }
+    ∷ record { kind = 1; source = 3 ∷ 0 ∷ 0 ∷ []; string = 5 ∷ []; place = 0; answers = none }
+    -- backtrack runs away from the place
+    ∷ record { kind = 2; source = two-before; string = 1 ∷ 2 ∷ 5 ∷ []; place = 2; answers = some (1, (0, 4) ∷ []) }
+    ∷ record { kind = 2; source = two-before; string = 2 ∷ 1 ∷ 5 ∷ []; place = 2; answers = none }
+    ∷ record { kind = 2; source = covers; string = 2 ∷ 5 ∷ 6 ∷ 7 ∷ []; place = 1; answers = none }
+    -- sets are chosen by the class of the glyph, which must be covered, and each class of the input is asked
+    ∷ record { kind = 1; source = rules-by-classes; string = 5 ∷ 7 ∷ []; place = 0; answers = some (2, (1, 3) ∷ []) }
+    ∷ record { kind = 1; source = rules-by-classes; string = 6 ∷ 7 ∷ []; place = 0; answers = none }
+    ∷ record { kind = 1; source = rules-by-classes; string = 5 ∷ 6 ∷ []; place = 0; answers = none }
     ∷ []
 
 -- each is answered as it says
@@ -67,6 +84,11 @@ two-ligatures = flat (1 ∷ 28 ∷ 1 ∷ 8 ∷ 2 ∷ 6 ∷ 14 ∷ 20 ∷ 3 ∷ 6
 pub first-ligature : (ligate (table 3 two-ligatures) 5 (6 ∷ 7 ∷ []) ≡ some (20, 3)) × (ligate (table 3 two-ligatures) 5 (6 ∷ 8 ∷ []) ≡ some (21, 2)) × (ligate (table 3 two-ligatures) 5 (7 ∷ []) ≡ none)
 unfolding bytes2 flat table ligate
 first-ligature = (refl, refl, refl)
+
+-- a ligature of component count 0 for glyph 5 is formed nowhere
+pub no-components : ligate (table 3 (flat (1 ∷ 16 ∷ 1 ∷ 8 ∷ 1 ∷ 4 ∷ 20 ∷ 0 ∷ 1 ∷ 1 ∷ 5 ∷ []))) 5 [] ≡ none
+unfolding bytes2 flat table ligate
+no-components = refl
 
 -- the cut of that table by the map 5 → 0, 6 → 1, 7 → 2, 21 → 3, into a buffer of 24 bytes
 abbrev pub less-one : Outcome
@@ -87,3 +109,8 @@ pub signed-values : (adjust (table 4 one-pair) 5 6 ≡ some (record { x-placemen
     × (adjust (table 4 one-pair) 5 7 ≡ none)
 unfolding bytes2 flat table adjust
 signed-values = (refl, refl)
+
+-- each field has its own place: y placement 3 and y advance −4 for the first glyph
+pub own-fields : adjust (table 4 (flat (1 ∷ 20 ∷ 10 ∷ 0 ∷ 1 ∷ 12 ∷ 1 ∷ 6 ∷ 3 ∷ 0xFFFC ∷ 1 ∷ 1 ∷ 5 ∷ []))) 5 6 ≡ some (record { x-placement = pos 0; y-placement = pos 3; x-advance = pos 0; y-advance = negsuc 3 }, record { x-placement = pos 0; y-placement = pos 0; x-advance = pos 0; y-advance = pos 0 })
+unfolding bytes2 flat table adjust
+own-fields = refl
