@@ -27,6 +27,8 @@ use Rattle.promises.specs.Strings.{All, Retained, new}
 use Rattle.promises.specs.Rules.{cutMatch}
 use Rattle.promises.specs.Ligatures.{cutLigated, Closed}
 use Rattle.promises.specs.Same as Same
+use Rattle.promises.specs.Places.{parts, Faulty, Any, Lowest}
+use Rattle.promises.specs.LowestPlace.{malformed-lowest, malformed-part}
 use Rattle.promises.specs.Survives.{survives}
 use Rattle.promises.specs.Refusals.{Call, answer, plain, left?, refusals, first, NoneOf, Meets, answer-meets, meets-once, given-exactly, kept-exactly, refused-untouched, refused-length, malformed-place, no-room, kept-length, kept-bytes, buffer-length, empty-on-good}
 
@@ -90,6 +92,15 @@ module _ (c : Call) where
   -- The buffer never changes its length.
   pub same-length : length ((answer c) .out) ≡ length (c .buffer)
   same-length = buffer-length c
+
+  -- `place-lowest`: with 6 the length is the start of a faulty part, and no part that starts lower is faulty. Where none of 1 to 5 applies, 6 is given exactly if some part is faulty.
+  -- Which parts there are, and when one is faulty by its own bytes, is said in Places.antt, without `fault`; it is to be read with this.
+  pub place-lowest : (answer c) .number ≡ 6 → Lowest (c .source) (parts (c .kind) (c .source)) ((answer c) .len)
+  place-lowest = malformed-lowest c
+
+  pub malformed-exactly : NoneOf (take 5 (refusals c))
+      → ((answer c) .number ≡ 6 → Any (Faulty (c .source)) (parts (c .kind) (c .source))) × (Any (Faulty (c .source)) (parts (c .kind) (c .source)) → (answer c) .number ≡ 6)
+  malformed-exactly = malformed-part c
 
   -- Demand 2.
 
