@@ -22,15 +22,16 @@ static const char *const meaning[] = {
   "the buffer is too short"
 };
 
-/* Cuts P1 into so many bytes of `out`, and says what came back. */
-static uint64_t cut (uint8_t *out, size_t room)
+/* Cuts the first so many bytes of P1 into so many bytes of `out`, and says what came back. */
+static uint64_t cut (size_t length, uint8_t *out, size_t room)
 {
-  uint64_t result = gillcurtain_subset (GILLCURTAIN_CONTEXT, source, sizeof source, glyphs, sizeof glyphs,
+  uint64_t result = gillcurtain_subset (GILLCURTAIN_CONTEXT, source, length, glyphs, sizeof glyphs,
                                         lookups, sizeof lookups, out, room);
   unsigned number = gillcurtain_number (result);
-  printf ("P1 into %zu bytes: answer %u, %s", room, number, meaning[number]);
-  if (number == GILLCURTAIN_KEPT) printf (": %zu of %zu bytes", gillcurtain_length (result), sizeof source);
+  printf ("%zu bytes of P1 into %zu: answer %u, %s", length, room, number, meaning[number]);
+  if (number == GILLCURTAIN_KEPT) printf (": %zu bytes", gillcurtain_length (result));
   if (number == GILLCURTAIN_NO_ROOM) printf (": it takes %zu", gillcurtain_length (result));
+  if (number == GILLCURTAIN_MALFORMED) printf (", in the part at 0x%04zx", gillcurtain_length (result));
   printf ("\n");
   return result;
 }
@@ -38,9 +39,11 @@ static uint64_t cut (uint8_t *out, size_t room)
 int main (void)
 {
   uint8_t out[sizeof source];
-  size_t needed = gillcurtain_length (cut (NULL, 0));
+  /* Without its last two bytes the coverage, at 48, is cut short. */
+  if (gillcurtain_number (cut (sizeof source - 2, out, sizeof out)) != GILLCURTAIN_MALFORMED) return 1;
+  size_t needed = gillcurtain_length (cut (sizeof source, NULL, 0));
   if (sizeof out < needed) return 1;
-  uint64_t result = cut (out, needed);
+  uint64_t result = cut (sizeof source, out, needed);
   if (gillcurtain_number (result) != GILLCURTAIN_KEPT) return 1;
   size_t n = gillcurtain_length (result);
   for (size_t i = 0; i < n; i++) printf ("%02x%s", out[i], i % 16 == 15 || i + 1 == n ? "\n" : "");

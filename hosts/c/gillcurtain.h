@@ -38,7 +38,7 @@ enum gillcurtain_answer {
   GILLCURTAIN_BAD_LOOKUPS = 3,
   GILLCURTAIN_LONG_SOURCE = 4,  /* over 65,536 bytes */
   GILLCURTAIN_BAD_FORMAT = 5,
-  GILLCURTAIN_MALFORMED = 6,
+  GILLCURTAIN_MALFORMED = 6,    /* the length is the place: where the lowest faulty part starts */
   GILLCURTAIN_DEVICE = 7,       /* a device table or variation index */
   GILLCURTAIN_NOTHING = 8,      /* nothing survives */
   GILLCURTAIN_TOO_BIG = 9,      /* the small subtable would be over 65,536 bytes */
@@ -54,7 +54,14 @@ enum gillcurtain_answer {
  * the old numbers ascending, and in `glyphs` the new ones too.
  * The small subtable is written to the front of `out`; bytes after it keep
  * what they held, and a refusal writes nothing.
- * The result is the answer times 2^32, plus the length. */
+ * The result is the answer times 2^32, plus the length, which is 0 with every
+ * refusal but two: with GILLCURTAIN_NO_ROOM it is what is needed, and with
+ * GILLCURTAIN_MALFORMED it is the place of the fault, in bytes from the
+ * source's start. Parts are the header (place 0), sets, rules, ligatures, pair
+ * sets, coverages and class tables; the place is the lowest start among the
+ * parts that are faulty by their own bytes. It lies past the source's end, at
+ * most at 131,070, where an offset points outside. `tools/job show --kind K
+ * SOURCE` names the part and says what is wrong with it. */
 uint64_t gillcurtain_subset (uint64_t kind,
                              const uint8_t *source, size_t source_len,
                              const uint8_t *glyphs, size_t glyphs_len,

@@ -20,25 +20,25 @@ fn bytes(words: &[u16]) -> Vec<u8> {
     words.iter().flat_map(|word| word.to_be_bytes()).collect()
 }
 
-/// Cuts P1 into `out`, and says what came back.
-fn cut(out: &mut [u8]) -> Answer {
-    let source = bytes(&SOURCE);
+/// Cuts the first so many words of P1 into `out`, and says what came back.
+fn cut(words: usize, out: &mut [u8]) -> Answer {
+    let source = bytes(&SOURCE[..words]);
     let answer = subset(CONTEXT, &source, &bytes(&GLYPHS), &bytes(&LOOKUPS), out);
-    print!("P1 into {} bytes: answer {}, {answer}", out.len(), answer.number());
-    match answer {
-        Answer::Kept(n) => println!(": {n} of {} bytes", source.len()),
-        Answer::NoRoom(n) => println!(": it takes {n}"),
-        _ => println!(),
-    }
+    let (length, room) = (source.len(), out.len());
+    println!("{length} bytes of P1 into {room}: answer {}, {answer}", answer.number());
     answer
 }
 
 fn main() {
-    let Answer::NoRoom(needed) = cut(&mut []) else {
+    // Without its last word the coverage, at 48, is cut short.
+    let Answer::Malformed(48) = cut(SOURCE.len() - 1, &mut [0; 56]) else {
+        std::process::exit(1);
+    };
+    let Answer::NoRoom(needed) = cut(SOURCE.len(), &mut []) else {
         std::process::exit(1);
     };
     let mut out = vec![0; needed];
-    let Answer::Kept(n) = cut(&mut out) else {
+    let Answer::Kept(n) = cut(SOURCE.len(), &mut out) else {
         std::process::exit(1);
     };
     for line in out[..n].chunks(16) {

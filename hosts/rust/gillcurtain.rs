@@ -26,7 +26,10 @@ pub enum Answer {
     BadLookups,
     LongSource,
     BadFormat,
-    Malformed,
+    /// The lowest part that is faulty by its own bytes starts at this place of the source, or past
+    /// its end where an offset points outside. Parts are the header, at 0, sets, rules, ligatures,
+    /// pair sets, coverages and class tables.
+    Malformed(usize),
     Device,
     Nothing,
     TooBig,
@@ -81,7 +84,7 @@ fn answer(number: u64, length: usize) -> Answer {
         3 => Answer::BadLookups,
         4 => Answer::LongSource,
         5 => Answer::BadFormat,
-        6 => Answer::Malformed,
+        6 => Answer::Malformed(length),
         7 => Answer::Device,
         8 => Answer::Nothing,
         9 => Answer::TooBig,
@@ -100,7 +103,7 @@ impl Answer {
             Answer::BadLookups => 3,
             Answer::LongSource => 4,
             Answer::BadFormat => 5,
-            Answer::Malformed => 6,
+            Answer::Malformed(_) => 6,
             Answer::Device => 7,
             Answer::Nothing => 8,
             Answer::TooBig => 9,
@@ -111,18 +114,23 @@ impl Answer {
 
 impl fmt::Display for Answer {
     fn fmt(&self, f: &mut fmt::Formatter) -> fmt::Result {
-        f.write_str(match self {
-            Answer::Kept(_) => "kept",
+        let said = match self {
+            Answer::Kept(length) => return write!(f, "kept: {length} bytes"),
+            Answer::Malformed(place) => {
+                return write!(f, "the source is malformed, in the part at {place:#06x}");
+            }
+            Answer::NoRoom(needed) => {
+                return write!(f, "the buffer is too short: it takes {needed}");
+            }
             Answer::BadKind => "the kind is none of 1 to 4",
             Answer::BadGlyphs => "the glyph map is not good",
             Answer::BadLookups => "the lookup map is not good",
             Answer::LongSource => "the source is over 65,536 bytes",
             Answer::BadFormat => "the kind has no such format",
-            Answer::Malformed => "the source is malformed",
             Answer::Device => "a value format asks for a device table",
             Answer::Nothing => "nothing survives",
             Answer::TooBig => "the result is over 65,536 bytes",
-            Answer::NoRoom(_) => "the buffer is too short",
-        })
+        };
+        f.write_str(said)
     }
 }

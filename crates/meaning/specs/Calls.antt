@@ -34,3 +34,8 @@ kept kind source glyphs lookups words =
 abbrev pub refuses : ℕ → List ℕ → List ℕ → List ℕ → ℕ → Row
 refuses kind source glyphs lookups number =
     record { kind = kind; source = source; glyphs = glyphs; lookups = lookups; room = 16; number = number; len = 0; written = []; left = 16 }
+
+-- a row whose answer is 6, malformed, with the place of the lowest faulty part
+abbrev pub faulty : ℕ → List ℕ → List ℕ → List ℕ → ℕ → Row
+faulty kind source glyphs lookups place =
+    record { kind = kind; source = source; glyphs = glyphs; lookups = lookups; room = 16; number = 6; len = place; written = []; left = 16 }

@@ -27,8 +27,10 @@ use Rattle.promises.specs.Strings.{All, Retained, new}
 use Rattle.promises.specs.Rules.{cutMatch}
 use Rattle.promises.specs.Ligatures.{cutLigated, Closed}
 use Rattle.promises.specs.Same as Same
+use Rattle.promises.specs.Places.{parts, Faulty, Any, Lowest}
+use Rattle.promises.specs.LowestPlace.{malformed-lowest, malformed-part}
 use Rattle.promises.specs.Survives.{survives}
-use Rattle.promises.specs.Refusals.{Call, answer, plain, left?, refusals, first, NoneOf, Meets, answer-meets, meets-once, given-exactly, kept-exactly, refused-untouched, refused-length, no-room, kept-length, kept-bytes, buffer-length, empty-on-good}
+use Rattle.promises.specs.Refusals.{Call, answer, plain, left?, refusals, first, NoneOf, Meets, answer-meets, meets-once, given-exactly, kept-exactly, refused-untouched, refused-length, malformed-place, no-room, kept-length, kept-bytes, buffer-length, empty-on-good}
 
 -- Worked cases, by computation.
 
@@ -36,7 +38,7 @@ use Rattle.promises.specs.Refusals.{Call, answer, plain, left?, refusals
 pub rows : map call Rows.rows ≡ map stated Rows.rows
 rows = Rows.each-row
 
--- `points`: the open points of document 01 as we read them (docs/DECISIONS.md), each with its whole answer.
+-- `points`: the open points of documents 01 and 02 as we read them (docs/DECISIONS.md), each with its whole answer.
 pub points : map call Points.points ≡ map stated Points.points
 points = Points.each-point
 
@@ -73,12 +75,16 @@ module _ (c : Call) where
   pub kept-exactly-if : ((answer c) .number ≡ 0 → NoneOf (refusals c)) × (NoneOf (refusals c) → (answer c) .number ≡ 0)
   kept-exactly-if = kept-exactly c
 
-  -- `refusal-writes-nothing`: a refusal leaves the buffer as it was. Its length is 0, save with 10, where it is the length needed and the buffer is shorter.
+  -- `refusal-writes-nothing`: a refusal leaves the buffer as it was. Its length is 0, save with 6, where it is the lowest start among the faulty parts,
+  -- and with 10, where it is the length needed and the buffer is shorter.
   pub refusal-writes-nothing : ((answer c) .number ≡ 0 → ⊥) → (answer c) .out ≡ c .buffer
   refusal-writes-nothing = refused-untouched c
 
-  pub refusal-length : ((answer c) .number ≡ 0 → ⊥) → ((answer c) .number ≡ 10 → ⊥) → (answer c) .len ≡ 0
+  pub refusal-length : ((answer c) .number ≡ 0 → ⊥) → ((answer c) .number ≡ 6 → ⊥) → ((answer c) .number ≡ 10 → ⊥) → (answer c) .len ≡ 0
   refusal-length = refused-length c
+
+  pub place-of-fault : (answer c) .number ≡ 6 → some ((answer c) .len) ≡ fault (c .kind) (c .source)
+  place-of-fault = malformed-place c
 
   pub length-needed : (answer c) .number ≡ 10 → ((answer c) .len ≡ length (plain c)) × (length (c .buffer) < length (plain c))
   length-needed = no-room c
@@ -86,6 +92,15 @@ module _ (c : Call) where
   -- The buffer never changes its length.
   pub same-length : length ((answer c) .out) ≡ length (c .buffer)
   same-length = buffer-length c
+
+  -- `place-lowest`: with 6 the length is the start of a faulty part, and no part that starts lower is faulty. Where none of 1 to 5 applies, 6 is given exactly if some part is faulty.
+  -- Which parts there are, and when one is faulty by its own bytes, is said in Places.antt, without `fault`; it is to be read with this.
+  pub place-lowest : (answer c) .number ≡ 6 → Lowest (c .source) (parts (c .kind) (c .source)) ((answer c) .len)
+  place-lowest = malformed-lowest c
+
+  pub malformed-exactly : NoneOf (take 5 (refusals c))
+      → ((answer c) .number ≡ 6 → Any (Faulty (c .source)) (parts (c .kind) (c .source))) × (Any (Faulty (c .source)) (parts (c .kind) (c .source)) → (answer c) .number ≡ 6)
+  malformed-exactly = malformed-part c
 
   -- Demand 2.
 

@@ -1,12 +1,11 @@
 -- Demand 1: which number is given exactly when, in 01's order; what a refusal leaves; and that nothing else can meet the public statement.
 use Prim.Native.Nat.{ℕ, zero, suc, _≤_, _<_}
 use mathlib.Core.Path.{_≡_, refl, sym, ap, _∙_}
-use mathlib.Core.Bool.{Bool, true, false, cond, _&&_, _||_, not}
-use mathlib.Core.Option.{Option, none, some}
+use mathlib.Core.Bool.{Bool, true, false, cond, _&&_, _||_, not, true≢false}
+use mathlib.Core.Option.{Option, none, some, Option·getD}
 use mathlib.Core.List.{List, [], _∷_, _++_}
 use native.Mathlib.Omega.{arith}
 use lib.ListN.{length, take, drop, length-append, length-drop}
-use lib.Seq.{drop-at}
 use lib.Dec.{leb, ltb, eqb}
 use borrow.Author.Tests.{ltb-true, ltb-false, ne-eqb}
 use Rattle.meaning.specs.Words.{word, inside, isSome}
@@ -15,7 +14,7 @@ use Rattle.meaning.specs.Tables.{Table, table}
 use Rattle.meaning.specs.Fault.{fault}
 use Rattle.meaning.specs.Cut.{cut}
 use Rattle.meaning.specs.Layout.{layout}
-use Rattle.meaning.specs.Subset.{Outcome, refused, limit, goodKind, hasFormat, hasDevice, laidInto, written, subset}
+use Rattle.meaning.specs.Subset.{Outcome, refused, place, limit, goodKind, hasFormat, hasDevice, laidInto, written, subset}
 use Rattle.laws.specs.Stands.{All}
 use Rattle.laws.specs.CallBack.{subset-is}
 use Rattle.promises.specs.Survives.{survives}
@@ -75,35 +74,39 @@ unfoldable pub first : List (ℕ × Bool) → ℕ
 first [] = 0
 first (r ∷ rs) = cond (r .1) (r .0) (first rs)
 
--- The public statement: the lowest number that applies; the length of the plain layout where it is kept or there is no room for it, and 0 otherwise;
+-- the length that goes with a number: of the plain layout where it is kept or there is no room for it, the place of the lowest faulty part with 6, and 0 otherwise
+unfoldable pub lengthBy : Call → ℕ → ℕ
+lengthBy c n = cond (eqb n 0 || eqb n 10) (length (plain c)) (cond (eqb n 6) (place (c .kind) (c .source)) 0)
+
+-- The public statement: the lowest number that applies; the length that goes with it;
 -- the plain layout at the front of the buffer, and the rest of it as it was, where it is kept, and otherwise the buffer as it was.
 pub record Meets (c : Call) (r : Outcome) : Type 0 where
   pub number : r .number ≡ first (refusals c)
-  pub len : r .len ≡ cond (eqb (r .number) 0 || eqb (r .number) 10) (length (plain c)) 0
+  pub len : r .len ≡ lengthBy c (r .number)
   pub out : r .out ≡ cond (eqb (r .number) 0) (plain c ++ drop (length (plain c)) (c .buffer)) (c .buffer)
 
 -- an outcome by its number, as the public statement gives it
 byNumber : Call → ℕ → Outcome
-byNumber c n = record { number = n; len = cond (eqb n 0 || eqb n 10) (length (plain c)) 0; out = cond (eqb n 0) (plain c ++ drop (length (plain c)) (c .buffer)) (c .buffer) }
+byNumber c n = record { number = n; len = lengthBy c n; out = cond (eqb n 0) (plain c ++ drop (length (plain c)) (c .buffer)) (c .buffer) }
 
 -- refusals that are tested before an outcome
-tried : List ℕ → List (ℕ × Bool) → Outcome → Outcome
-tried out [] y = y
-tried out (r ∷ rs) y = cond (r .1) (refused out (r .0)) (tried out rs y)
+tried : Call → List (ℕ × Bool) → Outcome → Outcome
+tried c [] y = y
+tried c (r ∷ rs) y = cond (r .1) (byNumber c (r .0)) (tried c rs y)
 
-tried-is : (c : Call) (rs qs : List (ℕ × Bool)) (y : Outcome) → All (λ r. refused (c .buffer) (r .0) ≡ byNumber c (r .0)) rs → y ≡ byNumber c (first qs) → tried (c .buffer) rs y ≡ byNumber c (first (rs ++ qs))
+tried-is : (c : Call) (rs qs : List (ℕ × Bool)) (y : Outcome) → y ≡ byNumber c (first qs) → tried c rs y ≡ byNumber c (first (rs ++ qs))
 unfolding first tried
-tried-is c [] qs y h e = e
-tried-is c (r ∷ rs) qs y h e = step (r .1) (tried-is c rs qs y (h .1) e)
+tried-is c [] qs y e = e
+tried-is c (r ∷ rs) qs y e = step (r .1) (tried-is c rs qs y e)
   where
-    step : (b : Bool) → tried (c .buffer) rs y ≡ byNumber c (first (rs ++ qs)) → cond b (refused (c .buffer) (r .0)) (tried (c .buffer) rs y) ≡ byNumber c (cond b (r .0) (first (rs ++ qs)))
-    step true f = h .0
+    step : (b : Bool) → tried c rs y ≡ byNumber c (first (rs ++ qs)) → cond b (byNumber c (r .0)) (tried c rs y) ≡ byNumber c (cond b (r .0) (first (rs ++ qs)))
+    step true f = refl
     step false f = f
 
 -- the last three
 unfolded : (c : Call) (o : Option Table) → left? c ≡ o
     → written (c .buffer) o ≡ byNumber c (cond (not (isSome o)) 8 (cond (ltb limit (length (layout? o))) 9 (cond (ltb (length (c .buffer)) (length (layout? o))) 10 0)))
-unfolding written laidInto layout? isSome byNumber
+unfolding written laidInto layout? isSome lengthBy byNumber
 unfolded c none e = refl
 unfolded c (some t) e = step (ltb limit (length (layout t))) (ltb (length (c .buffer)) (length (layout t)))
   where
@@ -114,10 +117,10 @@ unfolded c (some t) e = step (ltb limit (length (layout t))) (ltb (length (c .bu
 
 -- the call's outcome, by its number
 answer-is : (c : Call) → answer c ≡ byNumber c (first (refusals c))
-unfolding refusals first byNumber tried
+unfolding refusals first lengthBy byNumber tried
 answer-is c =
     subset-is (c .kind) (c .source) (c .glyphs) (c .lookups) (c .buffer)
-    ∙ tried-is c (take 7 (refusals c)) (drop 7 (refusals c)) (written (c .buffer) (left? c)) (refl, (refl, (refl, (refl, (refl, (refl, (refl, tt)))))))
+    ∙ tried-is c (take 7 (refusals c)) (drop 7 (refusals c)) (written (c .buffer) (left? c))
     (rw (cut-survives (mapEntries (c .glyphs)) (mapEntries (c .lookups)) (table (c .kind) (c .source))) at (unfolded c (left? c) refl))
 
 -- the call meets the public statement
@@ -214,13 +217,25 @@ module _ (c : Call) where
   pub refused-untouched : ((answer c) .number ≡ 0 → ⊥) → (answer c) .out ≡ c .buffer
   refused-untouched h = answer-meets c .out ∙ rw (ne-eqb ((answer c) .number) 0 h)
 
-  -- and its length is 0, save where there is no room
-  pub refused-length : ((answer c) .number ≡ 0 → ⊥) → ((answer c) .number ≡ 10 → ⊥) → (answer c) .len ≡ 0
-  refused-length h k = answer-meets c .len ∙ rw (ne-eqb ((answer c) .number) 0 h, ne-eqb ((answer c) .number) 10 k)
+  -- and its length is 0, save 6 and no room
+  pub refused-length : ((answer c) .number ≡ 0 → ⊥) → ((answer c) .number ≡ 6 → ⊥) → ((answer c) .number ≡ 10 → ⊥) → (answer c) .len ≡ 0
+  unfolding lengthBy
+  refused-length h i k = answer-meets c .len ∙ rw (ne-eqb ((answer c) .number) 0 h, ne-eqb ((answer c) .number) 10 k, ne-eqb ((answer c) .number) 6 i)
 
-  -- then it is the length needed, and the buffer is shorter
+  -- with 6 it is the place of the lowest faulty part
+  pub malformed-place : (answer c) .number ≡ 6 → some ((answer c) .len) ≡ fault (c .kind) (c .source)
+  unfolding lengthBy refusals isSome
+  malformed-place h =
+      let t = given-exactly (take 5 (refusals c)) 6 (isSome (fault (c .kind) (c .source))) (drop 6 (refusals c)) refl .0 h .0 in
+      ap some (answer-meets c .len ∙ rw h) ∙ step (fault (c .kind) (c .source)) t
+    where
+      step : (o : Option ℕ) → isSome o ≡ true → some (Option·getD o 0) ≡ o
+      step none q = absurd (true≢false (sym q))
+      step (some p) q = refl
+
+  -- with 10 it is the length needed, and the buffer is shorter
   pub no-room : (answer c) .number ≡ 10 → ((answer c) .len ≡ length (plain c)) × (length (c .buffer) < length (plain c))
-  unfolding refusals
+  unfolding refusals lengthBy
   no-room h = (
     answer-meets c .len ∙ rw h,
     ltb-true (length (c .buffer)) (length (plain c)) (given-exactly (take 9 (refusals c)) 10 (ltb (length (c .buffer)) (length (plain c))) [] refl .0 h .0),
@@ -228,7 +243,7 @@ module _ (c : Call) where
 
   -- what is kept: its length is that of the plain layout, which is at most the limit and the buffer
   pub kept-length : (answer c) .number ≡ 0 → ((answer c) .len ≡ length (plain c)) × ((answer c) .len ≤ limit) × ((answer c) .len ≤ length (c .buffer))
-  unfolding refusals
+  unfolding refusals lengthBy
   kept-length h =
       let l : (answer c) .len ≡ length (plain c) = answer-meets c .len ∙ rw h in
       let n = kept-exactly .0 h in

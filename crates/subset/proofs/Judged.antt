@@ -60,7 +60,7 @@ module _ (kind : ℕ) (s g l out : List ℕ) where
         at-format d e = rw (subset-is kind s g l out, a, b, c, le-ltb limit (length s) d, e)
 
   module _ (t : Tested kind s g l) where
-    pub at-malformed : {p : ℕ} → fault kind s ≡ some p → refused out 6 ≡ subset kind s g l out
+    pub at-malformed : {p : ℕ} → fault kind s ≡ some p → record { number = 6; len = p; out = out } ≡ subset kind s g l out
     unfolding isSome
     at-malformed f = rw (subset-is kind s g l out, t .good-kind, t .good-glyphs, t .good-lookups, le-ltb limit (length s) (t .short), t .format, f)
 

@@ -1,3 +1,4 @@
 pub mod Judged
+pub mod Near
 pub mod Scratch
 pub mod Coded

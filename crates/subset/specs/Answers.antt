@@ -17,14 +17,14 @@ numberOf BadGlyphs = 2
 numberOf BadLookups = 3
 numberOf LongSource = 4
 numberOf BadFormat = 5
-numberOf Malformed = 6
+numberOf (Malformed p) = 6
 numberOf Device = 7
 numberOf Nothing = 8
 numberOf TooBig = 9
 numberOf (NoRoom n) = 10
 numberOf BadJob = 11
 
--- and its length
+-- and its length: bytes written, a place, the length needed, or 0
 abbrev pub lengthOf : Answer → ℕ
 lengthOf (Kept n) = n
 lengthOf BadKind = 0
@@ -32,7 +32,7 @@ lengthOf BadGlyphs = 0
 lengthOf BadLookups = 0
 lengthOf LongSource = 0
 lengthOf BadFormat = 0
-lengthOf Malformed = 0
+lengthOf (Malformed p) = p
 lengthOf Device = 0
 lengthOf Nothing = 0
 lengthOf TooBig = 0

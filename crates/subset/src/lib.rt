@@ -32,7 +32,7 @@ ghost use Rattle.maps.specs.Below.{allBelow, Rises};
 ghost use Rattle.subset.specs.Answers.{numberOf, lengthOf, outcome, decoded, answerOf};
 ghost use Rattle.subset.specs.Asked.{Cuts, CutsByClass, CutsListed};
 
-// The answers of document 01. With `Kept` comes the number of bytes written, with `NoRoom` the length needed; the length of any other is 0.
+// The answers of document 01. With `Kept` comes the number of bytes written, with `Malformed` the lowest start among the faulty parts, and with `NoRoom` the length needed; the length of any other is 0.
 // `BadJob` is given by the label job alone.
 pub enum Answer {
     Kept(usize),
@@ -41,7 +41,7 @@ pub enum Answer {
     BadLookups,
     LongSource,
     BadFormat,
-    Malformed,
+    Malformed(usize),
     Device,
     Nothing,
     TooBig,
@@ -345,9 +345,9 @@ pub fn subset(kind: usize, source: &[u8], glyphs: &[u8], lookups: &[u8], out: &m
     if other_format(kind, source) {
         return Answer::BadFormat;
     }
-    let Fault::Sound = check(kind, source) else {
-        return Answer::Malformed;
-    };
+    if let Fault::At(place) = check(kind, source) {
+        return Answer::Malformed(place);
+    }
     if pair_device(kind, source) {
         return Answer::Device;
     }
@@ -365,7 +365,7 @@ pub fn number_of(a: Answer) -> usize
         Answer::BadLookups => 3,
         Answer::LongSource => 4,
         Answer::BadFormat => 5,
-        Answer::Malformed => 6,
+        Answer::Malformed(_) => 6,
         Answer::Device => 7,
         Answer::Nothing => 8,
         Answer::TooBig => 9,
@@ -385,7 +385,7 @@ pub fn length_of(a: Answer) -> usize
         Answer::BadLookups => 0,
         Answer::LongSource => 0,
         Answer::BadFormat => 0,
-        Answer::Malformed => 0,
+        Answer::Malformed(place) => place,
         Answer::Device => 0,
         Answer::Nothing => 0,
         Answer::TooBig => 0,

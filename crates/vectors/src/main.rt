@@ -161,13 +161,20 @@ fn short_calls(kind: usize, source: &[u8], glyphs: &[u8], lookups: &[u8], n: usi
     empty + half + short
 }
 
-// How many agree of the calls that are refused by this number.
-fn refused_calls(kind: usize, source: &[u8], glyphs: &[u8], lookups: &[u8], answer: usize) -> usize
+// How many agree of the calls that are refused by this number, with this length.
+fn refused_calls(
+    kind: usize,
+    source: &[u8],
+    glyphs: &[u8],
+    lookups: &[u8],
+    answer: usize,
+    len: usize,
+) -> usize
     ensures { λ r. ⌜ r ≤ 3 ⌝ }
 {
-    let empty = agreed(kind, source, glyphs, lookups, answer, 0, b"", 0);
-    let small = agreed(kind, source, glyphs, lookups, answer, 0, b"", LONGER);
-    let large = agreed(kind, source, glyphs, lookups, answer, 0, b"", SPACE);
+    let empty = agreed(kind, source, glyphs, lookups, answer, len, b"", 0);
+    let small = agreed(kind, source, glyphs, lookups, answer, len, b"", LONGER);
+    let large = agreed(kind, source, glyphs, lookups, answer, len, b"", SPACE);
     empty + small + large
 }
 
@@ -189,7 +196,7 @@ fn calls(
     if answer == 10 {
         return short_calls(kind, source, glyphs, lookups, len);
     }
-    refused_calls(kind, source, glyphs, lookups, answer)
+    refused_calls(kind, source, glyphs, lookups, answer, len)
 }
 
 // Prints a label and a number where not every call agreed; how many did.
@@ -205,12 +212,12 @@ fn verdict(label: &[u8], n: usize, good: usize) -> usize
     good
 }
 
-// How many kept bytes a stored call has: none where there was no room for them.
+// How many kept bytes a stored call has: none where it is refused.
 fn kept_len(file: &[u8], at: usize) -> usize
     requires { ⌜ at ≤ 200000 ⌝ }
     ensures { λ r. ⌜ r < 65536 ⌝ }
 {
-    if word_at(file, at + 2) == 10 {
+    if word_at(file, at + 2) != 0 {
         return 0;
     }
     word_at(file, at + 10)
@@ -287,7 +294,7 @@ fn longest_source(kind: usize) -> usize
     ensures { λ r. ⌜ r ≤ 3 ⌝ }
 {
     let source = [0u8; 65536];
-    let good = refused_calls(kind, &source, b"", b"", 5);
+    let good = refused_calls(kind, &source, b"", b"", 5, 0);
     verdict(b"the longest source of kind ", kind, good)
 }
 
@@ -296,7 +303,7 @@ fn long_source(kind: usize) -> usize
     ensures { λ r. ⌜ r ≤ 3 ⌝ }
 {
     let source = [0u8; 65537];
-    let good = refused_calls(kind, &source, b"", b"", 4);
+    let good = refused_calls(kind, &source, b"", b"", 4, 0);
     verdict(b"a longer source of kind ", kind, good)
 }
 
@@ -398,7 +405,7 @@ fn larger_layout() -> usize
     put_source(&mut source, 5461, 3);
     let mut glyphs = [0u8; 12];
     put_map(&mut glyphs, 3);
-    let good = refused_calls(1, &source, &glyphs, b"", 9);
+    let good = refused_calls(1, &source, &glyphs, b"", 9, 0);
     verdict(b"a plain layout of ", 65538, good)
 }
 

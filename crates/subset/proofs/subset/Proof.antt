@@ -76,9 +76,9 @@ returns-5 c =
 
 returns-6 : tie.Need-returns-6
 returns-6 c =
-    let t = c .before .before in
+    let t = c .before .before .before in
     let a = t .before .before .before .before .before .before .before .before .before .before .before .before .before .before .args in
-    at-malformed (a .kind) (a .source .now) (a .glyphs .now) (a .lookups .now) (a .out .now) (past-tests (t .before)) (is-at (fault (a .kind) (a .source .now)) (c .enum-told2 .given .1) (t .check .ensures))
+    at-malformed (a .kind) (a .source .now) (a .glyphs .now) (a .lookups .now) (a .out .now) (past-tests (t .before)) (is-at (fault (a .kind) (a .source .now)) (c .before .place .given .1) (t .check .ensures))
 
 returns-7 : tie.Need-returns-7
 returns-7 c =
@@ -117,8 +117,8 @@ subset-spec =
     returns-5
     (λ c κs. search needs)
     (λ c. search needs)
-    (λ c. search needs)
     returns-6
+    (λ c. search needs)
     (λ c κs. search needs)
     returns-7
     cut-into-requires

@@ -1,0 +1,1 @@
+"""What the tools at the desk share: job files, tables in words, and what is refused."""
