@@ -63,7 +63,7 @@ meets = answer-meets
 module _ (c : Call) where
   -- Demand 1.
 
-  -- `first-refusal`: the number is that of the first refusal of document 01's table that applies, and 0 if none does.
+  -- `first-refusal`: the number is that of the first refusal, in the written order, that applies, and 0 if none does.
   pub first-refusal : (answer c) .number ≡ first (refusals c)
   first-refusal = answer-meets c .number
 
@@ -112,8 +112,8 @@ module _ (c : Call) where
   pub kept-is-plain : (answer c) .number ≡ 0 → (answer c) .out ≡ plain c ++ drop ((answer c) .len) (c .buffer)
   kept-is-plain = kept-bytes c
 
-  -- `empty-exactly`: on good input, where none of the refusals 1 to 7 applies, the answer is 8 exactly if nothing survives, said without `cut` in Survives.antt.
-  pub empty-exactly : NoneOf (take 7 (refusals c)) → eqb ((answer c) .number) 8 ≡ not (survives (mapEntries (c .glyphs)) (table (c .kind) (c .source)))
+  -- `empty-exactly`: on good input, where none of the refusals before it applies, the answer is 8 exactly if nothing survives, said without `cut` in Survives.antt.
+  pub empty-exactly : NoneOf (take 8 (refusals c)) → eqb ((answer c) .number) 8 ≡ not (survives (mapEntries (c .glyphs)) (table (c .kind) (c .source)))
   empty-exactly = empty-on-good c
 
 -- What is kept, read as a source of the same kind. A slice's contents are bytes; the definitions take lists of any numbers, so it is asked for.
