@@ -29,6 +29,7 @@ use Rattle.promises.specs.Ligatures.{cutLigated, Closed}
 use Rattle.promises.specs.Same as Same
 use Rattle.promises.specs.Places.{parts, Faulty, Any, Lowest}
 use Rattle.promises.specs.LowestPlace.{malformed-lowest, malformed-part}
+use Rattle.promises.specs.Within.{Within, kept-within, not-past}
 use Rattle.promises.specs.Survives.{survives}
 use Rattle.promises.specs.Refusals.{Call, answer, plain, left?, refusals, first, NoneOf, Meets, answer-meets, meets-once, given-exactly, kept-exactly, refused-untouched, refused-length, malformed-place, no-room, kept-length, kept-bytes, buffer-length, empty-on-good}
 
@@ -168,3 +169,17 @@ module _ (c : Call) (bytes : BytesOf c) (kept : (answer c) .number ≡ 0) where
 -- The condition on ligatures is needed: without it the small table forms another ligature than the source.
 pub closed-needed : (Matches.less-one .number ≡ 0) × (ligate (table 3 Matches.two-ligatures) 5 (6 ∷ 7 ∷ []) ≡ some (20, 3)) × (ligate (table 3 (left Matches.less-one)) 0 (1 ∷ 2 ∷ []) ≡ some (3, 2))
 closed-needed = Matches.condition-needed
+
+-- Records past their rule.
+
+module _ (c : Call) (bytes : BytesOf c) (kept : (answer c) .number ≡ 0) where
+  -- `small-within`: no record of what is kept points past its rule.
+  pub small-within : Within (small-says c)
+  small-within = kept-within c kept (small-says c) (reads-back c bytes kept .0)
+
+  -- So what is kept, taken as a source of the same kind, is not answered 12, whatever the maps and the buffer are.
+  abbrev pub again : List ℕ → List ℕ → List ℕ → Call
+  again glyphs lookups buffer = record { kind = c .kind; source = left (answer c); glyphs = glyphs; lookups = lookups; buffer = buffer }
+
+  pub again-not-past : (glyphs lookups buffer : List ℕ) → (answer (again glyphs lookups buffer)) .number ≡ 12 → ⊥
+  again-not-past glyphs lookups buffer = not-past (again glyphs lookups buffer) small-within
