@@ -16,10 +16,18 @@ static const uint8_t glyphs[] = { 0, 3, 0, 1, 0, 5, 0, 2, 0, 9, 0, 3 };  /* 3:1 
 static const uint8_t lookups[] = { 0, 4, 0, 0, 0, 7, 0, 2 };             /* 4:0 7:2 */
 
 static const char *const meaning[] = {
-  "kept", "the kind is none of 1 to 4", "the glyph map is not good", "the lookup map is not good",
-  "the source is over 65,536 bytes", "the kind has no such format", "the source is malformed",
-  "a value format asks for a device table", "nothing survives", "the result is over 65,536 bytes",
-  "the buffer is too short"
+  [GILLCURTAIN_KEPT] = "kept",
+  [GILLCURTAIN_BAD_KIND] = "the kind is none of 1 to 4",
+  [GILLCURTAIN_BAD_GLYPHS] = "the glyph map is not good",
+  [GILLCURTAIN_BAD_LOOKUPS] = "the lookup map is not good",
+  [GILLCURTAIN_LONG_SOURCE] = "the source is over 65,536 bytes",
+  [GILLCURTAIN_BAD_FORMAT] = "the kind has no such format",
+  [GILLCURTAIN_MALFORMED] = "the source is malformed",
+  [GILLCURTAIN_DEVICE] = "a value format asks for a device table",
+  [GILLCURTAIN_PAST_RULE] = "a record points past its rule",
+  [GILLCURTAIN_NOTHING] = "nothing survives",
+  [GILLCURTAIN_TOO_BIG] = "the result is over 65,536 bytes",
+  [GILLCURTAIN_NO_ROOM] = "the buffer is too short"
 };
 
 /* Cuts the first so many bytes of P1 into so many bytes of `out`, and says what came back. */

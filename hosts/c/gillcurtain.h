@@ -30,7 +30,7 @@ enum gillcurtain_kind {
   GILLCURTAIN_PAIR = 4
 };
 
-/* The answers. Where several apply, the lowest number is given. */
+/* The answers. Where several apply, the first of 1 to 7, 12, 8, 9, 10 is given, in that order. */
 enum gillcurtain_answer {
   GILLCURTAIN_KEPT = 0,         /* the length is that of the small subtable */
   GILLCURTAIN_BAD_KIND = 1,
@@ -42,7 +42,8 @@ enum gillcurtain_answer {
   GILLCURTAIN_DEVICE = 7,       /* a device table or variation index */
   GILLCURTAIN_NOTHING = 8,      /* nothing survives */
   GILLCURTAIN_TOO_BIG = 9,      /* the small subtable would be over 65,536 bytes */
-  GILLCURTAIN_NO_ROOM = 10      /* `out` is too short; the length is what is needed */
+  GILLCURTAIN_NO_ROOM = 10,     /* `out` is too short; the length is what is needed */
+  GILLCURTAIN_PAST_RULE = 12    /* a record's sequence index is not below its rule's input count */
 };
 
 /* The stack, in bytes, that a call may use at most: 2.75 MiB. hosts/c/limits.c

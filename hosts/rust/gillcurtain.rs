@@ -16,7 +16,7 @@ pub const PAIR: u64 = 4;
 /// fonts come from anywhere. With too little, the call ends the process at the stack's guard page.
 pub const STACK: usize = 11 << 18;
 
-/// What comes back. Where several refusals apply, the first of them is given.
+/// What comes back. Where several refusals apply, the first of them in this order is given.
 #[derive(Clone, Copy, Debug, PartialEq, Eq)]
 pub enum Answer {
     /// The small subtable has so many bytes, and stands at the front of the buffer.
@@ -31,6 +31,8 @@ pub enum Answer {
     /// pair sets, coverages and class tables.
     Malformed(usize),
     Device,
+    /// A record's sequence index is not below its rule's input count.
+    PastRule,
     Nothing,
     TooBig,
     /// The buffer is too short; so many bytes are needed.
@@ -89,7 +91,8 @@ fn answer(number: u64, length: usize) -> Answer {
         8 => Answer::Nothing,
         9 => Answer::TooBig,
         10 => Answer::NoRoom(length),
-        _ => unreachable!("the call gives the numbers 0 to 10"),
+        12 => Answer::PastRule,
+        _ => unreachable!("the call gives the numbers 0 to 10 and 12"),
     }
 }
 
@@ -108,6 +111,7 @@ impl Answer {
             Answer::Nothing => 8,
             Answer::TooBig => 9,
             Answer::NoRoom(_) => 10,
+            Answer::PastRule => 12,
         }
     }
 }
@@ -128,6 +132,7 @@ impl fmt::Display for Answer {
             Answer::LongSource => "the source is over 65,536 bytes",
             Answer::BadFormat => "the kind has no such format",
             Answer::Device => "a value format asks for a device table",
+            Answer::PastRule => "a record points past its rule",
             Answer::Nothing => "nothing survives",
             Answer::TooBig => "the result is over 65,536 bytes",
         };

@@ -28,10 +28,13 @@ ANSWERS = {
          "Lend a buffer of the length returned. Calls only: the program lends 65,536 bytes, which is always enough."),
     11: ("job file faulty (program only)",
          "`tools/job show` says why, and `tools/job make` makes sound ones. Was the file cut, or something added?"),
+    12: ("a record points past its rule",
+         "Its sequence index has to be below the rule's input count; printers hang on such a rule. Mend the font or ask "
+         "its maker; `tools/job show` names the rule and the record."),
 }
 
-# Which answer goes before which.
-ORDER = (11, 1, 2, 3, 4, 5, 6, 7, 8, 9, 10)
+# Which answer goes before which, where several apply.
+ORDER = (11, 1, 2, 3, 4, 5, 6, 7, 12, 8, 9, 10)
 
 # The answers that are given once the source is cut; all others are seen before.
 AFTER_THE_CUT = (0, 8, 9, 10)

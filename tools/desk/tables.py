@@ -125,8 +125,11 @@ def fields(part, shape):
                 if offset:
                     node["parts"] = part.source.reach(node["to"], inside, child_name(part, node)).nodes
         elif name == "record":
-            for at, (place, lookup) in part.take(count, "records", 2):
+            for index, (at, (place, lookup)) in enumerate(part.take(count, "records", 2)):
                 part.add("record", at, {"at": place, "lookup": lookup})
+                if place >= words["input count"]:
+                    part.fault(at, f"record {index}, for lookup {lookup}, has sequence index {place}, and the input "
+                               f"count is {words['input count']}", answer=12)
         elif many and count:
             title = f"{name} {part.source.unit}" + (" after the first" if many == "+" else "")
             part.add(title, part.at, [value for _, (value,) in part.take(count, title)])

@@ -1,4 +1,6 @@
-// Malformed, over the whole source: the header of each kind and format, and through its offsets every part, retained or not.
+// Malformed, over the whole source: the header of each kind and format, and through its offsets every part, retained or not. And records that point past their rule.
+use rules::places_below;
+use sets::crowded;
 use view::below;
 use view::header;
 use wire::Fault;
@@ -8,6 +10,8 @@ use wire::word_at;
 ghost use mathlib.Core.Path.{_≡_};
 ghost use mathlib.Core.Bool.{true, false};
 ghost use Prim.Native.Nat.{_+_, _*_, _<_};
+ghost use Rattle.meaning.specs.Tables.{ruleSet, reaches, classContext, coverContext, context, table};
+ghost use Rattle.meaning.specs.Records.{setsWithin, recordsWithin};
 ghost use Rattle.meaning.specs.Fault.{faultThrough, headerFault, coversFault, contextFault, fault, enough};
 ghost use Rattle.wire.specs.Fault.{faultOf};
 ghost use Rattle.checks.specs.Parts.{faultOfPart, byGlyphFault, byClassFault, ligaturesFault, pairFields, pairsFault};
@@ -207,5 +211,91 @@ pub fn check(kind: usize, src: &[u8]) -> Fault
         2 => check_context(true, src),
         3 => check_ligatures(src),
         _ => check_pairs(src),
+    }
+}
+
+// The places of a source where sets can share rules: `crowded` asks for no more.
+const PLACES: usize = 65536;
+
+// Whether no record of the rules of `n` sets, whose offsets stand from `slot` on, points past its rule, where the sets share rules: each rule is asked once.
+fn shared_within(chained: bool, src: &[u8], slot: usize, n: usize) -> bool
+    requires { ⌜ (slot < 65536) × (n < 65536) ⌝ }
+    ensures { λ r. ⌜ r ≡ setsWithin (reaches (ruleSet chained (now (src .entry))) (now (src .entry)) 0 slot n) ⌝ }
+{
+    let mut marks = [0u8; PLACES];
+    gsubgpos::sets_within(chained, src, slot, n, &mut marks)
+}
+
+// The same of any sets. Marks are made only where rules are shared, since clearing them takes longer than most tables do.
+fn sets_within(chained: bool, src: &[u8], slot: usize, n: usize) -> bool
+    requires { ⌜ (slot < 65536) × (n < 65536) ⌝ }
+    ensures { λ r. ⌜ r ≡ setsWithin (reaches (ruleSet chained (now (src .entry))) (now (src .entry)) 0 slot n) ⌝ }
+{
+    if crowded(src, slot, n) {
+        return shared_within(chained, src, slot, n);
+    }
+    let mut no_marks = [0u8; 1];
+    gsubgpos::sets_within(chained, src, slot, n, &mut no_marks)
+}
+
+// Whether no record of a plain context of format 3 points past its input.
+fn plain_covers_within(src: &[u8]) -> bool
+    ensures { λ r. ⌜ r ≡ recordsWithin (coverContext false (now (src .entry))) ⌝ }
+{
+    let n = word_at(src, 2);
+    places_below(src, 6 + 2 * n, word_at(src, 4), n)
+}
+
+// Whether no record of a chained context of format 3 points past its input.
+fn chained_covers_within(src: &[u8]) -> bool
+    ensures { λ r. ⌜ r ≡ recordsWithin (coverContext true (now (src .entry))) ⌝ }
+{
+    let input = 4 + 2 * word_at(src, 2);
+    let n = word_at(src, input);
+    let ahead = input + 2 + 2 * n;
+    let records = ahead + 2 + 2 * word_at(src, ahead);
+    places_below(src, records + 2, word_at(src, records), n)
+}
+
+// The same of format 3, plain or chained.
+fn covers_within(chained: bool, src: &[u8]) -> bool
+    ensures { λ r. ⌜ r ≡ recordsWithin (coverContext chained (now (src .entry))) ⌝ }
+{
+    if chained {
+        return chained_covers_within(src);
+    }
+    plain_covers_within(src)
+}
+
+// The same of format 2.
+fn by_class_within(chained: bool, src: &[u8]) -> bool
+    ensures { λ r. ⌜ r ≡ recordsWithin (classContext chained (now (src .entry))) ⌝ }
+{
+    if chained {
+        return sets_within(true, src, 12, header(src, 10));
+    }
+    sets_within(false, src, 8, header(src, 6))
+}
+
+// The same of a context, plain or chained, by its format.
+fn context_within(chained: bool, src: &[u8]) -> bool
+    ensures { λ r. ⌜ r ≡ recordsWithin (context chained (now (src .entry))) ⌝ }
+{
+    let format = header(src, 0);
+    match format {
+        1 => sets_within(chained, src, 6, header(src, 4)),
+        2 => by_class_within(chained, src),
+        _ => covers_within(chained, src),
+    }
+}
+
+// Whether no record of a source of this kind points past its rule, retained or not: its place is below the count of the rule's input. Only contexts have records.
+pub fn records_within(kind: usize, src: &[u8]) -> bool
+    ensures { λ r. ⌜ r ≡ recordsWithin (table kind (now (src .entry))) ⌝ }
+{
+    match kind {
+        1 => context_within(false, src),
+        2 => context_within(true, src),
+        _ => true,
     }
 }

@@ -4,25 +4,33 @@
 use rules::check_rule;
 use rules::rule_size;
 use rules::rule_survives;
+use rules::rule_within;
 use rules::write_rule;
 use wire::Fault;
+use wire::byte;
 use wire::inside;
 use wire::lowest;
 use wire::put;
+use wire::put_byte;
 use wire::word_at;
 ghost use mathlib.Core.Path.{_≡_};
+ghost use mathlib.Core.Bool.{cond};
 ghost use mathlib.Core.List.{[]};
 ghost use Prim.Native.Nat.{_+_, _*_, _≤_, _<_};
 ghost use lib.ListN.{length};
-ghost use Rattle.meaning.specs.Words.{isSome, push};
-ghost use Rattle.meaning.specs.Tables.{ruleSet};
+ghost use lib.Dec.{eqb};
+ghost use Rattle.meaning.specs.Words.{word, isSome, push};
+ghost use Rattle.meaning.specs.Tables.{rule, ruleSet, reaches};
 ghost use Rattle.meaning.specs.Fault.{ruleFault, faultThrough, setFault};
+ghost use Rattle.meaning.specs.Records.{ruleWithin, setsWithin};
 ghost use Rattle.meaning.specs.Cut.{cutSet};
 ghost use Rattle.meaning.specs.Layout.{ruleWords};
+ghost use Rattle.laws.specs.EachLeft.{passes};
 ghost use Rattle.laws.specs.Written.{Wrote};
 ghost use Rattle.laws.specs.Members.{wordsLeft, sized};
 ghost use Rattle.wire.specs.Fault.{faultOf};
 ghost use Rattle.gsubgpos.specs.Left.{NumbersServe, AllServe, mapsOf, setLeft, ruleAt, rulesLeft};
+ghost use Rattle.gsubgpos.specs.Within.{Marked};
 
 // The lowest fault among the rules that the `n` offsets of the set at `at` reach.
 fn check_rules(chained: bool, src: &[u8], at: usize, n: usize) -> Fault
@@ -55,6 +63,67 @@ pub fn check_set(chained: bool, src: &[u8], at: usize) -> Fault
         return Fault::At(at);
     }
     check_rules(chained, src, at, n)
+}
+
+// How many offsets to rules the set at `set` has; where the set's offset is null there is none.
+fn rules_in(src: &[u8], set: usize) -> usize
+    ensures { λ r. ⌜ (r ≡ cond (eqb set 0) 0 (word (now (src .entry)) set)) × (r < 65536) ⌝ }
+{
+    if set == 0 {
+        return 0;
+    }
+    word_at(src, set)
+}
+
+// Whether no record of the rule at `at` points past it. A rule whose place has a mark was asked before; one that is good gets a mark, where `marks` has room for it.
+fn within_once(chained: bool, src: &[u8], at: usize, marks: &mut [u8]) -> bool
+    requires { ⌜ (at < 0x100_0000_0000) × Marked chained (now src) (now marks) ⌝ }
+    ensures { λ r. ⌜ (r ≡ ruleWithin (rule chained (now (src .entry)) at)) × Marked chained (now (src .entry)) (now (marks .exit)) ⌝ }
+{
+    if byte(marks, at) != 0 {
+        return true;
+    }
+    if !rule_within(chained, src, at) {
+        return false;
+    }
+    put_byte(marks, at, 1);
+    true
+}
+
+// The same of the rule that the offset at `slot` reaches from `base`; a null offset reaches none.
+fn reached_within(chained: bool, src: &[u8], base: usize, slot: usize, marks: &mut [u8]) -> bool
+    requires { ⌜ (base < 65536) × Marked chained (now src) (now marks) ⌝ }
+    ensures { λ r. ⌜ (r ≡ passes ruleWithin (rule chained (now (src .entry))) (now (src .entry)) base slot) × Marked chained (now (src .entry)) (now (marks .exit)) ⌝ }
+{
+    let offset = word_at(src, slot);
+    if offset == 0 {
+        return true;
+    }
+    within_once(chained, src, base + offset, marks)
+}
+
+// Whether no record of the rules of `n` sets, whose offsets stand from `slot` on, points past its rule: both loops are left at the first that does.
+// `marks` has a mark at no place but those of rules that are good; where it is as long as the source each rule is asked once, however many sets share it.
+pub fn sets_within(chained: bool, src: &[u8], slot: usize, n: usize, marks: &mut [u8]) -> bool
+    requires { ⌜ (slot < 65536) × (n < 65536) × Marked chained (now src) (now marks) ⌝ }
+    ensures { λ r. ⌜ r ≡ setsWithin (reaches (ruleSet chained (now (src .entry))) (now (src .entry)) 0 slot n) ⌝ }
+{
+    let mut within = true;
+    let mut i = 0;
+    'sets: while i < n {
+        let set = word_at(src, slot + 2 * i);
+        let rules = rules_in(src, set);
+        let mut k = 0;
+        while k < rules {
+            if !reached_within(chained, src, set, set + 2 + 2 * k, marks) {
+                within = false;
+                break 'sets;
+            }
+            k += 1;
+        }
+        i += 1;
+    }
+    within
 }
 
 // Whether something is left of the rule that the offset at `slot` reaches from `base`; a null offset reaches none.

@@ -29,6 +29,7 @@ use Rattle.promises.specs.Ligatures.{cutLigated, Closed}
 use Rattle.promises.specs.Same as Same
 use Rattle.promises.specs.Places.{parts, Faulty, Any, Lowest}
 use Rattle.promises.specs.LowestPlace.{malformed-lowest, malformed-part}
+use Rattle.promises.specs.Within.{Within, kept-within, not-past}
 use Rattle.promises.specs.Survives.{survives}
 use Rattle.promises.specs.Refusals.{Call, answer, plain, left?, refusals, first, NoneOf, Meets, answer-meets, meets-once, given-exactly, kept-exactly, refused-untouched, refused-length, malformed-place, no-room, kept-length, kept-bytes, buffer-length, empty-on-good}
 
@@ -63,7 +64,7 @@ meets = answer-meets
 module _ (c : Call) where
   -- Demand 1.
 
-  -- `first-refusal`: the number is that of the first refusal of document 01's table that applies, and 0 if none does.
+  -- `first-refusal`: the number is that of the first refusal, in the written order, that applies, and 0 if none does.
   pub first-refusal : (answer c) .number ≡ first (refusals c)
   first-refusal = answer-meets c .number
 
@@ -112,8 +113,8 @@ module _ (c : Call) where
   pub kept-is-plain : (answer c) .number ≡ 0 → (answer c) .out ≡ plain c ++ drop ((answer c) .len) (c .buffer)
   kept-is-plain = kept-bytes c
 
-  -- `empty-exactly`: on good input, where none of the refusals 1 to 7 applies, the answer is 8 exactly if nothing survives, said without `cut` in Survives.antt.
-  pub empty-exactly : NoneOf (take 7 (refusals c)) → eqb ((answer c) .number) 8 ≡ not (survives (mapEntries (c .glyphs)) (table (c .kind) (c .source)))
+  -- `empty-exactly`: on good input, where none of the refusals before it applies, the answer is 8 exactly if nothing survives, said without `cut` in Survives.antt.
+  pub empty-exactly : NoneOf (take 8 (refusals c)) → eqb ((answer c) .number) 8 ≡ not (survives (mapEntries (c .glyphs)) (table (c .kind) (c .source)))
   empty-exactly = empty-on-good c
 
 -- What is kept, read as a source of the same kind. A slice's contents are bytes; the definitions take lists of any numbers, so it is asked for.
@@ -168,3 +169,17 @@ module _ (c : Call) (bytes : BytesOf c) (kept : (answer c) .number ≡ 0) where
 -- The condition on ligatures is needed: without it the small table forms another ligature than the source.
 pub closed-needed : (Matches.less-one .number ≡ 0) × (ligate (table 3 Matches.two-ligatures) 5 (6 ∷ 7 ∷ []) ≡ some (20, 3)) × (ligate (table 3 (left Matches.less-one)) 0 (1 ∷ 2 ∷ []) ≡ some (3, 2))
 closed-needed = Matches.condition-needed
+
+-- Records past their rule.
+
+module _ (c : Call) (bytes : BytesOf c) (kept : (answer c) .number ≡ 0) where
+  -- `small-within`: no record of what is kept points past its rule.
+  pub small-within : Within (small-says c)
+  small-within = kept-within c kept (small-says c) (reads-back c bytes kept .0)
+
+  -- So what is kept, taken as a source of the same kind, is not answered 12, whatever the maps and the buffer are.
+  abbrev pub again : List ℕ → List ℕ → List ℕ → Call
+  again glyphs lookups buffer = record { kind = c .kind; source = left (answer c); glyphs = glyphs; lookups = lookups; buffer = buffer }
+
+  pub again-not-past : (glyphs lookups buffer : List ℕ) → (answer (again glyphs lookups buffer)) .number ≡ 12 → ⊥
+  again-not-past glyphs lookups buffer = not-past (again glyphs lookups buffer) small-within

@@ -1,22 +1,24 @@
--- Demand 1: which number is given exactly when, in 01's order; what a refusal leaves; and that nothing else can meet the public statement.
+-- Demand 1: which number is given exactly when, in the written order of documents 01 and 02; what a refusal leaves; and that nothing else can meet the public statement.
 use Prim.Native.Nat.{ℕ, zero, suc, _≤_, _<_}
 use mathlib.Core.Path.{_≡_, refl, sym, ap, _∙_}
 use mathlib.Core.Bool.{Bool, true, false, cond, _&&_, _||_, not, true≢false}
 use mathlib.Core.Option.{Option, none, some, Option·getD}
-use mathlib.Core.List.{List, [], _∷_, _++_}
+use mathlib.Core.List.{List, [], _∷_, _++_, map}
 use native.Mathlib.Omega.{arith}
 use lib.ListN.{length, take, drop, length-append, length-drop}
 use lib.Dec.{leb, ltb, eqb}
-use borrow.Author.Tests.{ltb-true, ltb-false, ne-eqb}
-use Rattle.meaning.specs.Words.{word, inside, isSome}
+use borrow.Author.Tests.{ltb-true, ltb-false, eqb-true, eqb-false, eq-eqb, ne-eqb, not-false}
+use Rattle.meaning.specs.Words.{word, inside, isSome, member}
 use Rattle.meaning.specs.Maps.{mapEntries, goodGlyphs, goodLookups}
 use Rattle.meaning.specs.Tables.{Table, table}
 use Rattle.meaning.specs.Fault.{fault}
+use Rattle.meaning.specs.Records.{recordsWithin}
 use Rattle.meaning.specs.Cut.{cut}
 use Rattle.meaning.specs.Layout.{layout}
 use Rattle.meaning.specs.Subset.{Outcome, refused, place, limit, goodKind, hasFormat, hasDevice, laidInto, written, subset}
 use Rattle.laws.specs.Stands.{All}
 use Rattle.laws.specs.CallBack.{subset-is}
+use Rattle.promises.specs.Numbers.{and-left, and-right}
 use Rattle.promises.specs.Survives.{survives}
 use Rattle.promises.specs.CutSurvives.{cut-survives}
 
@@ -44,7 +46,7 @@ layout? (some t) = layout t
 abbrev pub plain : Call → List ℕ
 plain c = layout? (left? c)
 
--- document 01's table: the number of each refusal, and whether it applies to a call, each judged by itself
+-- the table of refusals of documents 01 and 02, in the written order: the number of each, and whether it applies to a call, each judged by itself
 unfoldable pub refusals : Call → List (ℕ × Bool)
 refusals c =
     -- kind not 1 to 4
@@ -61,6 +63,8 @@ refusals c =
     ∷ (6, isSome (fault (c .kind) (c .source)))
     -- pair value format has a bit of 0x00F0
     ∷ (7, eqb (c .kind) 4 && (hasDevice (word (c .source) 4) || hasDevice (word (c .source) 6)))
+    -- a record past its rule
+    ∷ (12, not (recordsWithin (table (c .kind) (c .source))))
     -- nothing survives
     ∷ (8, not (survives (mapEntries (c .glyphs)) (table (c .kind) (c .source))))
     -- the plain layout is over the limit
@@ -78,7 +82,7 @@ first (r ∷ rs) = cond (r .1) (r .0) (first rs)
 unfoldable pub lengthBy : Call → ℕ → ℕ
 lengthBy c n = cond (eqb n 0 || eqb n 10) (length (plain c)) (cond (eqb n 6) (place (c .kind) (c .source)) 0)
 
--- The public statement: the lowest number that applies; the length that goes with it;
+-- The public statement: the first number that applies; the length that goes with it;
 -- the plain layout at the front of the buffer, and the rest of it as it was, where it is kept, and otherwise the buffer as it was.
 pub record Meets (c : Call) (r : Outcome) : Type 0 where
   pub number : r .number ≡ first (refusals c)
@@ -120,7 +124,7 @@ answer-is : (c : Call) → answer c ≡ byNumber c (first (refusals c))
 unfolding refusals first lengthBy byNumber tried
 answer-is c =
     subset-is (c .kind) (c .source) (c .glyphs) (c .lookups) (c .buffer)
-    ∙ tried-is c (take 7 (refusals c)) (drop 7 (refusals c)) (written (c .buffer) (left? c))
+    ∙ tried-is c (take 8 (refusals c)) (drop 8 (refusals c)) (written (c .buffer) (left? c))
     (rw (cut-survives (mapEntries (c .glyphs)) (mapEntries (c .lookups)) (table (c .kind) (c .source))) at (unfolded c (left? c) refl))
 
 -- the call meets the public statement
@@ -139,41 +143,60 @@ meets-once c r q m k = meets-is c r m ∙ sym (meets-is c q k)
 
 -- Which number is given exactly when.
 
--- each number is above the one before, the first above `low`
-abbrev Rising : ℕ → List (ℕ × Bool) → Type 0
-Rising low [] = Unit {0}
-Rising low (r ∷ rs) = (low < r .0) × Rising (r .0) rs
+-- no number is 0, and none stands twice
+abbrev numbers : List (ℕ × Bool) → List ℕ
+numbers rs = map (λ r. r .0) rs
 
--- a number that stands further on in such a list is above `low`
-rising-in : (low : ℕ) (before : List (ℕ × Bool)) (t : ℕ × Bool) (after : List (ℕ × Bool)) → Rising low (before ++ (t ∷ after)) → low < t .0
-rising-in low [] t after h = h .0
-rising-in low (r ∷ before) t after h = let k = rising-in (r .0) before t after (h .1) in omega arith
+unfoldable apart : List (ℕ × Bool) → Bool
+apart [] = true
+apart (r ∷ rs) = not (eqb (r .0) 0) && (not (member (r .0) (numbers rs)) && apart rs)
+
+member-here : (before : List (ℕ × Bool)) (n : ℕ) (b : Bool) (after : List (ℕ × Bool)) → member n (numbers (before ++ ((n, b) ∷ after))) ≡ true
+unfolding member
+member-here [] n b after = rw (eq-eqb n n refl)
+member-here (r ∷ before) n b after = step (eqb (r .0) n) (member-here before n b after)
+  where
+    step : (t : Bool) → member n (numbers (before ++ ((n, b) ∷ after))) ≡ true → t || member n (numbers (before ++ ((n, b) ∷ after))) ≡ true
+    step true h = refl
+    step false h = h
 
 -- a number that is not in such a list is not its first
-first-not : (low n : ℕ) (rs : List (ℕ × Bool)) → Rising low rs → n ≤ low → 0 < n → first rs ≡ n → ⊥
-unfolding first
-first-not low n [] h l z e = omega arith
-first-not low n (r ∷ rs) h l z e = step (r .1) e (first-not (r .0) n rs (h .1) (omega (arith, h .0)) z)
+first-not : (n : ℕ) (rs : List (ℕ × Bool)) → member n (numbers rs) ≡ false → (n ≡ 0 → ⊥) → first rs ≡ n → ⊥
+unfolding first member
+first-not n [] h z e = z (sym e)
+first-not n (r ∷ rs) h z e = step (r .1) (eqb (r .0) n) refl h e (λ k. first-not n rs k z)
   where
-    step : (b : Bool) → cond b (r .0) (first rs) ≡ n → (first rs ≡ n → ⊥) → ⊥
-    step true q k = omega (arith, h .0)
-    step false q k = k q
+    step : (b t : Bool) → eqb (r .0) n ≡ t → t || member n (numbers rs) ≡ false → cond b (r .0) (first rs) ≡ n → (member n (numbers rs) ≡ false → first rs ≡ n → ⊥) → ⊥
+    step b true q k f i = true≢false k
+    step true false q k f i = eqb-false (r .0) n q f
+    step false false q k f i = i k f
 
 -- none of these applies
 abbrev pub NoneOf : List (ℕ × Bool) → Type 0
 NoneOf = All (λ r. r .1 ≡ false)
 
-given : (low : ℕ) (before : List (ℕ × Bool)) (n : ℕ) (b : Bool) (after : List (ℕ × Bool)) → Rising low (before ++ ((n, b) ∷ after)) → first (before ++ ((n, b) ∷ after)) ≡ n → (b ≡ true) × NoneOf before
-unfolding first
-given low [] n true after h e = (refl, tt)
-given low [] n false after h e = absurd (first-not n n after (h .1) (omega arith) (omega (arith, h .0)) e)
-given low (r ∷ before) n b after h e = step (r .1) refl e (given (r .0) before n b after (h .1))
+not-zero : (n : ℕ) → not (eqb n 0) ≡ true → n ≡ 0 → ⊥
+not-zero n h e = true≢false (sym h ∙ rw (eq-eqb n 0 e))
+
+not-in : (b : Bool) → not b ≡ true → b ≡ false
+not-in true h = sym h
+not-in false h = refl
+
+given : (before : List (ℕ × Bool)) (n : ℕ) (b : Bool) (after : List (ℕ × Bool)) → apart (before ++ ((n, b) ∷ after)) ≡ true → first (before ++ ((n, b) ∷ after)) ≡ n → (b ≡ true) × NoneOf before
+unfolding first apart
+given [] n true after h e = (refl, tt)
+given [] n false after h e =
+    absurd (first-not n after (not-in (member n (numbers after)) (and-left (not (member n (numbers after))) _ (and-right (not (eqb n 0)) _ h))) (not-zero n (and-left (not (eqb n 0)) _ h)) e)
+given (r ∷ before) n b after h e = step (r .1) refl e (given before n b after (and-right (not (member (r .0) (numbers rest))) _ (and-right (not (eqb (r .0) 0)) _ h)))
   where
     rest : List (ℕ × Bool)
     rest = before ++ ((n, b) ∷ after)
 
+    fresh : member (r .0) (numbers rest) ≡ false
+    fresh = not-in (member (r .0) (numbers rest)) (and-left (not (member (r .0) (numbers rest))) _ (and-right (not (eqb (r .0) 0)) _ h))
+
     step : (t : Bool) → r .1 ≡ t → cond t (r .0) (first rest) ≡ n → (first rest ≡ n → (b ≡ true) × NoneOf before) → (b ≡ true) × ((r .1 ≡ false) × NoneOf before)
-    step true f q k = absurd (omega (arith, rising-in (r .0) before (n, b) after (h .1)))
+    step true f q k = absurd (true≢false (sym (member-here before n b after) ∙ ap (λ (m : ℕ). member m (numbers rest)) (sym q) ∙ fresh))
     step false f q k = (k q .0, (f, k q .1))
 
 gives : (before : List (ℕ × Bool)) (n : ℕ) (b : Bool) (after : List (ℕ × Bool)) → b ≡ true → NoneOf before → first (before ++ ((n, b) ∷ after)) ≡ n
@@ -181,13 +204,13 @@ unfolding first
 gives [] n b after e h = rw e
 gives (r ∷ before) n b after e h = rw (h .0) (gives before n b after e (h .1))
 
-kept-first : (low : ℕ) (rs : List (ℕ × Bool)) → Rising low rs → first rs ≡ 0 → NoneOf rs
-unfolding first
-kept-first low [] h e = tt
-kept-first low (r ∷ rs) h e = step (r .1) refl e (kept-first (r .0) rs (h .1))
+kept-first : (rs : List (ℕ × Bool)) → apart rs ≡ true → first rs ≡ 0 → NoneOf rs
+unfolding first apart
+kept-first [] h e = tt
+kept-first (r ∷ rs) h e = step (r .1) refl e (kept-first rs (and-right (not (member (r .0) (numbers rs))) _ (and-right (not (eqb (r .0) 0)) _ h)))
   where
     step : (t : Bool) → r .1 ≡ t → cond t (r .0) (first rs) ≡ 0 → (first rs ≡ 0 → NoneOf rs) → (r .1 ≡ false) × NoneOf rs
-    step true f q k = absurd (omega (arith, h .0))
+    step true f q k = absurd (not-zero (r .0) (and-left (not (eqb (r .0) 0)) _ h) q)
     step false f q k = (f, k q)
 
 first-kept : (rs : List (ℕ × Bool)) → NoneOf rs → first rs ≡ 0
@@ -195,9 +218,9 @@ unfolding first
 first-kept [] h = refl
 first-kept (r ∷ rs) h = rw (h .0) (first-kept rs (h .1))
 
-refusals-rise : (c : Call) → Rising 0 (refusals c)
-unfolding refusals
-refusals-rise c = (omega arith, (omega arith, (omega arith, (omega arith, (omega arith, (omega arith, (omega arith, (omega arith, (omega arith, (omega arith, tt))))))))))
+refusals-apart : (c : Call) → apart (refusals c) ≡ true
+unfolding refusals apart member
+refusals-apart c = refl
 
 module _ (c : Call) where
   -- a number of the table is given exactly if it applies and none before it does
@@ -205,13 +228,13 @@ module _ (c : Call) where
       → ((answer c) .number ≡ n → (applies ≡ true) × NoneOf before) × (applies ≡ true → NoneOf before → (answer c) .number ≡ n)
   given-exactly before n b after e =
       let f = answer-meets c .number ∙ ap first e in
-      (λ q. given 0 before n b after (rw e at (refusals-rise c)) (sym f ∙ q), λ t h. f ∙ gives before n b after t h)
+      (λ q. given before n b after (rw e at (refusals-apart c)) (sym f ∙ q), λ t h. f ∙ gives before n b after t h)
 
   -- it is kept exactly if none applies
   pub kept-exactly : ((answer c) .number ≡ 0 → NoneOf (refusals c)) × (NoneOf (refusals c) → (answer c) .number ≡ 0)
   kept-exactly =
       let f = answer-meets c .number in
-      (λ q. kept-first 0 (refusals c) (refusals-rise c) (sym f ∙ q), λ h. f ∙ first-kept (refusals c) h)
+      (λ q. kept-first (refusals c) (refusals-apart c) (sym f ∙ q), λ h. f ∙ first-kept (refusals c) h)
 
   -- a refusal leaves the buffer as it was
   pub refused-untouched : ((answer c) .number ≡ 0 → ⊥) → (answer c) .out ≡ c .buffer
@@ -238,7 +261,7 @@ module _ (c : Call) where
   unfolding refusals lengthBy
   no-room h = (
     answer-meets c .len ∙ rw h,
-    ltb-true (length (c .buffer)) (length (plain c)) (given-exactly (take 9 (refusals c)) 10 (ltb (length (c .buffer)) (length (plain c))) [] refl .0 h .0),
+    ltb-true (length (c .buffer)) (length (plain c)) (given-exactly (take 10 (refusals c)) 10 (ltb (length (c .buffer)) (length (plain c))) [] refl .0 h .0),
   )
 
   -- what is kept: its length is that of the plain layout, which is at most the limit and the buffer
@@ -247,7 +270,7 @@ module _ (c : Call) where
   kept-length h =
       let l : (answer c) .len ≡ length (plain c) = answer-meets c .len ∙ rw h in
       let n = kept-exactly .0 h in
-      let late = n .1 .1 .1 .1 .1 .1 .1 .1 in
+      let late = n .1 .1 .1 .1 .1 .1 .1 .1 .1 in
       (l, omega (arith, ltb-false limit (length (plain c)) (late .0)), omega (arith, ltb-false (length (c .buffer)) (length (plain c)) (late .1 .0)))
 
   -- its bytes are the plain layout, and those past them keep their old content
@@ -264,13 +287,13 @@ module _ (c : Call) where
           omega (arith, ap length (kept-bytes e), length-append (plain c) (drop ((answer c) .len) (c .buffer)), length-drop ((answer c) .len) (c .buffer))
       step (suc n) e = ap length (refused-untouched (λ q. omega arith))
 
-  -- where none of the first seven applies the number is 8 exactly if nothing survives
-  pub empty-on-good : NoneOf (take 7 (refusals c)) → eqb ((answer c) .number) 8 ≡ not (survives (mapEntries (c .glyphs)) (table (c .kind) (c .source)))
+  -- where none of the refusals before it applies the number is 8 exactly if nothing survives
+  pub empty-on-good : NoneOf (take 8 (refusals c)) → eqb ((answer c) .number) 8 ≡ not (survives (mapEntries (c .glyphs)) (table (c .kind) (c .source)))
   unfolding refusals first
   empty-on-good h =
       let r = h .1 .1 .1 .1 .1 .1 in
       ap (λ (n : ℕ). eqb n 8) (answer-meets c .number)
-      ∙ rw (h .0, h .1 .0, h .1 .1 .0, h .1 .1 .1 .0, h .1 .1 .1 .1 .0, h .1 .1 .1 .1 .1 .0, r .0)
+      ∙ rw (h .0, h .1 .0, h .1 .1 .0, h .1 .1 .1 .0, h .1 .1 .1 .1 .0, h .1 .1 .1 .1 .1 .0, r .0, r .1 .0)
       (step (survives (mapEntries (c .glyphs)) (table (c .kind) (c .source))) (ltb limit (length (plain c))) (ltb (length (c .buffer)) (length (plain c))))
     where
       step : (t big short : Bool) → eqb (cond (not t) 8 (cond big 9 (cond short 10 0))) 8 ≡ not t

@@ -1,3 +1,4 @@
 pub mod Records
 pub mod Parts
+pub mod Within
 pub mod Rules

@@ -12,6 +12,7 @@ use Rattle.meaning.specs.Words.{word, inside, isSome}
 use Rattle.meaning.specs.Maps.{mapEntries, goodGlyphs, goodLookups}
 use Rattle.meaning.specs.Tables.{Table, table}
 use Rattle.meaning.specs.Fault.{fault}
+use Rattle.meaning.specs.Records.{recordsWithin}
 use Rattle.meaning.specs.Cut.{cut}
 use Rattle.meaning.specs.Layout.{layout}
 use Rattle.meaning.specs.Subset.{Outcome, refused, limit, goodKind, hasFormat, hasDevice, laidInto, written, subset}
@@ -19,7 +20,7 @@ use Rattle.laws.specs.CallBack.{subset-is}
 use Rattle.subset.proofs.Near.{place-near}
 use Rattle.subset.specs.Answers.{numberOf, lengthOf, outcome, decoded}
 use Rattle.subset.specs.declared.Answer.{Answer}
-use Rattle.subset.specs.declared.Answer.the-variants.{Kept, BadKind, BadGlyphs, BadLookups, LongSource, BadFormat, Malformed, Device, Nothing, TooBig, NoRoom, BadJob}
+use Rattle.subset.specs.declared.Answer.the-variants.{Kept, BadKind, BadGlyphs, BadLookups, LongSource, BadFormat, Malformed, Device, PastRule, Nothing, TooBig, NoRoom, BadJob}
 
 -- the length, a place or a number of bytes, is not over twice the highest offset
 record Short (r : Outcome) : Type 0 where
@@ -59,10 +60,11 @@ subset-short kind s g l out bytes =
     (or-refused (ltb limit (length s)) out 4
     (or-refused (inside s 0 2 && not (hasFormat kind (word s 0))) out 5
     (or-short (isSome (fault kind s)) (record { most = place-near s bytes kind })
-    (or-refused (eqb kind 4 && (hasDevice (word s 4) || hasDevice (word s 6))) out 7 (written-short out (cut (mapEntries g) (mapEntries l) (table kind s))))))))))
+    (or-refused (eqb kind 4 && (hasDevice (word s 4) || hasDevice (word s 6))) out 7
+    (or-refused (not (recordsWithin (table kind s))) out 12 (written-short out (cut (mapEntries g) (mapEntries l) (table kind s)))))))))))
 
--- no number is over 11
-pub number-most : (a : Answer) → numberOf a ≤ 11
+-- no number is over 12
+pub number-most : (a : Answer) → numberOf a ≤ 12
 number-most (Kept n) = omega arith
 number-most BadKind = omega arith
 number-most BadGlyphs = omega arith
@@ -71,6 +73,7 @@ number-most LongSource = omega arith
 number-most BadFormat = omega arith
 number-most (Malformed p) = omega arith
 number-most Device = omega arith
+number-most PastRule = omega arith
 number-most Nothing = omega arith
 number-most TooBig = omega arith
 number-most (NoRoom n) = omega arith

@@ -1,4 +1,4 @@
--- The ways through the call: each refusal in 01's order, and what is known past them all.
+-- The ways through the call: each refusal in the written order, and what is known past them all.
 use Prim.Native.Nat.{ℕ, _≤_, _<_}
 use mathlib.Core.Path.{_≡_, refl, sym, ap, _∙_}
 use mathlib.Core.Bool.{Bool, true, false, _&&_, _||_, not, true≢false}
@@ -11,6 +11,7 @@ use Rattle.meaning.specs.Words.{word, inside, isSome}
 use Rattle.meaning.specs.Maps.{mapEntries, goodGlyphs, goodLookups}
 use Rattle.meaning.specs.Tables.{table}
 use Rattle.meaning.specs.Fault.{contextFault, fault}
+use Rattle.meaning.specs.Records.{recordsWithin}
 use Rattle.meaning.specs.Cut.{cut}
 use Rattle.meaning.specs.Subset.{refused, limit, goodKind, hasFormat, hasDevice, written, subset}
 use Rattle.laws.specs.CallBack.{subset-is}
@@ -69,13 +70,18 @@ module _ (kind : ℕ) (s g l out : List ℕ) where
       unfolding isSome
       at-device h = rw (subset-is kind s g l out, t .good-kind, t .good-glyphs, t .good-lookups, le-ltb limit (length s) (t .short), t .format, f, h)
 
-      -- none applies: what was laid is the call's outcome
-      pub at-end : eqb kind 4 && (hasDevice (word s 4) || hasDevice (word s 6)) ≡ false → (r : Laid) {x : Answer} {after : List ℕ}
-          → outcomeOf r after ≡ written out (cut (mapEntries g) (mapEntries l) (table kind s)) → x ≡ answerOf r → outcome x after ≡ subset kind s g l out
-      unfolding isSome
-      at-end h r {x} {after} i j =
-          ap (λ (y : Answer). outcome y after) j ∙ same-outcome r after ∙ i
-          ∙ rw (subset-is kind s g l out, t .good-kind, t .good-glyphs, t .good-lookups, le-ltb limit (length s) (t .short), t .format, f, h)
+      module _ (h : eqb kind 4 && (hasDevice (word s 4) || hasDevice (word s 6)) ≡ false) where
+        pub at-past : recordsWithin (table kind s) ≡ false → refused out 12 ≡ subset kind s g l out
+        unfolding isSome
+        at-past w = rw (subset-is kind s g l out, t .good-kind, t .good-glyphs, t .good-lookups, le-ltb limit (length s) (t .short), t .format, f, h, w)
+
+        -- none applies: what was laid is the call's outcome
+        pub at-end : recordsWithin (table kind s) ≡ true → (r : Laid) {x : Answer} {after : List ℕ}
+            → outcomeOf r after ≡ written out (cut (mapEntries g) (mapEntries l) (table kind s)) → x ≡ answerOf r → outcome x after ≡ subset kind s g l out
+        unfolding isSome
+        at-end w r {x} {after} i j =
+            ap (λ (y : Answer). outcome y after) j ∙ same-outcome r after ∙ i
+            ∙ rw (subset-is kind s g l out, t .good-kind, t .good-glyphs, t .good-lookups, le-ltb limit (length s) (t .short), t .format, f, h, w)
 
 -- What the cutting of a sound source asks, by its kind.
 module _ (kind : ℕ) {s g l : List ℕ} (c : Cuts (fault kind s) s g l) where

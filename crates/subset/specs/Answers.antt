@@ -1,4 +1,4 @@
--- The answers, as 01's number, length and buffer.
+-- The answers, as the documents' number, length and buffer.
 use Prim.Native.Nat.{ℕ, _/_, _%_}
 use mathlib.Core.Path.{_≡_, refl}
 use mathlib.Core.List.{List}
@@ -7,9 +7,9 @@ use Rattle.room.specs.Laid.{outcomeOf}
 use Rattle.room.specs.declared.Laid.{Laid}
 use Rattle.room.specs.declared.Laid.the-variants as laid
 use Rattle.subset.specs.declared.Answer.{Answer}
-use Rattle.subset.specs.declared.Answer.the-variants.{Kept, BadKind, BadGlyphs, BadLookups, LongSource, BadFormat, Malformed, Device, Nothing, TooBig, NoRoom, BadJob}
+use Rattle.subset.specs.declared.Answer.the-variants.{Kept, BadKind, BadGlyphs, BadLookups, LongSource, BadFormat, Malformed, Device, PastRule, Nothing, TooBig, NoRoom, BadJob}
 
--- 01's number for each answer
+-- the documents' number for each answer
 abbrev pub numberOf : Answer → ℕ
 numberOf (Kept n) = 0
 numberOf BadKind = 1
@@ -19,6 +19,7 @@ numberOf LongSource = 4
 numberOf BadFormat = 5
 numberOf (Malformed p) = 6
 numberOf Device = 7
+numberOf PastRule = 12
 numberOf Nothing = 8
 numberOf TooBig = 9
 numberOf (NoRoom n) = 10
@@ -34,6 +35,7 @@ lengthOf LongSource = 0
 lengthOf BadFormat = 0
 lengthOf (Malformed p) = p
 lengthOf Device = 0
+lengthOf PastRule = 0
 lengthOf Nothing = 0
 lengthOf TooBig = 0
 lengthOf (NoRoom n) = n

@@ -1,6 +1,7 @@
-// The call: a kind, a source, a glyph map, a lookup map and a lent buffer, and the lowest of document 01's answers that applies.
+// The call: a kind, a source, a glyph map, a lookup map and a lent buffer, and the first answer that applies, in the written order of documents 01 and 02.
 use by_class::by_class;
 use checks::check;
+use checks::records_within;
 use glyph_tables::SOME_NUMBERS;
 use glyph_tables::Sort;
 use glyph_tables::cut_glyphs;
@@ -32,7 +33,7 @@ ghost use Rattle.maps.specs.Below.{allBelow, Rises};
 ghost use Rattle.subset.specs.Answers.{numberOf, lengthOf, outcome, decoded, answerOf};
 ghost use Rattle.subset.specs.Asked.{Cuts, CutsByClass, CutsListed};
 
-// The answers of document 01. With `Kept` comes the number of bytes written, with `Malformed` the lowest start among the faulty parts, and with `NoRoom` the length needed; the length of any other is 0.
+// The answers of documents 01 and 02, in the order in which they are tried. With `Kept` comes the number of bytes written, with `Malformed` the lowest start among the faulty parts, and with `NoRoom` the length needed; the length of any other is 0.
 // `BadJob` is given by the label job alone.
 pub enum Answer {
     Kept(usize),
@@ -43,6 +44,7 @@ pub enum Answer {
     BadFormat,
     Malformed(usize),
     Device,
+    PastRule,
     Nothing,
     TooBig,
     NoRoom(usize),
@@ -325,7 +327,7 @@ fn answer_for(laid: Laid) -> Answer
     }
 }
 
-// The call: what is left of a source of this kind under a glyph map and a lookup map, laid into the buffer, or the lowest of document 01's refusals that applies.
+// The call: what is left of a source of this kind under a glyph map and a lookup map, laid into the buffer, or the first of the refusals that applies, in their written order: 1 to 7, 12, 8 to 10.
 // A refusal leaves the buffer untouched, and bytes past those that are kept keep their old content.
 pub fn subset(kind: usize, source: &[u8], glyphs: &[u8], lookups: &[u8], out: &mut [u8]) -> Answer
     ensures { λ r. ⌜ outcome r (now (out .exit)) ≡ subset kind (now (source .entry)) (now (glyphs .entry)) (now (lookups .entry)) (now (out .entry)) ⌝ }
@@ -351,10 +353,13 @@ pub fn subset(kind: usize, source: &[u8], glyphs: &[u8], lookups: &[u8], out: &m
     if pair_device(kind, source) {
         return Answer::Device;
     }
+    if !records_within(kind, source) {
+        return Answer::PastRule;
+    }
     answer_for(cut_into(kind, source, glyphs, lookups, out))
 }
 
-// Document 01's number for an answer.
+// The number of an answer in documents 01 and 02.
 pub fn number_of(a: Answer) -> usize
     ensures { λ r. ⌜ r ≡ numberOf a ⌝ }
 {
@@ -367,6 +372,7 @@ pub fn number_of(a: Answer) -> usize
         Answer::BadFormat => 5,
         Answer::Malformed(_) => 6,
         Answer::Device => 7,
+        Answer::PastRule => 12,
         Answer::Nothing => 8,
         Answer::TooBig => 9,
         Answer::NoRoom(_) => 10,
@@ -387,6 +393,7 @@ pub fn length_of(a: Answer) -> usize
         Answer::BadFormat => 0,
         Answer::Malformed(place) => place,
         Answer::Device => 0,
+        Answer::PastRule => 0,
         Answer::Nothing => 0,
         Answer::TooBig => 0,
         Answer::NoRoom(n) => n,
@@ -394,7 +401,7 @@ pub fn length_of(a: Answer) -> usize
     }
 }
 
-// The call for other languages, on numbers and byte slices. The answer is one number: document 01's number times 2^32, plus the length.
+// The call for other languages, on numbers and byte slices. The answer is one number: the answer's number times 2^32, plus its length.
 #[no_mangle]
 pub extern "C" fn gillcurtain_subset(
     kind: u64,

@@ -1,4 +1,4 @@
--- `subset::subset` meets its contract: the refusals in 01's order, each by one test, and what was laid where none applies. Assumes nothing.
+-- `subset::subset` meets its contract: the refusals in their written order, each by one test, and what was laid where none applies. Assumes nothing.
 use mathlib.Core.Path.{_≡_, sym, _∙_}
 use mathlib.Core.Bool.{true}
 use mathlib.Core.Option.{none}
@@ -8,7 +8,7 @@ use Rattle.meaning.specs.Fault.{fault}
 use Rattle.meaning.specs.Subset.{limit, goodKind}
 use Rattle.wire.specs.Reached.{refused, passed}
 use Rattle.wire.specs.Fault.{is-at, is-sound}
-use Rattle.subset.proofs.Judged.{Tested, at-kind, at-glyphs, at-lookups, at-long, at-format, at-malformed, at-device, at-end}
+use Rattle.subset.proofs.Judged.{Tested, at-kind, at-glyphs, at-lookups, at-long, at-format, at-malformed, at-device, at-past, at-end}
 use Rattle.subset.proofs.subset.Statement.{statement}
 use Rattle.subset.proofs.subset.Tie as tie
 
@@ -87,20 +87,29 @@ returns-7 c =
     let a = t .before .before .before .before .before .before .before .before .before .before .before .before .before .before .args in
     at-device (a .kind) (a .source .now) (a .glyphs .now) (a .lookups .now) (a .out .now) (past-tests (t .before)) (no-fault m) (sym (c .before .pair-device .ensures) ∙ c .if6 .taken)
 
-cut-into-requires : tie.Need-cut-into-requires
-cut-into-requires c κs =
-    let m = c .before .before .before in
-    let p = past-tests (m .before .before .before) in
-    record { sound = no-fault m; good-glyphs = p .good-glyphs; good-lookups = p .good-lookups; short = p .short }
-
 returns-8 : tie.Need-returns-8
 returns-8 c =
-    let i = c .before .before .before in
-    let d = i .before .before in
+    let d = c .before .before in
     let m = d .before .before in
     let t = m .before .before in
     let a = t .before .before .before .before .before .before .before .before .before .before .before .before .before .before .args in
-    at-end (a .kind) (a .source .now) (a .glyphs .now) (a .lookups .now) (a .out .now) (past-tests (t .before)) (no-fault m) (sym (d .before .pair-device .ensures) ∙ d .if6 .left) (i .cut-into .result) (i .cut-into .ensures) (c .answer-for .ensures)
+    at-past (a .kind) (a .source .now) (a .glyphs .now) (a .lookups .now) (a .out .now) (past-tests (t .before)) (no-fault m) (sym (d .before .pair-device .ensures) ∙ d .if6 .left) (refused (c .before .records-within .ensures) (c .if7 .taken))
+
+cut-into-requires : tie.Need-cut-into-requires
+cut-into-requires c κs =
+    let m = c .before .before .before .before .before in
+    let p = past-tests (m .before .before .before) in
+    record { sound = no-fault m; good-glyphs = p .good-glyphs; good-lookups = p .good-lookups; short = p .short }
+
+returns-9 : tie.Need-returns-9
+returns-9 c =
+    let i = c .before .before .before in
+    let w = i .before .before in
+    let d = w .before .before in
+    let m = d .before .before in
+    let t = m .before .before in
+    let a = t .before .before .before .before .before .before .before .before .before .before .before .before .before .before .args in
+    at-end (a .kind) (a .source .now) (a .glyphs .now) (a .lookups .now) (a .out .now) (past-tests (t .before)) (no-fault m) (sym (d .before .pair-device .ensures) ∙ d .if6 .left) (passed (w .before .records-within .ensures) (w .if7 .left)) (i .cut-into .result) (i .cut-into .ensures) (c .answer-for .ensures)
 
 pub subset-spec : {M : Type 1} → statement M
 subset-spec =
@@ -121,7 +130,9 @@ subset-spec =
     (λ c. search needs)
     (λ c κs. search needs)
     returns-7
+    (λ c κs. search needs)
+    returns-8
     cut-into-requires
     (λ c κs. search needs)
     (λ c. search needs)
-    returns-8)
+    returns-9)

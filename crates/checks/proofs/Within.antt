@@ -1,0 +1,72 @@
+-- The ways through the pass for records past their rule, by the kind and the format.
+use Prim.Native.Nat.{ℕ, _+_, _*_}
+use mathlib.Core.Path.{_≡_, refl, sym, _∙_}
+use mathlib.Core.Bool.{Bool, true, false, cond}
+use mathlib.Core.List.{List}
+use lib.ListN.{replicate}
+use lib.Dec.{eqb}
+use borrow.Author.Tests.{ne-eqb}
+use Rattle.meaning.specs.Words.{word, entries}
+use Rattle.meaning.specs.Parts.{coverage}
+use Rattle.meaning.specs.Tables.{Table, reach, reaches, ruleSet, ligatureSet, pairSet, fieldCount, classContext, coverContext, context, table}
+use Rattle.meaning.specs.Records.{placesBelow, setsWithin, recordsWithin}
+use Rattle.laws.specs.SoundGood.{reaches-length}
+use Rattle.maps.specs.Below.{zeros-read}
+use Rattle.gsubgpos.specs.Within.{Marked}
+
+-- zeros mark no rule
+pub none-marked : {chained : Bool} {s : List ℕ} (n : ℕ) → Marked chained s (replicate n 0)
+none-marked n = record { good = λ p m. absurd (m (zeros-read n p)) }
+
+-- format 3: one rule, whose records follow its coverages
+module _ (s : List ℕ) {t : Bool} where
+  pub covers-plain : {n k : ℕ} → n ≡ word s 2 → k ≡ word s 4 → t ≡ placesBelow n (entries s (6 + 2 * n) k) → t ≡ recordsWithin (coverContext false s)
+  unfolding coverContext recordsWithin
+  covers-plain e f h = rw (reaches-length (coverage s) s 0 6 (word s 2)) (rw (f, e) at h)
+
+  pub covers-chained : {b i a k : ℕ} → b ≡ word s 2 → i ≡ word s (4 + 2 * b) → a ≡ word s (4 + 2 * b + 2 + 2 * i) → k ≡ word s (4 + 2 * b + 2 + 2 * i + 2 + 2 * a)
+      → t ≡ placesBelow i (entries s (4 + 2 * b + 2 + 2 * i + 2 + 2 * a + 2) k) → t ≡ recordsWithin (coverContext true s)
+  unfolding coverContext recordsWithin
+  covers-chained e f g j h = rw (reaches-length (coverage s) s 0 (4 + 2 * word s 2 + 2) (word s (4 + 2 * word s 2))) (rw (j, g, f, e) at h)
+
+  -- format 2: a plain context has one class table, a chained one has three
+  pub classes-plain : {n : ℕ} → n ≡ word s 6 → t ≡ setsWithin (reaches (ruleSet false s) s 0 8 n) → t ≡ recordsWithin (classContext false s)
+  unfolding classContext recordsWithin
+  classes-plain e h = rw e at h
+
+  pub classes-chained : {n : ℕ} → n ≡ word s 10 → t ≡ setsWithin (reaches (ruleSet true s) s 0 12 n) → t ≡ recordsWithin (classContext true s)
+  unfolding classContext recordsWithin
+  classes-chained e h = rw e at h
+
+-- a context by its format
+module _ (chained : Bool) (s : List ℕ) {t : Bool} {format : ℕ} (e : format ≡ word s 0) where
+  pub within-1 : format ≡ 1 → {n : ℕ} → n ≡ word s 4 → t ≡ setsWithin (reaches (ruleSet chained s) s 0 6 n) → t ≡ recordsWithin (context chained s)
+  unfolding context recordsWithin
+  within-1 f g h = rw (← e, f) (rw g at h)
+
+  pub within-2 : format ≡ 2 → t ≡ recordsWithin (classContext chained s) → t ≡ recordsWithin (context chained s)
+  unfolding context
+  within-2 f h = rw (← e, f) h
+
+  pub within-3 : (format ≡ 1 → ⊥) → (format ≡ 2 → ⊥) → t ≡ recordsWithin (coverContext chained s) → t ≡ recordsWithin (context chained s)
+  unfolding context
+  within-3 f g h = rw (← e, ne-eqb format 1 f, ne-eqb format 2 g) h
+
+-- a source by its kind: ligatures and pairs have no records
+module _ (kind : ℕ) (s : List ℕ) where
+  pub within-plain : kind ≡ 1 → {t : Bool} → t ≡ recordsWithin (context false s) → t ≡ recordsWithin (table kind s)
+  unfolding table
+  within-plain e h = rw e h
+
+  pub within-chain : kind ≡ 2 → {t : Bool} → t ≡ recordsWithin (context true s) → t ≡ recordsWithin (table kind s)
+  unfolding table
+  within-chain e h = rw e h
+
+  pub within-other : (kind ≡ 1 → ⊥) → (kind ≡ 2 → ⊥) → true ≡ recordsWithin (table kind s)
+  unfolding table recordsWithin
+  within-other a b = rw (ne-eqb kind 1 a, ne-eqb kind 2 b) (step (eqb kind 3))
+    where
+      step : (b : Bool) → true ≡ recordsWithin (cond b (Table.ligatures (reach (coverage s) s 0 2) (reaches (ligatureSet s) s 0 6 (word s 4)))
+          (Table.pairs-of (reach (coverage s) s 0 2) (word s 4) (word s 6) (reaches (pairSet (fieldCount (word s 4)) (fieldCount (word s 6)) s) s 0 10 (word s 8))))
+      step true = refl
+      step false = refl
