@@ -22,6 +22,10 @@ covers = 3 ∷ 1 ∷ 22 ∷ 2 ∷ 28 ∷ 34 ∷ 1 ∷ 40 ∷ 1 ∷ 0 ∷ 3 ∷ 1
 abbrev names-null : ℕ → List ℕ
 names-null c = 0x0002 ∷ 0x001C ∷ 0x0000 ∷ 0x0022 ∷ 0x0000 ∷ 0x0001 ∷ 0x000E ∷ 0x0001 ∷ 0x0004 ∷ 0x0001 ∷ c ∷ 0x0001 ∷ 0x0000 ∷ 0x0000 ∷ 0x0001 ∷ 0x0001 ∷ 0x0005 ∷ 0x0002 ∷ 0x0000 ∷ []
 
+-- the same with no lookahead class table, and a rule that names a class ahead
+abbrev ahead-null : ℕ → List ℕ
+ahead-null c = 0x0002 ∷ 0x001C ∷ 0x0000 ∷ 0x0022 ∷ 0x0000 ∷ 0x0001 ∷ 0x000E ∷ 0x0001 ∷ 0x0004 ∷ 0x0000 ∷ 0x0001 ∷ 0x0001 ∷ c ∷ 0x0000 ∷ 0x0001 ∷ 0x0001 ∷ 0x0005 ∷ 0x0002 ∷ 0x0000 ∷ []
+
 -- chained, by glyph: for glyph 5 a rule with backtrack 2 and then 1, away from the place, and the record (0, 4)
 abbrev two-before : List ℕ
 two-before = 1 ∷ 28 ∷ 1 ∷ 8 ∷ 1 ∷ 4 ∷ 2 ∷ 2 ∷ 1 ∷ 1 ∷ 0 ∷ 1 ∷ 0 ∷ 4 ∷ 1 ∷ 1 ∷ 5 ∷ []
@@ -64,6 +68,10 @@ asked =
     ∷ record { kind = 2; source = names-null 0; string = 4 ∷ 5 ∷ []; place = 1; answers = some (1, []) }
     ∷ record { kind = 2; source = names-null 0; string = 5 ∷ []; place = 0; answers = none }
     ∷ record { kind = 2; source = names-null 1; string = 4 ∷ 5 ∷ []; place = 1; answers = none }
+    -- so with a null lookahead class table
+    ∷ record { kind = 2; source = ahead-null 0; string = 5 ∷ 4 ∷ []; place = 0; answers = some (1, []) }
+    ∷ record { kind = 2; source = ahead-null 0; string = 5 ∷ []; place = 0; answers = none }
+    ∷ record { kind = 2; source = ahead-null 1; string = 5 ∷ 4 ∷ []; place = 0; answers = none }
     -- a count of 0 matches nowhere
     ∷ record { kind = 1; source = count-none; string = 5 ∷ []; place = 0; answers = none }
     ∷ record { kind = 1; source = 3 ∷ 0 ∷ 0 ∷ []; string = 5 ∷ []; place = 0; answers = none }
