@@ -2,13 +2,14 @@
 use Prim.Native.Nat.{ℕ, _+_, _*_, _≤_}
 use mathlib.Core.Path.{_≡_, refl, ap, _∙_}
 use mathlib.Core.Bool.{Bool, true, false}
-use mathlib.Core.Option.{Option, none, some}
+use mathlib.Core.Option.{Option}
 use mathlib.Core.List.{List, []}
 use native.Mathlib.Omega.{arith}
 use lib.ListN.{length, length-map}
 use lib.Seq.{sets}
 use Rattle.meaning.specs.Words.{words, bytes2, flat, ascends, keys}
 use Rattle.meaning.specs.Maps.{mapEntries}
+use Rattle.meaning.specs.Parts.{listed}
 use Rattle.meaning.specs.Cut.{classMap?}
 use Rattle.meaning.specs.Layout.{blocks}
 use Rattle.meaning.specs.Subset.{limit, laidInto}
@@ -31,9 +32,8 @@ use Rattle.by_class.specs.Whole.{setBlocks, contextWords, Lays, Writes}
 
 -- a class map can be asked
 map-ascends : (g : List (ℕ × ℕ)) (o : Option (List (ℕ × ℕ))) → ascends (keys (classMap? g o)) ≡ true
-unfolding classMap? keys ascends
-map-ascends g none = refl
-map-ascends g (some cs) = class-map-ascends g cs
+unfolding classMap?
+map-ascends g o = class-map-ascends g (listed o)
 
 pub ranks-ascend : {s : List ℕ} {at : ℕ} {glyphs map : List ℕ} {room : ℕ} → Remakes s at glyphs map room → Ascends map
 ranks-ascend {s} {at} {glyphs} k = rw (k .ranks) (map-ascends (mapEntries glyphs) (tableAt s at))

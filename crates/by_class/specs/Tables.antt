@@ -1,5 +1,5 @@
--- Class tables that may be null: a null offset reads as place 0, and stays null.
-use Prim.Native.Nat.{ℕ, zero, suc, _+_, _*_, _/_, _≤_}
+-- Class tables that may be null: a null offset reads as place 0, and stays null; every glyph holds class 0 there.
+use Prim.Native.Nat.{ℕ, zero, suc, _+_, _*_, _/_, _≤_, _<_}
 use mathlib.Core.Path.{_≡_, refl, sym, ap, _∙_, subst}
 use mathlib.Core.Bool.{Bool, true, false, cond, _&&_}
 use mathlib.Core.Option.{Option, none, some}
@@ -10,11 +10,11 @@ use lib.ListN.{length, take, length-append}
 use lib.Seq.{sets}
 use lib.Dec.{eqb, leb}
 use borrow.Author.Tests.{eq-eqb, ne-eqb, leb-true}
-use Rattle.meaning.specs.Words.{bytes2, flat, twos, threes}
-use Rattle.meaning.specs.Parts.{classes, classesSound}
+use Rattle.meaning.specs.Words.{bytes2, find, flat, keys, twos, threes}
+use Rattle.meaning.specs.Parts.{classes, classesSound, classOf, listed}
 use Rattle.meaning.specs.Maps.{mapEntries, goodGlyphs}
 use Rattle.maps.specs.Forms.{mapOf}
-use Rattle.meaning.specs.Cut.{classMap, classMap?, newClasses, newClasses?}
+use Rattle.meaning.specs.Cut.{insertUp, heldBy, numbered, classMap, classMap?, newClasses, newClasses?}
 use Rattle.meaning.specs.Layout.{block, blocks, classWords, join, runs, spread}
 use Rattle.laws.specs.Stands.{threes-length}
 use Rattle.laws.specs.Left.{entries-length}
@@ -48,12 +48,12 @@ pub record Remakes (s : List ℕ) (at : ℕ) (glyphs map : List ℕ) (room : ℕ
   pub fits : length glyphs ≤ room
 
 module _ (g : List (ℕ × ℕ)) (s : List ℕ) (at : ℕ) where
-  pub map-null : at ≡ 0 → [] ≡ mapAt g s at
-  unfolding classMap? tableAt
+  map-null : at ≡ 0 → classMap g [] ≡ mapAt g s at
+  unfolding classMap? tableAt listed
   map-null z = rw (eq-eqb at 0 z) refl
 
   pub map-there : (at ≡ 0 → ⊥) → classMap g (classes s at) ≡ mapAt g s at
-  unfolding classMap? tableAt
+  unfolding classMap? tableAt listed
   map-there z = rw (ne-eqb at 0 z) refl
 
   pub table-null : at ≡ 0 → none ≡ newTable g s at
@@ -64,10 +64,41 @@ module _ (g : List (ℕ × ℕ)) (s : List ℕ) (at : ℕ) where
   unfolding newClasses? tableAt newTable block
   table-there z = rw (ne-eqb at 0 z) refl
 
--- nothing is filled in
-pub filled-none : {before : List ℕ} → Filled [] before 0 before
-unfolding flat twos
-filled-none = record { used = refl; few = omega arith; bytes = refl; small = tt }
+-- as many entries as the bytes of the glyph map have room for
+map-count : (glyphs : List ℕ) → length (mapEntries glyphs) ≡ length glyphs / 4
+unfolding mapEntries
+map-count glyphs = entries-length glyphs 0 (length glyphs / 4)
+
+-- where no class is listed, all glyphs hold class 0
+held-null : (x : ℕ) (xs : List ℕ) → heldBy [] (x ∷ xs) ≡ 0 ∷ []
+unfolding heldBy insertUp classOf find
+held-null x [] = refl
+held-null x (y ∷ xs) = ap (insertUp 0) (held-null y xs)
+
+-- so the class map is empty if no glyph is retained, and else class 0 alone survives, as 0
+null-none : (g : List (ℕ × ℕ)) → length g ≡ 0 → [] ≡ classMap g []
+unfolding classMap heldBy numbered keys
+null-none [] h = refl
+null-none (e ∷ g) h = absurd (omega arith)
+
+null-zero : (g : List (ℕ × ℕ)) → 0 < length g → (0, 0) ∷ [] ≡ classMap g []
+unfolding classMap numbered keys
+null-zero [] h = absurd (omega arith)
+null-zero (e ∷ g) h = ap (numbered 0) (sym (held-null (e .0) (keys g)))
+
+-- the class map of a null table, filled in
+module _ (glyphs s : List ℕ) (at : ℕ) (z : at ≡ 0) {before : List ℕ} where
+  pub filled-none : length glyphs < 4 → Filled (mapAt (mapEntries glyphs) s at) before 0 before
+  unfolding flat twos
+  filled-none h =
+      subst (λ (m : List (ℕ × ℕ)). Filled m before 0 before) (null-none (mapEntries glyphs) (omega (arith, map-count glyphs)) ∙ map-null (mapEntries glyphs) s at z)
+      (record { used = refl; few = omega arith; bytes = refl; small = tt })
+
+  pub filled-zero : 4 ≤ length glyphs → {after : List ℕ} {r : ℕ} → (r ≡ 4) × (after ≡ sets before 0 (flat (0 ∷ 0 ∷ []))) → Filled (mapAt (mapEntries glyphs) s at) before r after
+  unfolding twos
+  filled-zero h {after} {r} w =
+      subst (λ (m : List (ℕ × ℕ)). Filled m before r after) (null-zero (mapEntries glyphs) (omega (arith, map-count glyphs)) ∙ map-null (mapEntries glyphs) s at z)
+      (record { used = w .0; few = omega (arith, w .0); bytes = w .1; small = ((omega arith, omega arith), tt) })
 
 -- a class table that is there is as `list_new` asks
 pub remade : {s : List ℕ} {at : ℕ} {glyphs map : List ℕ} {room : ℕ} → Remakes s at glyphs map room → (at ≡ 0 → ⊥) → Ranked s at glyphs map
@@ -120,14 +151,9 @@ class-words-few ((g, c) ∷ r) = step (leb (6 + 2 * length (spread g ((g, c) ∷
     step false e = omega (arith, threes-length (runs ((g, c) ∷ r)), runs-fewer ((g, c) ∷ r))
 
 -- neither the class map nor the new class table takes more bytes than the glyph map
-map-count : (glyphs : List ℕ) → 4 * length (mapEntries glyphs) ≤ length glyphs
-unfolding mapEntries
-map-count glyphs = omega (arith, entries-length glyphs 0 (length glyphs / 4))
-
 pub ranks-fit : (glyphs : List ℕ) (o : Option (List (ℕ × ℕ))) {before after : List ℕ} {r : ℕ} → Filled (classMap? (mapEntries glyphs) o) before r after → length glyphs ≤ length before → r ≤ length before
 unfolding classMap?
-ranks-fit glyphs none f h = omega (arith, f .used)
-ranks-fit glyphs (some cs) f h = omega (arith, f .used, class-map-length (mapEntries glyphs) cs, map-count glyphs)
+ranks-fit glyphs o f h = omega (arith, f .used, class-map-length (mapEntries glyphs) (listed o), map-count glyphs)
 
 pub new-fit : (glyphs : List ℕ) (cs : List (ℕ × ℕ)) {before after : List ℕ} {r : ℕ} → Filled (newClasses (mapEntries glyphs) cs) before r after → length glyphs ≤ length before → r ≤ length before
 new-fit glyphs cs f h = omega (arith, f .used, new-classes-length (mapEntries glyphs) cs, map-count glyphs)

@@ -23,6 +23,7 @@ use sets::set_survives;
 use sets::sets_size;
 use sets::write_sets;
 use wire::put;
+use wire::put_entry;
 use wire::word_at;
 ghost use mathlib.Core.Path.{_≡_};
 ghost use mathlib.Core.Bool.{true};
@@ -118,15 +119,18 @@ fn fill_slots(
     end
 }
 
-// The class map of the class table at `at`, at the front of `map`, and how many bytes it takes. Place 0 is a null table, whose class map is empty.
+// The class map of the class table at `at`, at the front of `map`, and how many bytes it takes. Place 0 is a null table, in which every glyph holds class 0: where a glyph is retained, its class map is the one entry (0, 0).
 fn rank_at(src: &[u8], at: usize, glyphs: &[u8], map: &mut [u8]) -> usize
     requires { ⌜ SoundAt (now src) at ⌝ }
     ensures { λ r. ⌜ Filled (mapAt (mapEntries (now (glyphs .entry))) (now (src .entry)) at) (now (map .entry)) r (now (map .exit)) ⌝ }
 {
-    if at == 0 {
+    if at != 0 {
+        return rank(src, at, glyphs, map);
+    }
+    if glyphs.len() < 4 {
         return 0;
     }
-    rank(src, at, glyphs, map)
+    put_entry(map, 0, 0, 0)
 }
 
 // How many bytes the new class table for the one at `at` takes; a null one takes none.

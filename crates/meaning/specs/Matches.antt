@@ -18,9 +18,13 @@ two-rules = 1 ∷ 44 ∷ 1 ∷ 8 ∷ 2 ∷ 6 ∷ 24 ∷ 1 ∷ 1 ∷ 2 ∷ 6 ∷ 
 abbrev covers : List ℕ
 covers = 3 ∷ 1 ∷ 22 ∷ 2 ∷ 28 ∷ 34 ∷ 1 ∷ 40 ∷ 1 ∷ 0 ∷ 3 ∷ 1 ∷ 1 ∷ 1 ∷ 1 ∷ 1 ∷ 5 ∷ 1 ∷ 1 ∷ 6 ∷ 1 ∷ 1 ∷ 7 ∷ []
 
--- chained, by class, with no backtrack class table: glyph 5, and a rule that names class 0 before it
-abbrev names-null : List ℕ
-names-null = 0x0002 ∷ 0x001C ∷ 0x0000 ∷ 0x0022 ∷ 0x0000 ∷ 0x0001 ∷ 0x000E ∷ 0x0001 ∷ 0x0004 ∷ 0x0001 ∷ 0x0000 ∷ 0x0001 ∷ 0x0000 ∷ 0x0000 ∷ 0x0001 ∷ 0x0001 ∷ 0x0005 ∷ 0x0002 ∷ 0x0000 ∷ []
+-- chained, by class, with no backtrack class table: glyph 5, and a rule that names a class before it
+abbrev names-null : ℕ → List ℕ
+names-null c = 0x0002 ∷ 0x001C ∷ 0x0000 ∷ 0x0022 ∷ 0x0000 ∷ 0x0001 ∷ 0x000E ∷ 0x0001 ∷ 0x0004 ∷ 0x0001 ∷ c ∷ 0x0001 ∷ 0x0000 ∷ 0x0000 ∷ 0x0001 ∷ 0x0001 ∷ 0x0005 ∷ 0x0002 ∷ 0x0000 ∷ []
+
+-- the same with no lookahead class table, and a rule that names a class ahead
+abbrev ahead-null : ℕ → List ℕ
+ahead-null c = 0x0002 ∷ 0x001C ∷ 0x0000 ∷ 0x0022 ∷ 0x0000 ∷ 0x0001 ∷ 0x000E ∷ 0x0001 ∷ 0x0004 ∷ 0x0000 ∷ 0x0001 ∷ 0x0001 ∷ c ∷ 0x0000 ∷ 0x0001 ∷ 0x0001 ∷ 0x0005 ∷ 0x0002 ∷ 0x0000 ∷ []
 
 -- chained, by glyph: for glyph 5 a rule with backtrack 2 and then 1, away from the place, and the record (0, 4)
 abbrev two-before : List ℕ
@@ -29,6 +33,10 @@ two-before = 1 ∷ 28 ∷ 1 ∷ 8 ∷ 1 ∷ 4 ∷ 2 ∷ 2 ∷ 1 ∷ 1 ∷ 0 ∷ 
 -- plain, by class: glyph 5 is covered; 5 and 6 hold class 1, 7 holds class 2; after class 1 a rule asks for class 2, with the record (1, 3)
 abbrev rules-by-classes : List ℕ
 rules-by-classes = 2 ∷ 26 ∷ 32 ∷ 2 ∷ 0 ∷ 12 ∷ 1 ∷ 4 ∷ 2 ∷ 1 ∷ 2 ∷ 1 ∷ 3 ∷ 1 ∷ 1 ∷ 5 ∷ 1 ∷ 5 ∷ 3 ∷ 1 ∷ 1 ∷ 2 ∷ []
+
+-- chained, by class, each of its three class tables with other glyphs: 3 holds class 1 before, 5 holds class 1 in the input, 7 holds class 2 after; glyph 5 is covered, and the record is (0, 4)
+abbrev own-classes : List ℕ
+own-classes = 2 ∷ 38 ∷ 44 ∷ 52 ∷ 60 ∷ 2 ∷ 0 ∷ 16 ∷ 1 ∷ 4 ∷ 1 ∷ 1 ∷ 2 ∷ 1 ∷ 1 ∷ 2 ∷ 1 ∷ 0 ∷ 4 ∷ 1 ∷ 1 ∷ 5 ∷ 1 ∷ 3 ∷ 1 ∷ 1 ∷ 1 ∷ 5 ∷ 1 ∷ 1 ∷ 1 ∷ 7 ∷ 1 ∷ 2 ∷ []
 
 -- plain, by glyph: a rule of glyph count 0 for glyph 5
 abbrev count-none : List ℕ
@@ -56,8 +64,14 @@ asked =
     -- lookahead follows the input
     ∷ record { kind = 2; source = covers; string = 1 ∷ 5 ∷ 6 ∷ 7 ∷ []; place = 1; answers = some (2, (0, 3) ∷ []) }
     ∷ record { kind = 2; source = covers; string = 1 ∷ 5 ∷ 6 ∷ 6 ∷ []; place = 1; answers = none }
-    -- a null class table holds no glyph, so a rule that names a class there fits nowhere
-    ∷ record { kind = 2; source = names-null; string = 4 ∷ 5 ∷ []; place = 1; answers = none }
+    -- with a null class table every glyph holds class 0, so a rule that names class 0 there fits any glyph, but not no glyph, and a rule that names class 1 fits nowhere
+    ∷ record { kind = 2; source = names-null 0; string = 4 ∷ 5 ∷ []; place = 1; answers = some (1, []) }
+    ∷ record { kind = 2; source = names-null 0; string = 5 ∷ []; place = 0; answers = none }
+    ∷ record { kind = 2; source = names-null 1; string = 4 ∷ 5 ∷ []; place = 1; answers = none }
+    -- so with a null lookahead class table
+    ∷ record { kind = 2; source = ahead-null 0; string = 5 ∷ 4 ∷ []; place = 0; answers = some (1, []) }
+    ∷ record { kind = 2; source = ahead-null 0; string = 5 ∷ []; place = 0; answers = none }
+    ∷ record { kind = 2; source = ahead-null 1; string = 5 ∷ 4 ∷ []; place = 0; answers = none }
     -- a count of 0 matches nowhere
     ∷ record { kind = 1; source = count-none; string = 5 ∷ []; place = 0; answers = none }
     ∷ record { kind = 1; source = 3 ∷ 0 ∷ 0 ∷ []; string = 5 ∷ []; place = 0; answers = none }
@@ -69,6 +83,10 @@ asked =
     ∷ record { kind = 1; source = rules-by-classes; string = 5 ∷ 7 ∷ []; place = 0; answers = some (2, (1, 3) ∷ []) }
     ∷ record { kind = 1; source = rules-by-classes; string = 6 ∷ 7 ∷ []; place = 0; answers = none }
     ∷ record { kind = 1; source = rules-by-classes; string = 5 ∷ 6 ∷ []; place = 0; answers = none }
+    -- backtrack and lookahead are asked by their own class tables
+    ∷ record { kind = 2; source = own-classes; string = 3 ∷ 5 ∷ 5 ∷ 7 ∷ []; place = 1; answers = some (2, (0, 4) ∷ []) }
+    ∷ record { kind = 2; source = own-classes; string = 5 ∷ 5 ∷ 5 ∷ 7 ∷ []; place = 1; answers = none }
+    ∷ record { kind = 2; source = own-classes; string = 3 ∷ 5 ∷ 5 ∷ 5 ∷ []; place = 1; answers = none }
     ∷ []
 
 -- each is answered as it says

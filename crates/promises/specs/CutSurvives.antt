@@ -9,7 +9,7 @@ use lib.Dec.{ltb, eqb}
 use borrow.Author.Tests.{eqb-true, eqb-false, eq-eqb, ne-eqb}
 use Rattle.meaning.specs.Words.{bytes2, flat, keys, find, isSome, bind, mapAll, push, mapSome, member}
 use Rattle.meaning.specs.Maps.{mapEntries}
-use Rattle.meaning.specs.Parts.{classOf}
+use Rattle.meaning.specs.Parts.{classOf, listed, classIn}
 use Rattle.meaning.specs.Tables.{Rule, Ligature, Pair, Table, table}
 use Rattle.meaning.specs.Cut.{insertUp, heldBy, numbered, classMap, classMap?, newClasses?, RuleMaps, cutRecords, cutRule, unlessEmpty, cutSet, keptSets, keptByGlyph, newCoverage, retained, slots, keepSlot, trim, keptByClass, coversLeft, cutLigature, cutLigatures, keptLigatures, cutPair, cutPairs, keptPairs, cut}
 use Rattle.promises.specs.Covers.{keys-same}
@@ -159,13 +159,12 @@ member-some c (d ∷ r) = ap (_||_ (eqb d c)) (member-some c r)
 
 -- a class has a new number exactly if it survives
 class-left : (g : List (ℕ × ℕ)) (o : Option (List (ℕ × ℕ))) (c : ℕ) → isSome (find (classMap? g o) c) ≡ classSurvives g o c
-unfolding isSome find classMap classMap? classSurvives notNullAnd
-class-left g none c = refl
-class-left g (some cs) c =
-    sym (keys-same (numbered 0 (heldBy cs (keys g))) c)
-    ∙ ap (member c) (numbered-keys 0 (heldBy cs (keys g)))
-    ∙ member-some c (heldBy cs (keys g))
-    ∙ some-held (λ d. eqb d c) cs (keys g)
+unfolding isSome find classMap classMap? classSurvives classIn
+class-left g o c =
+    sym (keys-same (numbered 0 (heldBy (listed o) (keys g))) c)
+    ∙ ap (member c) (numbered-keys 0 (heldBy (listed o) (keys g)))
+    ∙ member-some c (heldBy (listed o) (keys g))
+    ∙ some-held (λ d. eqb d c) (listed o) (keys g)
 
 -- Rules and their sets: the entries of a rule's three sequences have new numbers exactly if they pass three tests.
 
@@ -260,7 +259,7 @@ module _ (g l : List (ℕ × ℕ)) where
     leaves c = isSome (bind (getD sets c none) (cutSet chained by-classes))
 
     leaves-exactly : (c : ℕ) → leaves c ≡ notNullAnd (someOf (classRuleSurvives chained g b (some cs) a)) (getD sets c none)
-    unfolding classMap? classRuleSurvives
+    unfolding classMap? classRuleSurvives listed
     leaves-exactly c =
         reached-left (cutSet chained by-classes) (someOf (classRuleSurvives chained g b (some cs) a))
         (rules-left chained by-classes (classSurvives g b) (classSurvives g (some cs)) (classSurvives g a) (class-left g b) (class-left g (some cs)) (class-left g a)) (getD sets c none)

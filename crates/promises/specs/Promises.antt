@@ -12,6 +12,7 @@ use Rattle.meaning.specs.Words.{flat, bind}
 use Rattle.meaning.specs.Maps.{mapEntries}
 use Rattle.meaning.specs.Tables.{table, Table}
 use Rattle.meaning.specs.Fault.{fault}
+use Rattle.meaning.specs.Cut.{classMap?}
 use Rattle.meaning.specs.Layout.{layout}
 use Rattle.meaning.specs.Subset.{Outcome, left, limit}
 use Rattle.meaning.specs.Matching.{atPlace, match, ligate, adjust}
@@ -26,6 +27,7 @@ use Rattle.laws.specs.CallBack.{Passed, passed, call-reads-back}
 use Rattle.promises.specs.Strings.{All, Retained, new}
 use Rattle.promises.specs.Rules.{cutMatch}
 use Rattle.promises.specs.Ligatures.{cutLigated, Closed}
+use Rattle.promises.specs.Classes.{null-map}
 use Rattle.promises.specs.Same as Same
 use Rattle.promises.specs.Places.{parts, Faulty, Any, Lowest}
 use Rattle.promises.specs.LowestPlace.{malformed-lowest, malformed-part}
@@ -165,6 +167,12 @@ module _ (c : Call) (bytes : BytesOf c) (kept : (answer c) .number ≡ 0) where
   pub pair-same : c .kind ≡ 4 → (x y : ℕ) → Retained g x → Retained g y → adjust (small-says c) (new g x) (new g y) ≡ adjust (says c) x y
   unfolding bind
   pair-same k x y rx ry = rw (reads-back .0) at (Same.pair-same (c .glyphs) (c .lookups) (tests .glyphs-good) (c .kind) k (c .source) (tests .sound) x y rx ry)
+
+-- An absent class table.
+
+-- `null-class-table`: with a null table every glyph holds class 0, which alone survives there, as 0, where some glyph is retained.
+pub null-class-table : (g : List (ℕ × ℕ)) (x : ℕ) → Retained g x → classMap? g none ≡ (0, 0) ∷ []
+null-class-table = null-map
 
 -- The condition on ligatures is needed: without it the small table forms another ligature than the source.
 pub closed-needed : (Matches.less-one .number ≡ 0) × (ligate (table 3 Matches.two-ligatures) 5 (6 ∷ 7 ∷ []) ≡ some (20, 3)) × (ligate (table 3 (left Matches.less-one)) 0 (1 ∷ 2 ∷ []) ≡ some (3, 2))

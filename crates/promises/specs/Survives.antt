@@ -8,7 +8,7 @@ use mathlib.Core.List.{List, [], _∷_}
 use lib.ListN.{getD}
 use lib.Dec.{eqb}
 use Rattle.meaning.specs.Words.{keys, find, member}
-use Rattle.meaning.specs.Parts.{classOf}
+use Rattle.meaning.specs.Parts.{classOf, listed, classIn}
 use Rattle.meaning.specs.Tables.{Rule, Ligature, Pair, Table}
 
 -- some of a list pass a test
@@ -30,9 +30,9 @@ notNullAnd test (some a) = test a
 unfoldable pub isRetained : List (ℕ × ℕ) → ℕ → Bool
 isRetained g x = member x (keys g)
 
--- a class survives if some retained glyph holds it; a glyph that isn't listed holds class 0; a null class table holds no glyph, so that no class of it survives
+-- a class survives if some retained glyph holds it; a glyph that isn't listed holds class 0; with a null class table every glyph holds class 0
 unfoldable pub classSurvives : List (ℕ × ℕ) → Option (List (ℕ × ℕ)) → ℕ → Bool
-classSurvives g classes c = notNullAnd (λ cs. someOf (λ x. eqb (classOf cs x) c) (keys g)) classes
+classSurvives g classes c = someOf (λ x. eqb (classIn classes x) c) (keys g)
 
 -- a rule survives if its backtrack, input and lookahead do, entry by entry, whatever becomes of its records; a plain rule with glyph count 0 goes, a chained one with input count 0 stays
 unfoldable pub ruleSurvives : Bool → (ℕ → Bool) → (ℕ → Bool) → (ℕ → Bool) → Rule → Bool
@@ -75,7 +75,7 @@ pairSurvives g c p = isRetained g c && isRetained g (p .second)
 
 -- something of a table survives: its coverage, and in format 2 its input class table, isn't null and some set or slot is kept; in format 3 no coverage empties it, and with no coverage at all it is kept
 unfoldable pub survives : List (ℕ × ℕ) → Table → Bool
-unfolding keys find member classOf someOf each notNullAnd isRetained classSurvives ruleSurvives glyphRuleSurvives classRuleSurvives setKept someSetKept someSlotKept coverageSurvives ligatureSurvives pairSurvives
+unfolding keys find member classOf someOf each notNullAnd isRetained classSurvives ruleSurvives glyphRuleSurvives classRuleSurvives setKept someSetKept someSlotKept coverageSurvives ligatureSurvives pairSurvives listed classIn
 survives g (Table.by-glyph chained cover sets) = notNullAnd (λ cov. someSetKept (λ c. glyphRuleSurvives chained g) g cov sets) cover
 survives g (Table.by-class chained cover b i a sets) = notNullAnd (λ cov. notNullAnd (λ cs. someSlotKept (classRuleSurvives chained g b i a) g cs cov sets) i) cover
 survives g (Table.by-cover chained b i a records) = each (coverageSurvives g) b && (each (coverageSurvives g) i && each (coverageSurvives g) a)
