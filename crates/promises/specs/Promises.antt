@@ -15,7 +15,7 @@ use Rattle.meaning.specs.Fault.{fault}
 use Rattle.meaning.specs.Cut.{classMap?}
 use Rattle.meaning.specs.Layout.{layout}
 use Rattle.meaning.specs.Subset.{Outcome, left, limit}
-use Rattle.meaning.specs.Matching.{atPlace, match, ligate, adjust}
+use Rattle.meaning.specs.Matching.{atPlace, match, ligate, adjust, skips}
 use Rattle.meaning.specs.Job.{ascii, program}
 use Rattle.meaning.specs.Calls.{call, stated}
 use Rattle.meaning.specs.Rows as Rows
@@ -166,7 +166,11 @@ module _ (c : Call) (bytes : BytesOf c) (kept : (answer c) .number ≡ 0) where
   -- `pair-same`: each pair of retained glyphs is found or not as before, with equal adjustments: signed 16-bit, absent fields 0.
   pub pair-same : c .kind ≡ 4 → (x y : ℕ) → Retained g x → Retained g y → adjust (small-says c) (new g x) (new g y) ≡ adjust (says c) x y
   unfolding bind
-  pair-same k x y rx ry = rw (reads-back .0) at (Same.pair-same (c .glyphs) (c .lookups) (tests .glyphs-good) (c .kind) k (c .source) (tests .sound) x y rx ry)
+  pair-same k x y rx ry = rw (reads-back .0) at (Same.pair-same (c .glyphs) (c .lookups) (tests .glyphs-good) (c .kind) k (c .source) (tests .sound) x y rx ry .0)
+
+  -- `pair-skipped`: its second glyph is skipped or not as before.
+  pub pair-skipped : c .kind ≡ 4 → (x y : ℕ) → Retained g x → Retained g y → skips (small-says c) (new g x) (new g y) ≡ skips (says c) x y
+  pair-skipped k x y rx ry = rw (reads-back .0) at (Same.pair-same (c .glyphs) (c .lookups) (tests .glyphs-good) (c .kind) k (c .source) (tests .sound) x y rx ry .1)
 
 -- An absent class table.
 
