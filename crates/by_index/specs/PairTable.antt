@@ -11,7 +11,7 @@ use Rattle.meaning.specs.Words.{word, words, flat, keys, values, find, isSome, 
 use Rattle.maps.specs.Forms.{mapOf}
 use Rattle.meaning.specs.Parts.{coverage}
 use Rattle.meaning.specs.Tables.{Table, Pair, reach, reaches}
-use Rattle.meaning.specs.Cut.{cut, cutPairs, used, keepIf, newFormat, thin, thinPair, keptSets, glyphsOf, setsOf, keptPairs}
+use Rattle.meaning.specs.Cut.{cut, cutPairs, used, keepIf, newFormat, standIn, newSecond, thin, thinPair, keptSets, glyphsOf, setsOf, keptPairs}
 use Rattle.meaning.specs.Layout.{block, coverageWords, pairSetWords, layout}
 use Rattle.meaning.specs.Subset.{written}
 use Rattle.laws.specs.Stands.{All}
@@ -50,9 +50,9 @@ module _ (g : List ℕ) (f1 f2 : ℕ) (s : List ℕ) where
   unfolding formatAt
   format-sum second ps a b c d p q t u = rw (p, q, t, u, a, b, c, d)
 
-  -- the sort of the pair sets at these places with the formats that they ask for
+  -- the sort of the pair sets at these places with the formats that they ask for, or the stand-in for the second
   abbrev pub kindAt : List ℕ → Kind
-  kindAt ps = pairKind f1 f2 (formatAt false ps) (formatAt true ps)
+  kindAt ps = pairKind f1 f2 (formatAt false ps) (standIn f2 (formatAt true ps))
 
   -- what is left of the sets at places, each with the glyph before it
   abbrev leftAt : List (ℕ × ℕ) → List (ℕ × List Pair)
@@ -85,10 +85,10 @@ module _ (g : List ℕ) (f1 f2 : ℕ) (s : List ℕ) where
 
   -- what the kept places lay is what is left of the pair table
   places-laid : (l out : List ℕ) (ps : List (ℕ × ℕ)) → All There ps → laidWords out (wordsOf (kindAt (values ps)) g s l ps) ≡ written out (keptPairs f1 f2 (leftAt ps))
-  unfolding laidWords wordsOf written keptPairs layout
+  unfolding laidWords wordsOf written keptPairs newSecond layout
   places-laid l out [] h = refl
   places-laid l out (e ∷ ps) h =
-      rw (format-is false (e ∷ ps), format-is true (e ∷ ps), sym (glyphs-are (e ∷ ps)), sym (blocks-are (newFormat (valuesOf false) f1 (leftAt (e ∷ ps))) (newFormat (valuesOf true) f2 (leftAt (e ∷ ps))) l (e ∷ ps) h)) refl
+      rw (format-is false (e ∷ ps), format-is true (e ∷ ps), sym (glyphs-are (e ∷ ps)), sym (blocks-are (newFormat (valuesOf false) f1 (leftAt (e ∷ ps))) (newSecond f2 (leftAt (e ∷ ps))) l (e ∷ ps) h)) refl
 
   -- something of the set at a place is left
   abbrev has : ℕ → Bool

@@ -8,6 +8,7 @@ use maps::Found;
 use maps::find;
 use pair_pos::keep_if;
 use pair_pos::set_uses;
+use pair_pos::stand_in;
 use room::Laid;
 use room::room;
 use sets::Formats;
@@ -239,7 +240,7 @@ fn uses(
     false
 }
 
-// The new value format of the first glyph, or of the second: a field stays if some surviving pair of the whole table has it nonzero.
+// The fields that stay of the value format of the first glyph, or of the second, as a format: a field stays if some surviving pair of the whole table has it nonzero.
 fn new_format(
     src: &[u8],
     f1: usize,
@@ -259,7 +260,7 @@ fn new_format(
     a + b + c + d
 }
 
-// What is left of a pair table, as `lay` lays it, with the value formats that its kept sets ask for.
+// What is left of a pair table, as `lay` lays it, with the value formats that its kept sets ask for; the second one is not 0 if the source's is not.
 fn lay_pairs(
     src: &[u8],
     f1: usize,
@@ -275,7 +276,7 @@ fn lay_pairs(
     ensures { λ r. ⌜ outcomeOf r (now (out .exit)) ≡ laidInto (now (out .entry)) (flat (tableOf (kindAt (now (glyphs .entry)) f1 f2 (now (src .entry)) (words (now (places .entry)) 0 n)) (glyphsOf (now (to .entry))) (setBlocks (kindAt (now (glyphs .entry)) f1 f2 (now (src .entry)) (words (now (places .entry)) 0 n)) (now (glyphs .entry)) (now (lookups .entry)) (now (src .entry)) (words (now (places .entry)) 0 n)))) ⌝ }
 {
     let n1 = new_format(src, f1, f2, false, places, n, glyphs);
-    let n2 = new_format(src, f1, f2, true, places, n, glyphs);
+    let n2 = stand_in(f2, new_format(src, f1, f2, true, places, n, glyphs));
     let kind = Kind::Pairs(Formats { f1, f2, n1, n2 });
     lay(kind, src, glyphs, lookups, to, places, n, out)
 }

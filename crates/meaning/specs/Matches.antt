@@ -1,6 +1,7 @@
 -- Matching on small tables, by computation: what the rows of calls cannot show, since they end with bytes.
 use Prim.Native.Nat.{ℕ}
 use mathlib.Core.Path.{_≡_, refl}
+use mathlib.Core.Bool.{true, false}
 use mathlib.Core.Option.{Option, none, some}
 use mathlib.Core.List.{List, [], _∷_, map}
 use lib.ListN.{replicate}
@@ -8,7 +9,7 @@ use lib.IntN.{pos, negsuc}
 use Rattle.meaning.specs.Words.{bytes2, flat}
 use Rattle.meaning.specs.Tables.{table}
 use Rattle.meaning.specs.Subset.{Outcome, left, subset}
-use Rattle.meaning.specs.Matching.{Move, atPlace, match, ligate, adjust}
+use Rattle.meaning.specs.Matching.{Move, atPlace, match, ligate, adjust, skips}
 
 -- chained, by glyph: for glyph 5 first a rule with backtrack 1, input 5 and 6, lookahead 7 and the record (1, 4), then one for 5 alone with the record (0, 9)
 abbrev two-rules : List ℕ
@@ -132,3 +133,15 @@ signed-values = (refl, refl)
 pub own-fields : adjust (table 4 (flat (1 ∷ 20 ∷ 10 ∷ 0 ∷ 1 ∷ 12 ∷ 1 ∷ 6 ∷ 3 ∷ 0xFFFC ∷ 1 ∷ 1 ∷ 5 ∷ []))) 5 6 ≡ some (record { x-placement = pos 0; y-placement = pos 3; x-advance = pos 0; y-advance = negsuc 3 }, record { x-placement = pos 0; y-placement = pos 0; x-advance = pos 0; y-advance = pos 0 })
 unfolding bytes2 flat table adjust
 own-fields = refl
+
+-- the pairs 4, 5 and 4, 6, whose second values are zeros, and their cut by 4 → 0, 5 → 1
+abbrev pub silent-pairs : List ℕ
+silent-pairs = flat (1 ∷ 22 ∷ 0 ∷ 1 ∷ 1 ∷ 12 ∷ 2 ∷ 5 ∷ 0 ∷ 6 ∷ 0 ∷ 1 ∷ 1 ∷ 4 ∷ [])
+
+abbrev pub less-silent : Outcome
+less-silent = subset 4 silent-pairs (flat (4 ∷ 0 ∷ 5 ∷ 1 ∷ [])) [] (replicate 24 0)
+
+-- a pair whose second format is not 0 has its second glyph skipped, in the source and in the small table, which keeps a field for it; a pair that is not found, or has no second format, has not
+pub still-skipped : (skips (table 4 silent-pairs) 4 5 ≡ true) × (less-silent .number ≡ 0) × (skips (table 4 (left less-silent)) 0 1 ≡ true) × (skips (table 4 silent-pairs) 5 4 ≡ false)
+unfolding bytes2 flat table subset skips
+still-skipped = (refl, refl, refl, refl)

@@ -16,7 +16,7 @@ ghost use Rattle.meaning.specs.Words.{word, words, find, isSome, ascends, keys}
 ghost use Rattle.maps.specs.Forms.{mapOf};
 ghost use Rattle.meaning.specs.Tables.{fieldCount, field};
 ghost use Rattle.meaning.specs.Fault.{pairSetFault};
-ghost use Rattle.meaning.specs.Cut.{cutPairs, keepIf, pickFields, thinPair};
+ghost use Rattle.meaning.specs.Cut.{cutPairs, keepIf, standIn, pickFields, thinPair};
 ghost use Rattle.meaning.specs.Layout.{pairWords, pairSetWords};
 ghost use Rattle.laws.specs.Written.{Wrote};
 ghost use Rattle.wire.specs.Fault.{faultOf};
@@ -160,6 +160,19 @@ pub fn keep_if(kept: bool, k: usize) -> usize
         return k;
     }
     0
+}
+
+// The new value format of second glyphs, where `new` has those fields of the format `f` that stay: if none stays and `f` is not 0, 0x0004 stands in, for shapers skip the second glyph of a pair exactly if the second format is not 0.
+pub fn stand_in(f: usize, new: usize) -> usize
+    ensures { λ r. ⌜ r ≡ standIn f new ⌝ }
+{
+    if f == 0 {
+        return new;
+    }
+    if new == 0 {
+        return 0x0004;
+    }
+    new
 }
 
 // How many pairs of the set at `at` survive.

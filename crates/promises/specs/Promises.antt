@@ -15,7 +15,7 @@ use Rattle.meaning.specs.Fault.{fault}
 use Rattle.meaning.specs.Cut.{classMap?}
 use Rattle.meaning.specs.Layout.{layout}
 use Rattle.meaning.specs.Subset.{Outcome, left, limit}
-use Rattle.meaning.specs.Matching.{atPlace, match, ligate, adjust}
+use Rattle.meaning.specs.Matching.{atPlace, match, ligate, adjust, skips}
 use Rattle.meaning.specs.Job.{ascii, program}
 use Rattle.meaning.specs.Calls.{call, stated}
 use Rattle.meaning.specs.Rows as Rows
@@ -32,6 +32,7 @@ use Rattle.promises.specs.Same as Same
 use Rattle.promises.specs.Places.{parts, Faulty, Any, Lowest}
 use Rattle.promises.specs.LowestPlace.{malformed-lowest, malformed-part}
 use Rattle.promises.specs.Within.{Within, kept-within, not-past}
+use Rattle.promises.specs.Walks.{skipping, walk, walks-same, skipping-same}
 use Rattle.promises.specs.Survives.{survives}
 use Rattle.promises.specs.Refusals.{Call, answer, plain, left?, refusals, first, NoneOf, Meets, answer-meets, meets-once, given-exactly, kept-exactly, refused-untouched, refused-length, malformed-place, no-room, kept-length, kept-bytes, buffer-length, empty-on-good}
 
@@ -166,7 +167,11 @@ module _ (c : Call) (bytes : BytesOf c) (kept : (answer c) .number ≡ 0) where
   -- `pair-same`: each pair of retained glyphs is found or not as before, with equal adjustments: signed 16-bit, absent fields 0.
   pub pair-same : c .kind ≡ 4 → (x y : ℕ) → Retained g x → Retained g y → adjust (small-says c) (new g x) (new g y) ≡ adjust (says c) x y
   unfolding bind
-  pair-same k x y rx ry = rw (reads-back .0) at (Same.pair-same (c .glyphs) (c .lookups) (tests .glyphs-good) (c .kind) k (c .source) (tests .sound) x y rx ry)
+  pair-same k x y rx ry = rw (reads-back .0) at (Same.pair-same (c .glyphs) (c .lookups) (tests .glyphs-good) (c .kind) k (c .source) (tests .sound) x y rx ry .0)
+
+  -- `pair-skipped`: its second glyph is skipped or not as before.
+  pub pair-skipped : c .kind ≡ 4 → (x y : ℕ) → Retained g x → Retained g y → skips (small-says c) (new g x) (new g y) ≡ skips (says c) x y
+  pair-skipped k x y rx ry = rw (reads-back .0) at (Same.pair-same (c .glyphs) (c .lookups) (tests .glyphs-good) (c .kind) k (c .source) (tests .sound) x y rx ry .1)
 
 -- An absent class table.
 
@@ -191,3 +196,14 @@ module _ (c : Call) (bytes : BytesOf c) (kept : (answer c) .number ≡ 0) where
 
   pub again-not-past : (glyphs lookups buffer : List ℕ) → (answer (again glyphs lookups buffer)) .number ≡ 12 → ⊥
   again-not-past glyphs lookups buffer = not-past (again glyphs lookups buffer) small-within
+
+-- Pairs along a string.
+
+module _ (c : Call) (bytes : BytesOf c) (kept : (answer c) .number ≡ 0) (pairs : c .kind ≡ 4) where
+  -- `skips-same`: the small table has a nonzero second format exactly if the source has one.
+  pub skips-same : skipping (small-says c) ≡ skipping (says c)
+  skips-same = skipping-same (g c bytes kept) (l c bytes kept) (c .kind) pairs (c .source) (small-says c) (reads-back c bytes kept .0)
+
+  -- So along a renumbered string of retained glyphs it finds, pair by pair, the pairs that the source finds along the string: at the same places, with equal adjustments, the same glyphs skipped.
+  pub walk-same : (string : List ℕ) → All (Retained (g c bytes kept)) string → walk (small-says c) 0 (map (new (g c bytes kept)) string) ≡ walk (says c) 0 string
+  walk-same string r = walks-same (g c bytes kept) (says c) (small-says c) skips-same (pair-same c bytes kept pairs) 0 string r

@@ -6,7 +6,7 @@ use Rattle.by_index.proofs.lay_pairs.Tie as tie
 returns : tie.Need-returns
 returns c =
     let m = c .before .before .before .before in
-    rw (m .new-format2 .ensures, m .before .new-format .ensures) at (c .before .before .lay .ensures)
+    rw (m .stand-in .ensures, m .before .new-format2 .ensures, m .before .before .new-format .ensures) at (c .before .before .lay .ensures)
 
 pub lay-pairs-spec : {M : Type 1} → statement M
-lay-pairs-spec = tie.close (tie.spec (λ c κs. search needs) (λ c κs. search needs) (λ c κs. search needs) (λ c. search needs) returns)
+lay-pairs-spec = tie.close (tie.spec (λ c κs. search needs) (λ c κs. search needs) (λ c κs. search needs) (λ c κs. search needs) (λ c. search needs) returns)
