@@ -34,6 +34,8 @@ use Rattle.promises.specs.LowestPlace.{malformed-lowest, malformed-part}
 use Rattle.promises.specs.Within.{Within, kept-within, not-past}
 use Rattle.promises.specs.Walks.{skipping, walk, walks-same, skipping-same}
 use Rattle.promises.specs.Survives.{survives}
+use Rattle.promises.specs.Wrong as Wrong
+use Rattle.promises.specs.Wrong.{Passes, refusing, copying, notWriting, writing, inventing, swaps, copiesOthers, dropsOthers}
 use Rattle.promises.specs.Refusals.{Call, answer, plain, left?, refusals, first, NoneOf, Meets, answer-meets, meets-once, given-exactly, kept-exactly, refused-untouched, refused-length, malformed-place, no-room, kept-length, kept-bytes, buffer-length, empty-on-good}
 
 -- Worked cases, by computation.
@@ -207,3 +209,45 @@ module _ (c : Call) (bytes : BytesOf c) (kept : (answer c) .number ≡ 0) (pairs
   -- So along a renumbered string of retained glyphs it finds, pair by pair, the pairs that the source finds along the string: at the same places, with equal adjustments, the same glyphs skipped.
   pub walk-same : (string : List ℕ) → All (Retained (g c bytes kept)) string → walk (small-says c) 0 (map (new (g c bytes kept)) string) ≡ walk (says c) 0 string
   walk-same string r = walks-same (g c bytes kept) (says c) (small-says c) skips-same (pair-same c bytes kept pairs) 0 string r
+
+-- Programs that must not pass: none of them meets the public statement on every call (`Passes`). Each program is a line or two in Wrong.antt.
+
+-- It refuses everything, with one number.
+pub refuses-everything : (n : ℕ) → Passes (refusing n) → ⊥
+refuses-everything = Wrong.refuses-everything
+
+-- It answers alike to everything.
+pub answers-alike : (r : Outcome) → Passes (λ c. r) → ⊥
+answers-alike = Wrong.answers-alike
+
+-- It copies the source.
+pub copies : Passes copying → ⊥
+copies = Wrong.copies
+
+-- It answers as it should and writes nothing.
+pub writes-nothing : Passes notWriting → ⊥
+writes-nothing = Wrong.writes-nothing
+
+-- It writes a byte where it refuses.
+pub writes-on-refusal : Passes writing → ⊥
+writes-on-refusal = Wrong.writes-on-refusal
+
+-- It invents a length: f is any function that changes the length 14.
+pub invents-a-length : (f : ℕ → ℕ) → (f 14 ≡ 14 → ⊥) → Passes (inventing f) → ⊥
+invents-a-length = Wrong.invents-a-length
+
+-- It answers in another order: of two refusals that apply it gives the later. Any two will do for which there is such a call, and `Wrong.both` has one for each two neighbours of the written order.
+pub another-order : All (λ b. Passes (swaps (b .earlier) (b .later)) → ⊥) Wrong.both
+another-order = Wrong.another-order
+
+-- It handles the first rule of each set only, and copies the others or drops them.
+pub copies-the-other-rules : Passes copiesOthers → ⊥
+copies-the-other-rules = Wrong.copies-the-other-rules
+
+pub drops-the-other-rules : Passes dropsOthers → ⊥
+drops-the-other-rules = Wrong.drops-the-other-rules
+
+-- Both break demand 3 too: the source matches at a place, and what they leave of it does not match at that place of the renumbered string.
+pub miss-the-second-rule : (atPlace (match (says Wrong.two)) [] (5 ∷ 7 ∷ []) 0 ≡ some (2, []))
+    × (atPlace (match (table 1 (left (copiesOthers Wrong.two)))) [] (0 ∷ 2 ∷ []) 0 ≡ none) × (atPlace (match (table 1 (left (dropsOthers Wrong.two)))) [] (0 ∷ 2 ∷ []) 0 ≡ none)
+miss-the-second-rule = Wrong.miss-the-second-rule
