@@ -1,6 +1,6 @@
 -- Every promise in one place, each with its words above it. They hold of every call: any kind, any source bytes, any two maps, any buffer.
 -- A reader who believes the definitions of `meaning` needs of this crate what stands here, the statements that it names in Refusals.antt (`Call`, `answer`, `plain`, `refusals`, `Meets`),
--- Survives.antt, and `Retained`, `new`, `cutMatch`, `cutLigated` and `Closed`, each a line or two.
+-- Survives.antt, and `Retained`, `new`, `renumbered`, `cutMatch`, `cutLigated` and `Closed`, each a line or two.
 use Prim.Native.Nat.{ℕ, _≤_, _<_}
 use mathlib.Core.Path.{_≡_, ap, _∙_}
 use mathlib.Core.Bool.{Bool, true, not}
@@ -153,7 +153,7 @@ module _ (c : Call) (bytes : BytesOf c) (kept : (answer c) .number ≡ 0) where
   -- Demand 3.
 
   -- `context-same`: the small context matches at a place of the renumbered string of retained glyphs exactly if the source matches at that place of the string,
-  -- with the same input length and the source's records in order, less those whose lookup was dropped, renumbered.
+  -- with the same input length and the source's records in order, less those whose lookup was dropped, renumbered (`renumbered`, said without the cut).
   pub context-same : (string : List ℕ) (i : ℕ) → All (Retained g) string
       → atPlace (match (small-says c)) [] (map (new g) string) i ≡ Option·map (cutMatch l) (atPlace (match (says c)) [] string i)
   unfolding bind
