@@ -4,7 +4,8 @@ use Prim.Native.String.{String}
 use mathlib.Core.Path.{_≡_, refl}
 use mathlib.Core.List.{List, [], _∷_, _++_, map}
 use Rattle.meaning.specs.Words.{flat}
-use Rattle.meaning.specs.Job.{ascii, program}
+use Rattle.meaning.specs.Subset.{limit}
+use Rattle.meaning.specs.Job.{ascii, room, program}
 
 -- a job file, and what the program prints for it
 pub record JobRow : Type 0 where
@@ -39,10 +40,17 @@ jobs =
     ∷ record { file = flat (bare ++ ((1 ∷ 0 ∷ 0 ∷ 0 ∷ 6 ∷ 0xFFFF ∷ 0xFFFF ∷ 0 ∷ 1 ∷ 0 ∷ 6 ∷ 0 ∷ 0 ∷ []) ++ lsj1)); prints = "refused 11\n" }
     -- no part may reach into the trailer
     ∷ record { file = flat (bare ++ ((1 ∷ 0 ∷ 0 ∷ 0 ∷ 7 ∷ 0 ∷ 6 ∷ 0 ∷ 0 ∷ 0 ∷ 6 ∷ 0 ∷ 0 ∷ []) ++ lsj1)); prints = "refused 11\n" }
+    -- the lookup map too, and starts have four bytes: 65,542 is not 6
+    ∷ record { file = flat (bare ++ ((1 ∷ 0 ∷ 0 ∷ 0 ∷ 6 ∷ 0 ∷ 6 ∷ 0 ∷ 0 ∷ 0 ∷ 5 ∷ 0 ∷ 4 ∷ []) ++ lsj1)); prints = "refused 11\n" }
+    ∷ record { file = flat (bare ++ ((1 ∷ 0 ∷ 0 ∷ 0 ∷ 6 ∷ 1 ∷ 6 ∷ 0 ∷ 0 ∷ 0 ∷ 6 ∷ 0 ∷ 0 ∷ []) ++ lsj1)); prints = "refused 11\n" }
     -- 11 is answered before a kind that there is not; a wrong tag, and a file of 29 bytes
     ∷ record { file = flat (bare ++ ((9 ∷ 0 ∷ 0 ∷ 0 ∷ 6 ∷ 0 ∷ 6 ∷ 0 ∷ 0 ∷ 0 ∷ 6 ∷ 0 ∷ 0 ∷ []) ++ lsj1)); prints = "refused 1\n" }
     ∷ record { file = flat (bare ++ ((9 ∷ 0 ∷ 0 ∷ 0 ∷ 6 ∷ 0 ∷ 6 ∷ 0 ∷ 0 ∷ 0 ∷ 6 ∷ 0 ∷ 0 ∷ []) ++ (0x4C53 ∷ 0x4A32 ∷ []))); prints = "refused 11\n" }
     ∷ record { file = 0 ∷ flat (0 ∷ 0 ∷ 0 ∷ 0 ∷ 0 ∷ 0 ∷ 0 ∷ 0 ∷ 0 ∷ 0 ∷ 0 ∷ 0 ∷ lsj1); prints = "refused 11\n" }
+    -- each byte of the tag counts, the first too
+    ∷ record { file = flat (bare ++ ((1 ∷ 0 ∷ 0 ∷ 0 ∷ 6 ∷ 0 ∷ 6 ∷ 0 ∷ 0 ∷ 0 ∷ 6 ∷ 0 ∷ 0 ∷ []) ++ (0x6C53 ∷ 0x4A31 ∷ []))); prints = "refused 11\n" }
+    -- after a full line of 16 bytes there is no empty one: a context of format 3 with a coverage of 5 and 7, and the glyph map 5 → 10, 7 → 12
+    ∷ record { file = flat ((3 ∷ 1 ∷ 0 ∷ 8 ∷ 1 ∷ 2 ∷ 5 ∷ 7 ∷ []) ++ ((5 ∷ 10 ∷ 7 ∷ 12 ∷ []) ++ ((1 ∷ 0 ∷ 0 ∷ 0 ∷ 16 ∷ 0 ∷ 16 ∷ 0 ∷ 8 ∷ 0 ∷ 24 ∷ 0 ∷ 0 ∷ []) ++ lsj1))); prints = "kept 16\n000300010000000800010002000a000c\n" }
     -- a trailer alone: the three parts are empty, and an empty source is malformed
     ∷ record { file = flat ((1 ∷ 0 ∷ 0 ∷ 0 ∷ 0 ∷ 0 ∷ 0 ∷ 0 ∷ 0 ∷ 0 ∷ 0 ∷ 0 ∷ 0 ∷ []) ++ lsj1); prints = "refused 6\n" }
     ∷ []
@@ -51,3 +59,8 @@ jobs =
 pub each-job : map (λ r. program (r .file)) jobs ≡ map (λ r. ascii (r .prints)) jobs
 unfolding program ascii jobs
 each-job = refl
+
+-- the program lends 65,536 bytes
+pub lends : room ≡ 65536
+unfolding room limit
+lends = refl

@@ -25,7 +25,11 @@ names-null c = 0x0002 ∷ 0x001C ∷ 0x0000 ∷ 0x0022 ∷ 0x0000 ∷ 0x0001 ∷
 
 -- the same with no lookahead class table, and a rule that names a class ahead
 abbrev ahead-null : ℕ → List ℕ
-ahead-null c = 0x0002 ∷ 0x001C ∷ 0x0000 ∷ 0x0022 ∷ 0x0000 ∷ 0x0001 ∷ 0x000E ∷ 0x0001 ∷ 0x0004 ∷ 0x0000 ∷ 0x0001 ∷ 0x0001 ∷ c ∷ 0x0000 ∷ 0x0001 ∷ 0x0001 ∷ 0x0005 ∷ 0x0002 ∷ 0x0000 ∷ []
+ahead-null c = 2 ∷ 28 ∷ 0 ∷ 34 ∷ 0 ∷ 1 ∷ 14 ∷ 1 ∷ 4 ∷ 0 ∷ 1 ∷ 1 ∷ c ∷ 0 ∷ 1 ∷ 1 ∷ 5 ∷ 2 ∷ 0 ∷ []
+
+-- plain, by glyph: for glyph 5 two rules of glyph count 1, the first without records, the second with (0, 9); for glyph 6 one with (0, 4)
+abbrev two-sets : List ℕ
+two-sets = 1 ∷ 40 ∷ 2 ∷ 10 ∷ 28 ∷ 2 ∷ 6 ∷ 10 ∷ 1 ∷ 0 ∷ 1 ∷ 1 ∷ 0 ∷ 9 ∷ 1 ∷ 4 ∷ 1 ∷ 1 ∷ 0 ∷ 4 ∷ 1 ∷ 2 ∷ 5 ∷ 6 ∷ []
 
 -- chained, by glyph: for glyph 5 a rule with backtrack 2 and then 1, away from the place, and the record (0, 4)
 abbrev two-before : List ℕ
@@ -80,6 +84,15 @@ asked =
     ∷ record { kind = 2; source = two-before; string = 1 ∷ 2 ∷ 5 ∷ []; place = 2; answers = some (1, (0, 4) ∷ []) }
     ∷ record { kind = 2; source = two-before; string = 2 ∷ 1 ∷ 5 ∷ []; place = 2; answers = none }
     ∷ record { kind = 2; source = covers; string = 2 ∷ 5 ∷ 6 ∷ 7 ∷ []; place = 1; answers = none }
+    -- each coverage of the input is asked, that of the place's own glyph too, and a null one has no glyph
+    ∷ record { kind = 2; source = covers; string = 1 ∷ 5 ∷ 8 ∷ 7 ∷ []; place = 1; answers = none }
+    ∷ record { kind = 2; source = covers; string = 1 ∷ 6 ∷ 6 ∷ 7 ∷ []; place = 1; answers = none }
+    ∷ record { kind = 1; source = 3 ∷ 1 ∷ 0 ∷ 0 ∷ []; string = 5 ∷ []; place = 0; answers = none }
+    -- a rule without records stops the search too; sets are chosen by coverage index
+    ∷ record { kind = 1; source = two-sets; string = 5 ∷ []; place = 0; answers = some (1, []) }
+    ∷ record { kind = 1; source = two-sets; string = 6 ∷ []; place = 0; answers = some (1, (0, 4) ∷ []) }
+    -- with a null input class table a context by class matches nowhere
+    ∷ record { kind = 1; source = 2 ∷ 18 ∷ 0 ∷ 1 ∷ 10 ∷ 1 ∷ 4 ∷ 1 ∷ 0 ∷ 1 ∷ 1 ∷ 5 ∷ []; string = 5 ∷ []; place = 0; answers = none }
     -- sets are chosen by the class of the glyph, which must be covered, and each class of the input is asked
     ∷ record { kind = 1; source = rules-by-classes; string = 5 ∷ 7 ∷ []; place = 0; answers = some (2, (1, 3) ∷ []) }
     ∷ record { kind = 1; source = rules-by-classes; string = 6 ∷ 7 ∷ []; place = 0; answers = none }
@@ -103,6 +116,11 @@ two-ligatures = flat (1 ∷ 28 ∷ 1 ∷ 8 ∷ 2 ∷ 6 ∷ 14 ∷ 20 ∷ 3 ∷ 6
 pub first-ligature : (ligate (table 3 two-ligatures) 5 (6 ∷ 7 ∷ []) ≡ some (20, 3)) × (ligate (table 3 two-ligatures) 5 (6 ∷ 8 ∷ []) ≡ some (21, 2)) × (ligate (table 3 two-ligatures) 5 (7 ∷ []) ≡ none)
 unfolding bytes2 flat table ligate
 first-ligature = (refl, refl, refl)
+
+-- not the longest: 5, 6 give 21 before 5, 6, 7 give 20
+pub not-longest : ligate (table 3 (flat (1 ∷ 28 ∷ 1 ∷ 8 ∷ 2 ∷ 6 ∷ 12 ∷ 21 ∷ 2 ∷ 6 ∷ 20 ∷ 3 ∷ 6 ∷ 7 ∷ 1 ∷ 1 ∷ 5 ∷ []))) 5 (6 ∷ 7 ∷ []) ≡ some (21, 2)
+unfolding bytes2 flat table ligate
+not-longest = refl
 
 -- a ligature of component count 0 for glyph 5 is formed nowhere
 pub no-components : ligate (table 3 (flat (1 ∷ 16 ∷ 1 ∷ 8 ∷ 1 ∷ 4 ∷ 20 ∷ 0 ∷ 1 ∷ 1 ∷ 5 ∷ []))) 5 [] ≡ none
@@ -129,8 +147,12 @@ pub signed-values : (adjust (table 4 one-pair) 5 6 ≡ some (record { x-placemen
 unfolding bytes2 flat table adjust
 signed-values = (refl, refl)
 
--- each field has its own place: y placement 3 and y advance −4 for the first glyph
-pub own-fields : adjust (table 4 (flat (1 ∷ 20 ∷ 10 ∷ 0 ∷ 1 ∷ 12 ∷ 1 ∷ 6 ∷ 3 ∷ 0xFFFC ∷ 1 ∷ 1 ∷ 5 ∷ []))) 5 6 ≡ some (record { x-placement = pos 0; y-placement = pos 3; x-advance = pos 0; y-advance = negsuc 3 }, record { x-placement = pos 0; y-placement = pos 0; x-advance = pos 0; y-advance = pos 0 })
+-- the pair 5, 6: y placement 3 and y advance −4 for the first glyph, and no second format
+abbrev first-only : List ℕ
+first-only = flat (1 ∷ 20 ∷ 10 ∷ 0 ∷ 1 ∷ 12 ∷ 1 ∷ 6 ∷ 3 ∷ 0xFFFC ∷ 1 ∷ 1 ∷ 5 ∷ [])
+
+-- each field has its own place
+pub own-fields : adjust (table 4 first-only) 5 6 ≡ some (record { x-placement = pos 0; y-placement = pos 3; x-advance = pos 0; y-advance = negsuc 3 }, record { x-placement = pos 0; y-placement = pos 0; x-advance = pos 0; y-advance = pos 0 })
 unfolding bytes2 flat table adjust
 own-fields = refl
 
@@ -142,6 +164,6 @@ abbrev pub less-silent : Outcome
 less-silent = subset 4 silent-pairs (flat (4 ∷ 0 ∷ 5 ∷ 1 ∷ [])) [] (replicate 24 0)
 
 -- a pair whose second format is not 0 has its second glyph skipped, in the source and in the small table, which keeps a field for it; a pair that is not found, or has no second format, has not
-pub still-skipped : (skips (table 4 silent-pairs) 4 5 ≡ true) × (less-silent .number ≡ 0) × (skips (table 4 (left less-silent)) 0 1 ≡ true) × (skips (table 4 silent-pairs) 5 4 ≡ false)
+pub still-skipped : (skips (table 4 silent-pairs) 4 5 ≡ true) × (less-silent .number ≡ 0) × (skips (table 4 (left less-silent)) 0 1 ≡ true) × (skips (table 4 silent-pairs) 5 4 ≡ false) × (skips (table 4 first-only) 5 6 ≡ false)
 unfolding bytes2 flat table subset skips
-still-skipped = (refl, refl, refl, refl)
+still-skipped = (refl, refl, refl, refl, refl)

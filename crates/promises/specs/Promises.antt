@@ -1,6 +1,6 @@
 -- Every promise in one place, each with its words above it. They hold of every call: any kind, any source bytes, any two maps, any buffer.
 -- A reader who believes the definitions of `meaning` needs of this crate what stands here, the statements that it names in Refusals.antt (`Call`, `answer`, `plain`, `refusals`, `Meets`),
--- Survives.antt, and `Retained`, `new`, `cutMatch`, `cutLigated` and `Closed`, each a line or two.
+-- Survives.antt, and `Retained`, `new`, `renumbered`, `cutMatch`, `cutLigated`, `Closed`, and `Faulty` and `callOf` of the job, each a line or two.
 use Prim.Native.Nat.{ℕ, _≤_, _<_}
 use mathlib.Core.Path.{_≡_, ap, _∙_}
 use mathlib.Core.Bool.{Bool, true, not}
@@ -14,9 +14,9 @@ use Rattle.meaning.specs.Tables.{table, Table}
 use Rattle.meaning.specs.Fault.{fault}
 use Rattle.meaning.specs.Cut.{classMap?}
 use Rattle.meaning.specs.Layout.{layout}
-use Rattle.meaning.specs.Subset.{Outcome, left, limit}
+use Rattle.meaning.specs.Subset.{Outcome, left, refused, limit}
 use Rattle.meaning.specs.Matching.{atPlace, match, ligate, adjust, skips}
-use Rattle.meaning.specs.Job.{ascii, program}
+use Rattle.meaning.specs.Job.{ascii, job, program}
 use Rattle.meaning.specs.Calls.{call, stated}
 use Rattle.meaning.specs.Rows as Rows
 use Rattle.meaning.specs.Points as Points
@@ -34,6 +34,9 @@ use Rattle.promises.specs.LowestPlace.{malformed-lowest, malformed-part}
 use Rattle.promises.specs.Within.{Within, kept-within, not-past}
 use Rattle.promises.specs.Walks.{skipping, walk, walks-same, skipping-same}
 use Rattle.promises.specs.Survives.{survives}
+use Rattle.promises.specs.JobFiles.{FaultyFile, callOf, refused-faulty, faulty-refused, sound-called}
+use Rattle.promises.specs.Wrong as Wrong
+use Rattle.promises.specs.Wrong.{Passes, refusing, copying, notWriting, writing, inventing, swaps, copiesOthers, dropsOthers}
 use Rattle.promises.specs.Refusals.{Call, answer, plain, left?, refusals, first, NoneOf, Meets, answer-meets, meets-once, given-exactly, kept-exactly, refused-untouched, refused-length, malformed-place, no-room, kept-length, kept-bytes, buffer-length, empty-on-good}
 
 -- Worked cases, by computation.
@@ -151,7 +154,7 @@ module _ (c : Call) (bytes : BytesOf c) (kept : (answer c) .number ≡ 0) where
   -- Demand 3.
 
   -- `context-same`: the small context matches at a place of the renumbered string of retained glyphs exactly if the source matches at that place of the string,
-  -- with the same input length and the source's records in order, less those whose lookup was dropped, renumbered.
+  -- with the same input length and the source's records in order, less those whose lookup was dropped, renumbered (`renumbered`, said without the cut).
   pub context-same : (string : List ℕ) (i : ℕ) → All (Retained g) string
       → atPlace (match (small-says c)) [] (map (new g) string) i ≡ Option·map (cutMatch l) (atPlace (match (says c)) [] string i)
   unfolding bind
@@ -207,3 +210,57 @@ module _ (c : Call) (bytes : BytesOf c) (kept : (answer c) .number ≡ 0) (pairs
   -- So along a renumbered string of retained glyphs it finds, pair by pair, the pairs that the source finds along the string: at the same places, with equal adjustments, the same glyphs skipped.
   pub walk-same : (string : List ℕ) → All (Retained (g c bytes kept)) string → walk (small-says c) 0 (map (new (g c bytes kept)) string) ≡ walk (says c) 0 string
   walk-same string r = walks-same (g c bytes kept) (says c) (small-says c) skips-same (pair-same c bytes kept pairs) 0 string r
+
+-- The label job.
+
+module _ (file buffer : List ℕ) where
+  -- `job-refused-exactly`: the answer is 11 exactly if the file is under 30 or over 65,536 bytes, has a wrong tag, or a part not wholly before the trailer (`FaultyFile`).
+  -- It comes before everything else, whatever else is wrong, with length 0 and the buffer as it was.
+  pub job-refused-exactly : ((job file buffer) .number ≡ 11 → FaultyFile file) × (FaultyFile file → job file buffer ≡ refused buffer 11)
+  job-refused-exactly = (refused-faulty file buffer, faulty-refused file buffer)
+
+  -- `job-called`: otherwise the answer is that of the call on the trailer's kind and the three parts, number, length and buffer.
+  pub job-called : (FaultyFile file → ⊥) → job file buffer ≡ answer (callOf file buffer)
+  job-called = sound-called file buffer
+
+-- Programs that must not pass: none of them meets the public statement on every call (`Passes`). Each program is a line or two in Wrong.antt.
+
+-- It refuses everything, with one number.
+pub refuses-everything : (n : ℕ) → Passes (refusing n) → ⊥
+refuses-everything = Wrong.refuses-everything
+
+-- It answers alike to everything.
+pub answers-alike : (r : Outcome) → Passes (λ c. r) → ⊥
+answers-alike = Wrong.answers-alike
+
+-- It copies the source.
+pub copies : Passes copying → ⊥
+copies = Wrong.copies
+
+-- It answers as it should and writes nothing.
+pub writes-nothing : Passes notWriting → ⊥
+writes-nothing = Wrong.writes-nothing
+
+-- It writes a byte where it refuses.
+pub writes-on-refusal : Passes writing → ⊥
+writes-on-refusal = Wrong.writes-on-refusal
+
+-- It invents a length: f is any function that changes the length 14.
+pub invents-a-length : (f : ℕ → ℕ) → (f 14 ≡ 14 → ⊥) → Passes (inventing f) → ⊥
+invents-a-length = Wrong.invents-a-length
+
+-- It answers in another order: of two refusals that apply it gives the later. Any two will do for which there is such a call, and `Wrong.both` has one for each two neighbours of the written order.
+pub another-order : All (λ b. Passes (swaps (b .earlier) (b .later)) → ⊥) Wrong.both
+another-order = Wrong.another-order
+
+-- It handles the first rule of each set only, and copies the others or drops them.
+pub copies-the-other-rules : Passes copiesOthers → ⊥
+copies-the-other-rules = Wrong.copies-the-other-rules
+
+pub drops-the-other-rules : Passes dropsOthers → ⊥
+drops-the-other-rules = Wrong.drops-the-other-rules
+
+-- Both break demand 3 too: the source matches at a place, and what they leave of it does not match at that place of the renumbered string.
+pub miss-the-second-rule : (atPlace (match (says Wrong.two)) [] (5 ∷ 7 ∷ []) 0 ≡ some (2, []))
+    × (atPlace (match (table 1 (left (copiesOthers Wrong.two)))) [] (0 ∷ 2 ∷ []) 0 ≡ none) × (atPlace (match (table 1 (left (dropsOthers Wrong.two)))) [] (0 ∷ 2 ∷ []) 0 ≡ none)
+miss-the-second-rule = Wrong.miss-the-second-rule
