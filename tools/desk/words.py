@@ -2,8 +2,8 @@
 import re, sys
 
 
-class Trouble(SystemExit):
-    """Ends the command with what the person at the desk has to change."""
+class Trouble(Exception):
+    """Ends the command with a sentence that says what the person at the desk has to change."""
 
 
 def read_bytes(name):
