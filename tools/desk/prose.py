@@ -8,7 +8,9 @@ WIDTH = 110
 
 def say(text, first="", rest="  "):
     """Prints one thing, wrapped, since lists of glyphs can be long."""
-    print(textwrap.fill(text, WIDTH, initial_indent=first, subsequent_indent=rest, break_on_hyphens=False))
+    if len(first) + len(text) <= WIDTH:
+        return print(first + text)
+    return print(textwrap.fill(text, WIDTH, initial_indent=first, subsequent_indent=rest, break_on_hyphens=False))
 
 
 def value_text(node):
