@@ -173,6 +173,6 @@ def font(args):
     parts = [f"{len(kept)} kept ({sum(a for a, _ in kept)} -> {sum(b for _, b in kept)} bytes)"]
     parts += [f"{len(tally[answer])} not run" if answer is None else
               f"{len(tally[answer])} refused as {answer} ({ANSWERS[answer][0]})" for answer in sorted(tally, key=str)]
-    print(f"{len(found)} subtables, {len(covered)} of them covered, {len(glyphs) // 4} glyphs retained: "
+    print(f"{len(found)} subtables, {len(covered)} covered, {len(glyphs) // 4} glyphs retained: "
           + ", ".join(parts) + ".")
     return 1 if any(answer in tally for answer in DAMAGED) else 0
