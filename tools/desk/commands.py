@@ -1,5 +1,5 @@
 """What tools/job is asked on the command line."""
-import argparse, sys
+import argparse, sys, textwrap
 from . import font_commands, job_commands
 from .answers import KINDS
 from .words import Trouble
@@ -46,6 +46,7 @@ def add_read(command):
     which.add_argument("--job", metavar="FILE", help="the job that was run; what changed is said too")
     which.add_argument("--kind", type=int, choices=sorted(KINDS), help="the kind, if the job is not at hand")
     one.add_argument("--all", action="store_true", help=ALL_HELP)
+    one.add_argument("-o", "--output", metavar="OUT", help="write the table that is kept to this file, as bytes")
     one.add_argument("printed", metavar="PRINTED", nargs="?", default="-",
                      help="what was printed; standard input if not given")
 
@@ -92,12 +93,14 @@ def add_font(command):
     add = command("font", font_commands.font,
                   "Cuts every subtable of a font that is covered, by ./label, and sums up what came out. The exit "
                   "status is 1 if a subtable is damaged: malformed, or with a record that points past its rule.",
-                  'tools/job font Font.otf --text "1/4 3/4" --report').add_argument
+                  'tools/job font Font.otf --text "1/4 3/4" --report -o cut').add_argument
     add_font_file(add)
     add("--table", choices=("GSUB", "GPOS"), help="only this one")
     add_retained(add)
     add("--report", action="store_true", help="a line for each subtable: lookup and subtable, kind, format, bytes "
         "before and after, and the answer in words")
+    add("-o", "--output", metavar="DIR", help="write the jobs to this folder, and what is kept as bytes: GSUB-3-0.job, "
+        "GSUB-3-0.table")
     add("--label", metavar="COMMAND", default=str(font_commands.LABEL), help="the program that runs a job; the ./label "
         "of this checkout if not given")
 
@@ -107,7 +110,8 @@ def arguments(given):
     commands = parser.add_subparsers(required=True, metavar="COMMAND")
 
     def command(name, run, about, *examples):
-        one = commands.add_parser(name, help=about, description=about, epilog="\n  ".join(("examples:", *examples)),
+        one = commands.add_parser(name, help=about, description=textwrap.fill(about, 80),
+                                  epilog="\n  ".join(("examples:", *examples)),
                                   formatter_class=argparse.RawDescriptionHelpFormatter)
         one.set_defaults(run=run)
         return one

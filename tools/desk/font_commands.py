@@ -1,12 +1,12 @@
 """The commands of tools/job that start from a font: lookups, from-font and font."""
 import bisect, concurrent.futures, os, pathlib, re, subprocess, sys
 from .answers import ANSWERS, KINDS, LIMIT
-from .fonts import Font, lookup_count
+from .fonts import Font
 from .jobs import build_job, entry_bytes, split_job
 from .job_commands import write_job
 from .judge import complaints
 from .prose import print_columns
-from .words import Trouble, number, read_bytes
+from .words import Trouble, hex_bytes, number, read_bytes, write_bytes
 
 LABEL = pathlib.Path(__file__).resolve().parents[2] / "label"
 # Answers that say that the font itself is damaged.
@@ -59,10 +59,11 @@ def as_map(ids, renumber):
 
 def font_maps(font, tags, args):
     """The glyph map, and the lookup map of each table."""
+    if len(tags) > 1 and args.lookups != "all":
+        raise Trouble("give --table with --lookups, since GSUB and GPOS number their lookups apart")
     glyphs = as_map(retained_glyphs(font, args), args.renumber_glyphs)
-    lookups = {tag: as_map(id_list(args.lookups, f"{tag} lookup", lookup_count(font, tag)), args.renumber_lookups)
-               for tag in tags}
-    return glyphs, lookups
+    kept = {tag: id_list(args.lookups, f"{tag} lookup", font.lookup_count(tag)) for tag in tags}
+    return glyphs, {tag: as_map(ids, args.renumber_lookups) for tag, ids in kept.items()}
 
 
 # ---- The commands ----
@@ -93,13 +94,13 @@ def from_font(args):
     found = [one for one in font.subtables([args.table]) if one.lookup == args.lookup]
     if not found:
         raise Trouble(f"{font.name}: {args.table} has no lookup {args.lookup} with a subtable; it has "
-                      f"{lookup_count(font, args.table)} lookups, counted from 0")
+                      f"{font.lookup_count(args.table)} lookups, counted from 0")
     if not 0 <= args.subtable < len(found):
         raise Trouble(f"{font.name}: lookup {args.lookup} of {args.table} has {len(found)} subtables, counted from 0")
     one = found[args.subtable]
-    if not one.kind:
-        raise Trouble(f"{font.name}: lookup {args.lookup} of {args.table} is of type {one.type}, {one.type_name()}, "
-                      "which is not covered")
+    if not one.cut:
+        what = f"type {one.type}, {one.type_name()}" + (f", and format {one.format}" if one.kind else "")
+        raise Trouble(f"{font.name}: the subtable is of {what}, which is not covered")
     glyphs, maps = font_maps(font, [args.table], args)
     job = build_job(one.kind, one.source(), glyphs, maps[args.table])
     if len(job) > LIMIT:
@@ -109,12 +110,12 @@ def from_font(args):
 
 
 def run_label(command, job):
-    """What the program says of a job: the answer, and how many bytes are kept."""
+    """What the program says of a job: the answer, and the bytes that are kept."""
     ran = subprocess.run([command, "-"], input=job, stdout=subprocess.PIPE, check=False)
-    parts = re.match(rb"(kept|refused) ([0-9]+)\n", ran.stdout)
+    parts = re.fullmatch(r"(kept|refused) ([0-9]+)\n((?:[0-9a-f]+\n)*)", ran.stdout.decode("ascii", "replace"))
     if not parts:
         raise Trouble(f"{command} gave no answer (exit status {ran.returncode})")
-    return (int(parts[2]), 0) if parts[1] == b"refused" else (0, int(parts[2]))
+    return (int(parts[2]), b"") if parts[1] == "refused" else (0, hex_bytes(parts[3]))
 
 
 def in_words(answer, job):
@@ -143,12 +144,20 @@ def cut_all(command, jobs):
     bar = Bar(len(jobs))
 
     def run(job):
-        answer = run_label(command, job) if len(job) <= LIMIT else (None, 0)
+        answer = run_label(command, job) if len(job) <= LIMIT else (None, b"")
         bar.step()
         return answer
 
     with concurrent.futures.ThreadPoolExecutor(os.cpu_count()) as pool:
         return [run(job) for job in jobs[:1]] + list(pool.map(run, jobs[1:]))
+
+
+def write_cut(folder, name, job, kept):
+    """The job and, if something is kept, the table, as files of a folder."""
+    os.makedirs(folder, exist_ok=True)
+    write_bytes(os.path.join(folder, name + ".job"), job)
+    if kept:
+        write_bytes(os.path.join(folder, name + ".table"), kept)
 
 
 def font(args):
@@ -162,11 +171,13 @@ def font(args):
     jobs = [build_job(one.kind, source, glyphs, maps[one.tag]) for one, source in zip(covered, sources)]
     answers = cut_all(args.label, jobs)
     rows, tally = [], {}
-    for one, source, job, (answer, size) in zip(covered, sources, jobs, answers):
+    for one, source, job, (answer, kept) in zip(covered, sources, jobs, answers):
         words = "not run: the job would be over 65,536 bytes" if answer is None else in_words(answer, job)
         rows.append([f"{one.tag} {one.lookup}.{one.index}", KINDS[one.kind], one.format, len(source),
-                     size if answer == 0 else "-", words])
-        tally.setdefault(answer, []).append((len(source), size))
+                     len(kept) if answer == 0 else "-", words])
+        tally.setdefault(answer, []).append((len(source), len(kept)))
+        if args.output:
+            write_cut(args.output, f"{one.tag}-{one.lookup}-{one.index}", job, kept)
     if args.report:
         print_columns(["lookup", "kind", "format", "before", "after", "answer"], rows, right=(2, 3, 4))
     kept = tally.pop(0, [])

@@ -77,14 +77,16 @@ class Font:
         cmap = self.table("cmap")
         records = [cmap.numbers("HHI", 4 + 8 * n, f"encoding record {n}")
                    for n in range(cmap.word(2, "the number of encodings"))]
-        ranked = sorted((ENCODINGS.index((one, two)) if (one, two) in ENCODINGS else 99, at) for one, two, at in records)
-        for rank, at in ranked:
+        ours = [(ENCODINGS.index((one, two)), at) for one, two, at in records if (one, two) in ENCODINGS]
+        for _, at in sorted(ours):
             form = cmap.word(at, "a character map")
-            if rank < 99 and form in CHARACTER_MAPS:
+            if form in CHARACTER_MAPS:
                 return {char: glyph for char, glyph in CHARACTER_MAPS[form](cmap, at) if glyph}
-        forms = ", ".join(str(cmap.word(at, "a character map")) for _, at in ranked) or "none"
-        raise Trouble(f"{self.name} has no Unicode character map of format {', '.join(map(str, CHARACTER_MAPS))} "
-                      f"(it has formats {forms}); give --glyphs in place of a text")
+        raise Trouble(f"{self.name} has no Unicode character map of format {', '.join(map(str, CHARACTER_MAPS))}; give "
+                      "--glyphs in place of a text")
+
+    def lookup_count(self, tag):
+        return len(lookup_places(self.table(tag)))
 
     def subtables(self, tags=("GSUB", "GPOS")):
         """The subtables of all lookups, in order."""
@@ -174,14 +176,19 @@ class Subtable:
         return rest[:max(part.at for part in parts)]
 
 
+def lookup_places(table):
+    """Where each lookup of the table starts; the offset to their list may be null."""
+    start = table.word(8, "the offset of the lookup list")
+    count = table.word(start, "the lookup list") if start else 0
+    return [start + offset for offset in table.words(count, start + 2, "the lookup list")]
+
+
 def lookup_subtables(tag, table):
     found = []
-    lookups = table.word(8, "the lookup list")
-    offsets = table.words(table.word(lookups, "the lookup list"), lookups + 2, "the list of lookups")
-    for number, offset in enumerate(offsets):
-        what, start = f"lookup {number}", lookups + offset
+    for number, start in enumerate(lookup_places(table)):
+        what = f"lookup {number}"
         kind_of_lookup, _, count = table.words(3, start, what)
-        for index, below in enumerate(table.words(count, start + 6, f"the subtables of {what}")):
+        for index, below in enumerate(table.words(count, start + 6, f"the list of subtables of {what}")):
             at, extended, kind = start + below, kind_of_lookup == EXTENSION[tag], kind_of_lookup
             if extended:
                 form, kind, far = table.numbers("HHI", at, f"extension {index} of {what}")
@@ -193,8 +200,3 @@ def lookup_subtables(tag, table):
             if len(found) > SUBTABLES_AT_MOST:
                 raise Trouble(f"{table.name} is damaged: it has more than {SUBTABLES_AT_MOST} subtables")
     return found
-
-
-def lookup_count(font, tag):
-    table = font.table(tag)
-    return table.word(table.word(8, "the lookup list"), "the lookup list")

@@ -5,7 +5,7 @@ from .jobs import EXAMPLE, build_job, map_bytes, map_text, new_ids, parts_of, sp
 from .judge import complaints, source_complaints
 from .prose import print_reasons, print_table, say
 from .tables import coverages, decode, tally
-from .words import Trouble, hex_bytes, joined, number, ranges_text, read_bytes, table_bytes
+from .words import Trouble, hex_bytes, joined, number, ranges_text, read_bytes, table_bytes, write_bytes
 
 
 def make(args):
@@ -25,8 +25,7 @@ def write_job(output, data):
     if found:
         print(f"tools/job: warning: the program will answer `refused {found[0][0]}`", file=sys.stderr)
         print_reasons(found, file=sys.stderr)
-    with open(output or sys.stdout.fileno(), "wb") as file:
-        file.write(data)
+    write_bytes(output or sys.stdout.fileno(), data)
 
 
 def show(args):
@@ -79,7 +78,10 @@ def read(args):
         raise Trouble("No reason for that is seen in the job given. Is it the job that was run?")
     print_reasons([pair for pair in found if pair[0] == answer], args.all)
     if answer == 0:
-        read_kept(int(parts[1]), hex_bytes(rest), job["kind"] if job else args.kind, job, tree)
+        kept = hex_bytes(rest)
+        read_kept(int(parts[1]), kept, job["kind"] if job else args.kind, job, tree)
+        if args.output:
+            write_bytes(args.output, kept)
     elif answer == 8 and job:
         for name, glyphs in coverages(tree):
             print(f"  {name}: {len(glyphs & new_ids(job).keys())} of {len(glyphs)} glyphs are retained")

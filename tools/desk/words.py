@@ -11,6 +11,11 @@ def read_bytes(name):
         return file.read()
 
 
+def write_bytes(name, data):
+    with open(name, "wb") as file:
+        file.write(data)
+
+
 def hex_bytes(text):
     digits = re.sub(r"[\s_]", "", text)
     if not re.fullmatch(r"([0-9A-Fa-f]{2})*", digits):
