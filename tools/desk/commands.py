@@ -126,6 +126,8 @@ def main(given=None):
     args = arguments(given)
     try:
         return args.run(args) or 0
+    except KeyboardInterrupt:
+        return 130
     except (OSError, Trouble) as trouble:
         file = isinstance(trouble, OSError) and trouble.filename
         print(f"tools/job: {f'{file}: {trouble.strerror}' if file else trouble}", file=sys.stderr)
