@@ -1,9 +1,9 @@
 """The commands of tools/job that start from a font: lookups, from-font and font."""
-import bisect, concurrent.futures, os, pathlib, re, subprocess, sys
+import bisect, concurrent.futures, os, pathlib, re, subprocess, sys, threading
 from .answers import ANSWERS, KINDS, LIMIT
 from .fonts import Font
-from .jobs import build_job, entry_bytes, split_job
 from .job_commands import write_job
+from .jobs import build_job, entry_bytes, split_job
 from .judge import complaints
 from .prose import print_columns
 from .words import Trouble, hex_bytes, number, read_bytes, write_bytes
@@ -113,30 +113,34 @@ def run_label(command, job):
     """What the program says of a job: the answer, and the bytes that are kept."""
     ran = subprocess.run([command, "-"], input=job, stdout=subprocess.PIPE, check=False)
     parts = re.fullmatch(r"(kept|refused) ([0-9]+)\n((?:[0-9a-f]+\n)*)", ran.stdout.decode("ascii", "replace"))
-    if not parts:
+    kept = hex_bytes(parts[3]) if parts else b""
+    if not parts or parts[1] == "kept" and len(kept) != int(parts[2]):
         raise Trouble(f"{command} gave no answer (exit status {ran.returncode})")
-    return (int(parts[2]), b"") if parts[1] == "refused" else (0, hex_bytes(parts[3]))
+    return (int(parts[2]), b"") if parts[1] == "refused" else (0, kept)
 
 
 def in_words(answer, job):
     """The answer in words; of a malformed table its lowest faulty part, of a record past its rule that record."""
+    if answer == 0:
+        return ANSWERS[0][0]
     reasons = [text for number, text in complaints(split_job(job)) if number == answer] if answer in DAMAGED else []
-    return f"{answer}: {reasons[0] if reasons else ANSWERS[answer][0]}" if answer else "kept"
+    return f"{answer}: " + ", ".join([ANSWERS[answer][0]] + reasons[:1])
 
 
 class Bar:
     """A progress bar on a terminal; nothing elsewhere."""
 
     def __init__(self, total):
-        self.total, self.done, self.shown = total, 0, sys.stderr.isatty()
+        self.total, self.done, self.shown, self.lock = total, 0, sys.stderr.isatty(), threading.Lock()
 
     def step(self):
-        self.done += 1
-        if self.shown:
-            filled = 40 * self.done // self.total
-            end = "\r\033[K" if self.done == self.total else ""
-            print(f"\r[{'#' * filled}{' ' * (40 - filled)}] {self.done} of {self.total}{end}", end="", file=sys.stderr,
-                  flush=True)
+        with self.lock:
+            self.done += 1
+            if self.shown:
+                filled = 40 * self.done // self.total
+                end = "\r\033[K" if self.done == self.total else ""
+                print(f"\r[{'#' * filled}{' ' * (40 - filled)}] {self.done} of {self.total}{end}", end="",
+                      file=sys.stderr, flush=True)
 
 
 def cut_all(command, jobs):
