@@ -1,5 +1,5 @@
 """The commands of tools/job that start from a font: lookups, from-font and font."""
-import bisect, concurrent.futures, os, pathlib, re, subprocess, sys, threading
+import bisect, concurrent.futures, os, pathlib, re, subprocess, sys, tempfile, threading
 from .answers import ANSWERS, KINDS, LIMIT
 from .fonts import Font
 from .job_commands import write_job
@@ -111,7 +111,10 @@ def from_font(args):
 
 def run_label(command, job):
     """What the program says of a job: the answer, and the bytes that are kept."""
-    ran = subprocess.run([command, "-"], input=job, stdout=subprocess.PIPE, check=False)
+    with tempfile.TemporaryFile() as file:
+        file.write(job)
+        file.seek(0)
+        ran = subprocess.run([command, "-"], stdin=file, stdout=subprocess.PIPE, check=False)
     parts = re.fullmatch(r"(kept|refused) ([0-9]+)\n((?:[0-9a-f]+\n)*)", ran.stdout.decode("ascii", "replace"))
     kept = hex_bytes(parts[3]) if parts else b""
     if not parts or parts[1] == "kept" and len(kept) != int(parts[2]):
