@@ -22,6 +22,12 @@
 extern "C" {
 #endif
 
+/* The version, as a text and by its parts. */
+#define GILLCURTAIN_VERSION "0.1.0"
+#define GILLCURTAIN_VERSION_MAJOR 0
+#define GILLCURTAIN_VERSION_MINOR 1
+#define GILLCURTAIN_VERSION_PATCH 0
+
 /* The kinds of subtable. */
 enum gillcurtain_kind {
   GILLCURTAIN_CONTEXT = 1,

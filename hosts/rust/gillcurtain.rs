@@ -39,7 +39,7 @@ pub enum Answer {
     NoRoom(usize),
 }
 
-#[link(name = "subset", kind = "static")]
+#[link(name = "gillcurtain", kind = "static")]
 extern "C" {
     fn gillcurtain_subset(
         kind: u64,

@@ -29,8 +29,8 @@ ANSWERS = {
     11: ("job file faulty (program only)",
          "`tools/job show` says why, and `tools/job make` makes sound ones. Was the file cut, or something added?"),
     12: ("a record points past its rule",
-         "Its sequence index has to be below the rule's input count; printers hang on such a rule. Mend the font or ask "
-         "its maker; `tools/job show` names the rule and the record."),
+         "Its sequence index has to be below the rule's input count; printers hang on such a rule. Mend the font or "
+         "ask its maker; `tools/job show` names the rule and the record."),
 }
 
 # Which answer goes before which, where several apply.

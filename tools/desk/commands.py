@@ -1,162 +1,134 @@
-"""The commands of tools/job."""
-import argparse, re, sys
-from .answers import AFTER_THE_CUT, ANSWERS, KINDS
-from .jobs import EXAMPLE, build_job, map_bytes, map_text, new_ids, parts_of, split_job
-from .judge import complaints, source_complaints
-from .prose import print_reasons, print_table, say
-from .tables import coverages, decode, tally
-from .words import Trouble, hex_bytes, joined, number, ranges_text, read_bytes, table_bytes
+"""What tools/job is asked on the command line."""
+import argparse, sys, textwrap
+from . import font_commands, job_commands
+from .answers import KINDS
+from .words import Trouble
+
+DESCRIPTION = """Makes label jobs, from words and from fonts, and says in words what goes into the subsetter and what
+comes out of it. Exit status: 0 done, 1 (font) a subtable is damaged, 2 trouble."""
+TABLE_HELP = "hex words, @ and a text file of hex words, or a binary file (write ./cafe for a file whose name reads " \
+             "as hex)"
+ALL_HELP = "every fault of every faulty part, lowest part first, and not only the first"
+KIND_HELP = "1 context, 2 chained context, 3 ligature, 4 pair"
 
 
-def make(args):
-    base = EXAMPLE if args.example else {"kind": None, "table": None, "glyphs": "", "lookups": ""}
-    given = {name: base[name] if getattr(args, name) is None else getattr(args, name) for name in base}
-    if given["kind"] is None or given["table"] is None:
-        raise Trouble("make needs --kind and --table, or --example")
-    maps = map_bytes(given["glyphs"]), map_bytes(given["lookups"])
-    write_job(args.output, build_job(number(given["kind"], "kind"), table_bytes(given["table"]), *maps))
-
-
-def write_job(output, data):
-    """Writes a job file, with a warning if it is refused before the cut."""
-    if not output and sys.stdout.isatty():
-        raise Trouble("a job file is binary, and standard output is a terminal; give -o OUT")
-    found = complaints(split_job(data))
-    if found:
-        print(f"tools/job: warning: the program will answer `refused {found[0][0]}`", file=sys.stderr)
-        print_reasons(found, file=sys.stderr)
-    with open(output or sys.stdout.fileno(), "wb") as file:
-        file.write(data)
-
-
-def show(args):
-    if args.kind:
-        table, job = table_bytes(args.file), None
-        tree = decode(args.kind, table)
-        print_table(tree, len(table))
-        found = source_complaints(args.kind, table, tree)
-    else:
-        job = split_job(read_bytes(args.file))
-        found = complaints(job, show_job(job))
-    if found:
-        answer = found[0][0]
-        print(f"The program answers `refused {answer}`" if job else f"The call answers {answer}", end="")
-        print(f": {ANSWERS[answer][0]}.")
-    else:
-        print("Nothing is seen that is refused before the cut.")
-    print_reasons(found, args.all)
-
-
-def show_job(job):
-    """Prints a job's parts, and hands back its table, decoded, if its kind is known."""
-    print(f"Job file of {job['size']} bytes" + (f", the trailer at {job['trailer']}." if job["parts"] else "."))
-    if not job["parts"]:
-        return None
-    for name, part in job["parts"].items():
-        print(f"  {name:10}  starts at {part['start']}, {part['length']} bytes")
-    table, glyphs, lookups = parts_of(job)
-    say(f"glyphs, old:new   {map_text(glyphs) or 'empty'}", "  ", "    ")
-    say(f"lookups, old:new  {map_text(lookups) or 'empty'}", "  ", "    ")
-    print(f"  kind {job['kind']}, {KINDS.get(job['kind'], 'which is none of 1 to 4')}")
-    if job["kind"] not in KINDS:
-        return say(f"The table, not decoded for want of its kind: {table.hex(' ', -2)}")
-    tree = decode(job["kind"], table)
-    print_table(tree, len(table))
-    return tree
-
-
-def read(args):
-    job = split_job(read_bytes(args.job)) if args.job else None
-    first, _, rest = read_bytes(args.printed).decode("ascii", "replace").partition("\n")
-    parts = re.fullmatch(r"kept ([0-9]{1,5})|refused ([0-9]{1,2})", first.rstrip())
-    answer = int(parts[2] or 0) if parts else -1
-    if answer not in ANSWERS or parts[2] and (answer == 0 or rest.strip()):
-        raise Trouble(f"the program never prints this: {ascii(first[:40])}" + " and more" * bool(rest.strip()))
-    tree = decode(job["kind"], parts_of(job)[0]) if job and job["parts"] and job["kind"] in KINDS else None
-    found = complaints(job, tree) if job else []
-    say(f"Answer {answer}: {ANSWERS[answer][0]}. {ANSWERS[answer][1]}")
-    if job and (not tree or tree["whole"]) and (found[0][0] != answer if found else answer not in AFTER_THE_CUT):
-        raise Trouble("No reason for that is seen in the job given. Is it the job that was run?")
-    print_reasons([pair for pair in found if pair[0] == answer], args.all)
-    if answer == 0:
-        read_kept(int(parts[1]), hex_bytes(rest), job["kind"] if job else args.kind, job, tree)
-    elif answer == 8 and job:
-        for name, glyphs in coverages(tree):
-            print(f"  {name}: {len(glyphs & new_ids(job).keys())} of {len(glyphs)} glyphs are retained")
-
-
-def read_kept(count, data, kind, job, before):
-    if count != len(data):
-        raise Trouble(f"{count} bytes are announced and {len(data)} follow: the print is cut or damaged")
-    if kind is None:
-        return print(f"It has {count} bytes; give --job or --kind to see them decoded.")
-    after = decode(kind, data)
-    print_table(after, len(data))
-    if after["faulty"]:
-        raise Trouble("This is no sound table of that kind. Is it the right kind?")
-    return job and print_changes(job, before, after, len(data))
-
-
-def print_changes(job, before, after, size):
-    print(f"What changed:\n  bytes: {job['parts']['table']['length']} -> {size}")
-    for (name, old), (_, new) in zip(coverages(before), coverages(after)):
-        print(f"  {name}: {len(old)} -> {len(new)} glyphs")
-        emptied = [(glyph, glyph) for glyph, new_id in new_ids(job).items() if glyph in old and new_id not in new]
-        if emptied:
-            say("retained, but nothing in its set survives: " + ranges_text(joined(emptied)), "    ", "      ")
-    for name in ("set", "rule", "record", "ligature", "pair"):
-        old, new = tally(before["parts"], name, {}), tally(after["parts"], name, {})
-        if old or new:
-            print(f"  {name}s: {old} -> {new}")
-
-
-def arguments(given):
-    parser = argparse.ArgumentParser(
-        prog="tools/job", description="Makes label jobs, and says in words what goes into the subsetter and what "
-        "comes out of it.")
-    commands = parser.add_subparsers(required=True, metavar="COMMAND")
-
-    def command(run, about, *examples):
-        one = commands.add_parser(run.__name__, help=about, description=about,
-                                  epilog="\n  ".join(("examples:", *examples)),
-                                  formatter_class=argparse.RawDescriptionHelpFormatter)
-        one.set_defaults(run=run)
-        return one, one.add_argument
-
-    table_help = "hex words, @ and a text file of hex words, or a binary file (write ./cafe for a file whose name " \
-                 "reads as hex)"
-    all_help = "every fault of every faulty part, lowest part first, and not only the first"
-    _, add = command(make, "Makes a job file. What is bad in it is written all the same, with a warning.",
-                     'tools/job make --kind 1 --table "0003 0001 0001 000C 0000 0004 0001 0002 0005 0007" \\\n'
-                     '      --glyphs "5-9:100" --lookups "4:0" -o small.job')
-    add("--kind", metavar="K", help="1 context, 2 chained context, 3 ligature, 4 pair")
-    add("--table", metavar="HEX|@FILE|FILE", help="the subtable: " + table_help)
+def add_make(command):
+    add = command("make", job_commands.make,
+                  "Makes a job file. What is bad in it is written all the same, with a warning.",
+                  'tools/job make --kind 1 --table "0003 0001 0001 000C 0000 0004 0001 0002 0005 0007" \\\n'
+                  '      --glyphs "5-9:100" --lookups "4:0" -o small.job').add_argument
+    add("--kind", metavar="K", help=KIND_HELP)
+    add("--table", metavar="HEX|@FILE|FILE", help="the subtable: " + TABLE_HELP)
     add("--glyphs", metavar="MAP", help='the glyph map: "3:1 5:2" (old:new), "5-9:100" (neighbours in step) or '
         "hex:0003 (bytes as they are); numbers are decimal, or hexadecimal after 0x; empty if not given")
     add("--lookups", metavar="MAP", help="the lookup map, in the same way")
     add("--example", action="store_true", help="the worked case P1; other options replace its parts")
     add("-o", "--output", metavar="OUT", help="the file to write; standard output if not given")
-    _, add = command(show, "Shows a job file's parts, maps and table, or a subtable alone, field by field; a line "
-                     "marked ! says what is wrong.",
-                     "tools/job make --example | tools/job show -",
-                     'tools/job show --kind 1 "0003 0001 0000 0008 0001 0002 0005 0005"')
-    add("--kind", type=int, choices=sorted(KINDS), help="take FILE as a subtable alone, of this kind")
-    add("--all", action="store_true", help=all_help)
-    add("file", metavar="FILE", help="a job file, or - for standard input; with --kind a subtable: " + table_help)
-    one, add = command(read, "Says what the program's print means: a refusal in words, with the part and the place, or "
-                       "the table kept, field by field.",
-                       "./label small.job | tools/job read --job small.job")
+
+
+def add_show(command):
+    add = command("show", job_commands.show,
+                  "Shows a job file's parts, maps and table, or a subtable alone, field by field; a line marked ! says "
+                  "what is wrong.",
+                  "tools/job make --example | tools/job show -",
+                  'tools/job show --kind 1 "0003 0001 0000 0008 0001 0002 0005 0005"').add_argument
+    add("--kind", type=int, choices=sorted(KINDS), help="take FILE as a subtable alone, of this kind: " + KIND_HELP)
+    add("--all", action="store_true", help=ALL_HELP)
+    add("file", metavar="FILE", help="a job file, or - for standard input; with --kind a subtable: " + TABLE_HELP)
+
+
+def add_read(command):
+    one = command("read", job_commands.read,
+                  "Says what the program's print means: a refusal in words, with the part and the place, or the table "
+                  "kept, field by field.",
+                  "./label small.job | tools/job read --job small.job")
     which = one.add_mutually_exclusive_group()
     which.add_argument("--job", metavar="FILE", help="the job that was run; what changed is said too")
     which.add_argument("--kind", type=int, choices=sorted(KINDS), help="the kind, if the job is not at hand")
-    add("--all", action="store_true", help=all_help)
-    add("printed", metavar="PRINTED", nargs="?", default="-", help="what was printed; standard input if not given")
+    one.add_argument("--all", action="store_true", help=ALL_HELP)
+    one.add_argument("-o", "--output", metavar="OUT", help="write the table that is kept to this file, as bytes")
+    one.add_argument("printed", metavar="PRINTED", nargs="?", default="-",
+                     help="what was printed; standard input if not given")
+
+
+def add_font_file(add):
+    add("font", metavar="FONT", help="an OpenType font or collection")
+    add("--number", metavar="N", type=int, default=0, help="which font of a collection, from 0; the first if not given")
+
+
+def add_retained(add):
+    add("--glyphs", metavar="LIST", help="retain these glyphs: 3,5,9-20, or all, or @ and a file of such a list")
+    add("--text", metavar="TEXT", help="retain the glyphs of these characters (as the font's cmap has them)")
+    add("--text-file", metavar="FILE", help="the same, from a file in UTF-8")
+    add("--renumber-glyphs", action="store_true", help="number the retained glyphs from 0 on; if not given, their "
+        "numbers stay")
+    add("--lookups", metavar="LIST", default="all", help="keep these lookups, as --glyphs; all if not given")
+    add("--renumber-lookups", action="store_true", help="number the lookups that are kept from 0 on")
+
+
+def add_lookups(command):
+    add = command("lookups", font_commands.lookups,
+                  "Lists a font's GSUB and GPOS lookups: types, subtables, formats, sizes, and which of them can be "
+                  "cut. Where a subtable cannot, the size is that up to the next one.",
+                  "tools/job lookups Font.otf").add_argument
+    add_font_file(add)
+    add("--table", choices=("GSUB", "GPOS"), help="only this one")
+
+
+def add_from_font(command):
+    add = command("from-font", font_commands.from_font,
+                  "Makes the job that cuts one subtable of a font. Extension lookups are unwrapped.",
+                  'tools/job from-font Font.otf --table GSUB --lookup 3 --text "1/4 3/4" -o frac.job',
+                  "tools/job from-font Font.otf --table GPOS --lookup 0 --subtable 1 --glyphs 3,5,9-20 \\\n"
+                  "      --renumber-glyphs | ./label").add_argument
+    add_font_file(add)
+    add("--table", choices=("GSUB", "GPOS"), required=True)
+    add("--lookup", metavar="N", type=int, required=True, help="the lookup, from 0, as `tools/job lookups` lists it")
+    add("--subtable", metavar="M", type=int, default=0, help="the subtable of it, from 0; the first if not given")
+    add_retained(add)
+    add("-o", "--output", metavar="OUT", help="the file to write; standard output if not given")
+
+
+def add_font(command):
+    add = command("font", font_commands.font,
+                  "Cuts every subtable of a font that is covered, by ./label, and sums up what came out. The exit "
+                  "status is 1 if a subtable is damaged: malformed, or with a record that points past its rule.",
+                  'tools/job font Font.otf --text "1/4 3/4" --report -o cut').add_argument
+    add_font_file(add)
+    add("--table", choices=("GSUB", "GPOS"), help="only this one")
+    add_retained(add)
+    add("--report", action="store_true", help="a line for each subtable: lookup and subtable, kind, format, bytes "
+        "before and after, and the answer in words")
+    add("-o", "--output", metavar="DIR", help="write the jobs to this folder, and what is kept as bytes: GSUB-3-0.job, "
+        "GSUB-3-0.table")
+    add("--label", metavar="COMMAND", default=str(font_commands.LABEL), help="the program that runs a job; the ./label "
+        "of this checkout if not given")
+
+
+def arguments(given):
+    parser = argparse.ArgumentParser(prog="tools/job", description=DESCRIPTION)
+    commands = parser.add_subparsers(required=True, metavar="COMMAND")
+
+    def command(name, run, about, *examples):
+        one = commands.add_parser(name, help=about, description=textwrap.fill(about, 80),
+                                  epilog="\n  ".join(("examples:", *examples)),
+                                  formatter_class=argparse.RawDescriptionHelpFormatter)
+        one.set_defaults(run=run)
+        return one
+
+    for add in (add_make, add_show, add_read, add_lookups, add_from_font, add_font):
+        add(command)
     return parser.parse_args(given)
 
 
 def main(given=None):
+    """Runs a command, and hands back the exit status."""
     args = arguments(given)
     try:
-        args.run(args)
-    except OSError as trouble:
-        raise Trouble(str(trouble)) from None
+        return args.run(args) or 0
+    except KeyboardInterrupt:
+        return 130
+    except (OSError, Trouble) as trouble:
+        file = isinstance(trouble, OSError) and trouble.filename
+        print(f"tools/job: {f'{file}: {trouble.strerror}' if file else trouble}", file=sys.stderr)
+        return 2

@@ -8,7 +8,9 @@ WIDTH = 110
 
 def say(text, first="", rest="  "):
     """Prints one thing, wrapped, since lists of glyphs can be long."""
-    print(textwrap.fill(text, WIDTH, initial_indent=first, subsequent_indent=rest, break_on_hyphens=False))
+    if len(first) + len(text) <= WIDTH:
+        return print(first + text)
+    return print(textwrap.fill(text, WIDTH, initial_indent=first, subsequent_indent=rest, break_on_hyphens=False))
 
 
 def value_text(node):
@@ -52,3 +54,13 @@ def print_reasons(found, everything=False, file=None):
             print(f"  {answer}: {text}", file=file)
         if len(texts) > 1 and not everything:
             print(f"  {answer}: and {len(texts) - 1} more; `tools/job show --all` lists them", file=file)
+
+
+def print_columns(titles, rows, right):
+    """A table of columns as wide as they have to be; those with the numbers `right` are flush right."""
+    cells = [titles] + [[str(cell) for cell in row] for row in rows]
+    widths = [max(map(len, column)) for column in zip(*cells)]
+    for row in cells:
+        line = "  ".join(cell.rjust(width) if column in right else cell.ljust(width)
+                         for column, (cell, width) in enumerate(zip(row, widths)))
+        print(line.rstrip())

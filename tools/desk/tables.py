@@ -198,7 +198,8 @@ def check_ranges(part, listed, has_classes):
         if first > last:
             part.fault(at, f"range {index} starts at glyph {first} and ends before it, at {last}")
         if first <= previous:
-            part.fault(at, f"range {index} starts before range {index - 1} ends: glyph {first} follows glyph {previous}")
+            part.fault(at, f"range {index} starts before range {index - 1} ends: glyph {first} follows glyph "
+                       f"{previous}")
         if not has_classes and third != before:
             part.fault(at + 4, f"range {index} has startCoverageIndex {third}, and {before} glyphs stand before it")
         before, previous = before + last - first + 1, last

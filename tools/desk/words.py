@@ -2,13 +2,18 @@
 import re, sys
 
 
-class Trouble(SystemExit):
-    """Ends the command with what the person at the desk has to change."""
+class Trouble(Exception):
+    """Ends the command with a sentence that says what the person at the desk has to change."""
 
 
 def read_bytes(name):
     with open(sys.stdin.fileno() if name == "-" else name, "rb") as file:
         return file.read()
+
+
+def write_bytes(name, data):
+    with open(name, "wb") as file:
+        file.write(data)
 
 
 def hex_bytes(text):
