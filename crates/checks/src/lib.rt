@@ -1,8 +1,8 @@
 // Malformed, over the whole source: the header of each kind and format, and through its offsets every part, retained or not. And records that point past their rule.
 use rules::places_below;
 use sets::crowded;
-use view::below;
 use view::header;
+use view::subtable_place;
 use wire::Fault;
 use wire::inside;
 use wire::lowest;
@@ -63,7 +63,7 @@ fn check_through(part: Part, src: &[u8], slot: usize, n: usize) -> Fault
 fn enough_sets(src: &[u8], n: usize) -> bool
     ensures { λ r. ⌜ r ≡ enough (now (src .entry)) n ⌝ }
 {
-    let at = below(src, 2);
+    let at = subtable_place(src, 2);
     if at == 0 {
         return true;
     }

@@ -249,7 +249,7 @@ writes-on-refusal = Wrong.writes-on-refusal
 pub invents-a-length : (f : ℕ → ℕ) → (f 14 ≡ 14 → ⊥) → Passes (inventing f) → ⊥
 invents-a-length = Wrong.invents-a-length
 
--- It answers in another order: of two refusals that apply it gives the later. Any two will do for which there is such a call, and `Wrong.both` has one for each two neighbours of the written order.
+-- It answers in another order: of two refusals that apply it gives the later. `Wrong.both` has a call for the neighbours of the written order that can apply to one call, save 9 with 10; `Wrong.swap-fails` is for any two.
 pub another-order : All (λ b. Passes (swaps (b .earlier) (b .later)) → ⊥) Wrong.both
 another-order = Wrong.another-order
 

@@ -1,5 +1,6 @@
-// A table view: the source and a place in it. The thin functions over it read a field and move to the subtable that an offset field reaches;
-// each takes the view apart and leaves the work to a function on the plain slice.
+// A table view: the source and a place in it. Two thin functions over it do the work: `field` reads a field of the table and answers its number,
+// and `subtable` moves to the table that an offset field reaches and answers the view of that. Each takes the view apart, and leaves the work to a function on the plain slice.
+// For the table at the front of a source, `header` reads a field and `subtable_place` moves, on the plain slice too: callers use these.
 use wire::word_at;
 ghost use mathlib.Core.Path.{_≡_};
 ghost use Prim.Native.Nat.{_+_, _<_};
@@ -11,7 +12,7 @@ pub struct View<'a> {
     pub at: usize,
 }
 
-// The field `i` bytes after `at`; past the end it reads as 0.
+// Reads the field `i` bytes after `at`; past the end it is 0.
 fn field_at(src: &[u8], at: usize, i: usize) -> usize
     ensures { λ r. ⌜ (r ≡ word (now (src .entry)) (at + i)) × (r < 65536) ⌝ }
 {
@@ -24,8 +25,8 @@ fn field_at(src: &[u8], at: usize, i: usize) -> usize
     word_at(src, at + i)
 }
 
-// The place that the offset field `i` bytes after `at` reaches, from `at` on.
-fn place_at(src: &[u8], at: usize, i: usize) -> usize
+// Moves to the place that the offset field `i` bytes after `at` reaches: offsets count from `at`.
+fn subtable_at(src: &[u8], at: usize, i: usize) -> usize
     ensures { λ r. ⌜ (r ≡ at + word (now (src .entry)) (at + i)) × (r < at + 65536) ⌝ }
 {
     if src.len() <= at {
@@ -48,33 +49,33 @@ pub fn place<'a>(v: View<'a>) -> usize
     v.at
 }
 
-// The field of a table that stands `i` bytes after its start.
+// Reads the field that stands `i` bytes after a table's start.
 pub fn field<'a>(v: View<'a>, i: usize) -> usize
     ensures { λ r. ⌜ (r ≡ word (now (v .entry .src)) (v .entry .at + i)) × (r < 65536) ⌝ }
 {
     field_at(v.src, v.at, i)
 }
 
-// The subtable that the offset field `i` bytes after a table's start reaches.
-pub fn to<'a>(v: View<'a>, i: usize) -> View<'a>
+// Moves to the subtable that the offset field `i` bytes after a table's start reaches.
+pub fn subtable<'a>(v: View<'a>, i: usize) -> View<'a>
     ensures { λ r. ⌜ (r .src ≡ v .entry .src) × (r .at ≡ v .entry .at + word (now (v .entry .src)) (v .entry .at + i)) × (r .at < v .entry .at + 65536) ⌝ }
 {
     View {
         src: v.src,
-        at: place_at(v.src, v.at, i),
+        at: subtable_at(v.src, v.at, i),
     }
 }
 
-// A field of the table at the front of a source.
+// Reads a field of the table at the front of a source.
 pub fn header(src: &[u8], i: usize) -> usize
     ensures { λ r. ⌜ (r ≡ word (now (src .entry)) i) × (r < 65536) ⌝ }
 {
     field(at_front(src), i)
 }
 
-// The place of the subtable that an offset field of the table at the front of a source reaches; 0 where the offset is null.
-pub fn below(src: &[u8], i: usize) -> usize
+// Moves to the subtable that an offset field of the table at the front of a source reaches, and answers its place; that is 0 where the offset is null.
+pub fn subtable_place(src: &[u8], i: usize) -> usize
     ensures { λ r. ⌜ (r ≡ word (now (src .entry)) i) × (r < 65536) ⌝ }
 {
-    place(to(at_front(src), i))
+    place(subtable(at_front(src), i))
 }
