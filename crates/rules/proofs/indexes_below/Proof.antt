@@ -1,10 +1,10 @@
--- `rules::places_below` meets its contract: what the loop keeps is `Below`. Assumes nothing.
+-- `rules::indexes_below` meets its contract: what the loop keeps is `Below`. Assumes nothing.
 use Prim.Native.Nat.{_-_}
 use native.Mathlib.Omega.{arith}
 use borrow.Author.Needs.{needs}
 use Rattle.rules.proofs.Within.{Below, below-all, below-next, below-past, below-end}
-use Rattle.rules.proofs.places_below.Statement.{statement}
-use Rattle.rules.proofs.places_below.Tie as tie
+use Rattle.rules.proofs.indexes_below.Statement.{statement}
+use Rattle.rules.proofs.indexes_below.Tie as tie
 
 abbrev Inv-loop : tie.InvT-loop
 Inv-loop src at n count i₀ i = Below count src at n i
@@ -28,8 +28,8 @@ loop-again c =
 returns-2 : tie.Need-returns-2 Inv-loop μ-loop
 returns-2 c = below-end (c .before .loop .inv) (c .loop-test .left)
 
-pub places-below-spec : {M : Type 1} → statement M
-places-below-spec =
+pub indexes-below-spec : {M : Type 1} → statement M
+indexes-below-spec =
     tie.close
     (tie.spec
     Inv-loop
