@@ -19,7 +19,7 @@ unfolding inside
 inside-is s at n h = leb-true (at + n) (length s) h
 
 -- each part that offsets reach is sound, if none is faulty
-through-sound : (faultAt : ℕ → Option ℕ) (s : List ℕ) (base slot n i : ℕ) → faultThrough faultAt s base slot n ≡ none → i < n → (word s (slot + 2 * i) ≡ 0 → ⊥)
+pub through-sound : (faultAt : ℕ → Option ℕ) (s : List ℕ) (base slot n i : ℕ) → faultThrough faultAt s base slot n ≡ none → i < n → (word s (slot + 2 * i) ≡ 0 → ⊥)
     → faultAt (base + word s (slot + 2 * i)) ≡ none
 unfolding faultThrough
 through-sound faultAt s base slot zero i h l z = absurd (omega arith)
