@@ -9,7 +9,7 @@ use borrow.Author.Tests.{ne-eqb}
 use Rattle.meaning.specs.Words.{word, entries}
 use Rattle.meaning.specs.Parts.{coverage}
 use Rattle.meaning.specs.Tables.{Table, reach, reaches, ruleSet, ligatureSet, pairSet, fieldCount, classContext, coverContext, context, table}
-use Rattle.meaning.specs.Records.{placesBelow, setsWithin, recordsWithin}
+use Rattle.meaning.specs.Records.{indexesBelow, setsWithin, recordsWithin}
 use Rattle.laws.specs.SoundGood.{reaches-length}
 use Rattle.maps.specs.Below.{zeros-read}
 use Rattle.gsubgpos.specs.Within.{Marked}
@@ -20,12 +20,12 @@ none-marked n = record { good = λ p m. absurd (m (zeros-read n p)) }
 
 -- format 3: one rule, whose records follow its coverages
 module _ (s : List ℕ) {t : Bool} where
-  pub covers-plain : {n k : ℕ} → n ≡ word s 2 → k ≡ word s 4 → t ≡ placesBelow n (entries s (6 + 2 * n) k) → t ≡ recordsWithin (coverContext false s)
+  pub covers-plain : {n k : ℕ} → n ≡ word s 2 → k ≡ word s 4 → t ≡ indexesBelow n (entries s (6 + 2 * n) k) → t ≡ recordsWithin (coverContext false s)
   unfolding coverContext recordsWithin
   covers-plain e f h = rw (reaches-length (coverage s) s 0 6 (word s 2)) (rw (f, e) at h)
 
   pub covers-chained : {b i a k : ℕ} → b ≡ word s 2 → i ≡ word s (4 + 2 * b) → a ≡ word s (4 + 2 * b + 2 + 2 * i) → k ≡ word s (4 + 2 * b + 2 + 2 * i + 2 + 2 * a)
-      → t ≡ placesBelow i (entries s (4 + 2 * b + 2 + 2 * i + 2 + 2 * a + 2) k) → t ≡ recordsWithin (coverContext true s)
+      → t ≡ indexesBelow i (entries s (4 + 2 * b + 2 + 2 * i + 2 + 2 * a + 2) k) → t ≡ recordsWithin (coverContext true s)
   unfolding coverContext recordsWithin
   covers-chained e f g j h = rw (reaches-length (coverage s) s 0 (4 + 2 * word s 2 + 2) (word s (4 + 2 * word s 2))) (rw (j, g, f, e) at h)
 

@@ -1,5 +1,5 @@
 // Malformed, over the whole source: the header of each kind and format, and through its offsets every part, retained or not. And records that point past their rule.
-use rules::places_below;
+use rules::indexes_below;
 use sets::crowded;
 use view::header;
 use view::subtable_place;
@@ -243,7 +243,7 @@ fn plain_covers_within(src: &[u8]) -> bool
     ensures { λ r. ⌜ r ≡ recordsWithin (coverContext false (now (src .entry))) ⌝ }
 {
     let n = word_at(src, 2);
-    places_below(src, 6 + 2 * n, word_at(src, 4), n)
+    indexes_below(src, 6 + 2 * n, word_at(src, 4), n)
 }
 
 // Whether no record of a chained context of format 3 points past its input.
@@ -254,7 +254,7 @@ fn chained_covers_within(src: &[u8]) -> bool
     let n = word_at(src, input);
     let ahead = input + 2 + 2 * n;
     let records = ahead + 2 + 2 * word_at(src, ahead);
-    places_below(src, records + 2, word_at(src, records), n)
+    indexes_below(src, records + 2, word_at(src, records), n)
 }
 
 // The same of format 3, plain or chained.
@@ -289,7 +289,7 @@ fn context_within(chained: bool, src: &[u8]) -> bool
     }
 }
 
-// Whether no record of a source of this kind points past its rule, retained or not: its place is below the count of the rule's input. Only contexts have records.
+// Whether no record of a source of this kind points past its rule, retained or not: its sequence index is below the count of the rule's input. Only contexts have records.
 pub fn records_within(kind: usize, src: &[u8]) -> bool
     ensures { λ r. ⌜ r ≡ recordsWithin (table kind (now (src .entry))) ⌝ }
 {

@@ -8,6 +8,7 @@ ghost use Prim.Native.Nat.{_≤_};
 ghost use lib.ListN.{length};
 ghost use Rattle.report.specs.Lengths.{textRoom};
 ghost use Rattle.label_job.specs.Answered.{Answered};
+ghost use Rattle.label_job.specs.Input.{Within};
 
 // One byte more than the longest job file has, so that a longer one is seen.
 const FILE: usize = 65537;
@@ -17,6 +18,40 @@ const RESULT: usize = 65536;
 
 // Room for the longest text.
 const TEXT: usize = 135200;
+
+// What came of reading: a number of bytes at the front of the buffer, or that a read failed.
+pub enum Input {
+    Bytes(usize),
+    Failed,
+}
+
+// Reads standard input once; 0 bytes are its end.
+fn read_once(part: &mut [u8]) -> Input
+    ensures { λ r. ⌜ Within r (length (now (part .exit))) ⌝ }
+{
+    let got = libc::read(0, part);
+    if got < 0 {
+        return Input::Failed;
+    }
+    Input::Bytes(io::count(got, part))
+}
+
+// Reads standard input to its end, or until `file` is full.
+fn read_input(file: &mut [u8]) -> Input
+    ensures { λ r. ⌜ Within r (length (now (file .exit))) ⌝ }
+{
+    let mut n = 0;
+    while n < file.len() {
+        let Input::Bytes(more) = read_once(&mut file[n..]) else {
+            return Input::Failed;
+        };
+        if more == 0 {
+            return Input::Bytes(n);
+        }
+        n += more;
+    }
+    Input::Bytes(n)
+}
 
 // A buffer for the text. Its contract says how long it is, and nothing of what is in it.
 fn blank() -> [u8; TEXT]
@@ -35,11 +70,16 @@ fn answer(file: &[u8], text: &mut [u8]) -> usize
     report(number_of(a), length_of(a), &result, text)
 }
 
-// Reads the file, and writes the text at once.
+// Reads the file, and writes the text at once. Where that fails, a sentence on standard error says so; a failed read leaves standard output empty.
 fn main() {
     let mut file = [0u8; FILE];
-    let n = io::read_full(0, &mut file);
+    let Input::Bytes(n) = read_input(&mut file) else {
+        io::write_all(2, b"label_job: standard input could not be read\n");
+        return;
+    };
     let mut text = blank();
     let k = answer(&file[..n], &mut text);
-    io::write_all(1, &text[..k]);
+    if !io::write_all(1, &text[..k]) {
+        io::write_all(2, b"label_job: the answer could not be written\n");
+    }
 }

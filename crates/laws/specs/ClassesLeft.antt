@@ -145,7 +145,7 @@ index-low m h i l =
 -- The class map.
 
 -- a number put into an ascending list leaves it ascending
-insert-up : (low c : ℕ) (l : List ℕ) → low ≤ c → Up low l → Up low (insertUp c l)
+pub insert-up : (low c : ℕ) (l : List ℕ) → low ≤ c → Up low l → Up low (insertUp c l)
 unfolding insertUp
 insert-up low c [] h u = (h, tt)
 insert-up low c (d ∷ r) h u = step (ltb c d) (eqb c d) refl refl (λ g. insert-up (d + 1) c r g (u .1))
@@ -156,7 +156,7 @@ insert-up low c (d ∷ r) h u = step (ltb c d) (eqb c d) refl refl (λ g. insert
     step false false e f k = (u .0, k (omega (arith, ltb-false c d e, eqb-false c d f)))
 
 -- the classes that glyphs hold ascend
-held-up : (cs : List (ℕ × ℕ)) (gs : List ℕ) → Up 0 (heldBy cs gs)
+pub held-up : (cs : List (ℕ × ℕ)) (gs : List ℕ) → Up 0 (heldBy cs gs)
 unfolding heldBy
 held-up cs [] = tt
 held-up cs (g ∷ gs) = insert-up 0 (classOf cs g) (heldBy cs gs) (omega arith) (held-up cs gs)

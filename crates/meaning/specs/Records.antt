@@ -9,13 +9,13 @@ use lib.Dec.{ltb}
 use Rattle.meaning.specs.Words.{every}
 use Rattle.meaning.specs.Tables.{Rule, Table, dropNull}
 
--- each record's place is below the input count
-unfoldable pub placesBelow : ℕ → List (ℕ × ℕ) → Bool
-placesBelow count records = every (λ e. ltb (e .0) count) records
+-- each record's sequence index is below the input count
+unfoldable pub indexesBelow : ℕ → List (ℕ × ℕ) → Bool
+indexesBelow count records = every (λ e. ltb (e .0) count) records
 
 -- so in a rule; with input count 0 it may have no record
 unfoldable pub ruleWithin : Rule → Bool
-ruleWithin r = placesBelow (r .count) (r .records)
+ruleWithin r = indexesBelow (r .count) (r .records)
 
 -- so in each rule of each set that is not null
 unfoldable pub setsWithin : List (Option (List Rule)) → Bool
@@ -23,9 +23,9 @@ setsWithin sets = every (every ruleWithin) (dropNull sets)
 
 -- no record of a table points past its rule; a context of format 3 is one rule, whose input has a coverage for each glyph
 unfoldable pub recordsWithin : Table → Bool
-unfolding every dropNull placesBelow ruleWithin setsWithin
+unfolding every dropNull indexesBelow ruleWithin setsWithin
 recordsWithin (Table.by-glyph chained cover sets) = setsWithin sets
 recordsWithin (Table.by-class chained cover b i a sets) = setsWithin sets
-recordsWithin (Table.by-cover chained b i a records) = placesBelow (length i) records
+recordsWithin (Table.by-cover chained b i a records) = indexesBelow (length i) records
 recordsWithin (Table.ligatures cover sets) = true
 recordsWithin (Table.pairs-of cover f1 f2 sets) = true

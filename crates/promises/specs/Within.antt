@@ -9,7 +9,7 @@ use lib.Dec.{ltb, eqb}
 use Rattle.meaning.specs.Words.{keys, every, find, bind, mapAll, push, mapSome}
 use Rattle.meaning.specs.Maps.{mapEntries}
 use Rattle.meaning.specs.Tables.{Rule, Ligature, Pair, Table, dropNull, table}
-use Rattle.meaning.specs.Records.{placesBelow, ruleWithin, setsWithin, recordsWithin}
+use Rattle.meaning.specs.Records.{indexesBelow, ruleWithin, setsWithin, recordsWithin}
 use Rattle.meaning.specs.Cut.{RuleMaps, cutRecords, cutRule, cutSet, keptSets, setsOf, keptByGlyph, heldBy, classMap, classMap?, newClasses?, newCoverage, retained, slots, trim, keptByClass, coversLeft, cutLigatures, keptLigatures, cutPairs, keptPairs, cut}
 use Rattle.laws.specs.Through.{Opt}
 use Rattle.laws.specs.CutGood.{opt-bind, all-mapSome, opt-cond, opt-unlessEmpty, slots-all, trim-all}
@@ -38,8 +38,8 @@ any none = tt
 any (some a) = tt
 
 -- records keep their places
-cut-places : (n : ℕ) (l rs : List (ℕ × ℕ)) → placesBelow n rs ≡ true → placesBelow n (cutRecords l rs) ≡ true
-unfolding placesBelow cutRecords
+cut-places : (n : ℕ) (l rs : List (ℕ × ℕ)) → indexesBelow n rs ≡ true → indexesBelow n (cutRecords l rs) ≡ true
+unfolding indexesBelow cutRecords
 cut-places n l rs h =
     tested (λ e. ltb (e .0) n) (cutRecords l rs)
     (all-mapSome (λ e. ltb (e .0) n ≡ true) (λ e. ltb (e .0) n ≡ true) (λ e. bind (find l (e .1)) (λ x. some (e .0, x)))
@@ -108,7 +108,7 @@ all-length f (a ∷ l) = opt-bind Anything (AsMany (a ∷ l)) (f a) _ (any (f a)
 abbrev pub Within : Table → Type 0
 Within t = recordsWithin t ≡ true
 
-by-cover-within : (chained : Bool) (l rs : List (ℕ × ℕ)) (i : List (Option (List ℕ))) (b′ i′ a′ : Option (List (Option (List ℕ)))) → Opt (AsMany i) i′ → placesBelow (length i) rs ≡ true
+by-cover-within : (chained : Bool) (l rs : List (ℕ × ℕ)) (i : List (Option (List ℕ))) (b′ i′ a′ : Option (List (Option (List ℕ)))) → Opt (AsMany i) i′ → indexesBelow (length i) rs ≡ true
     → Opt Within (bind b′ (λ b. bind i′ (λ i. bind a′ (λ a. some (Table.by-cover chained b i a (cutRecords l rs))))))
 unfolding recordsWithin
 by-cover-within chained l rs i b′ i′ a′ e h =

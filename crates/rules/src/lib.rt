@@ -17,7 +17,7 @@ ghost use Rattle.meaning.specs.Words.{words, entries, twos, find, isSome, mapAl
 ghost use Rattle.maps.specs.Forms.{mapOf};
 ghost use Rattle.meaning.specs.Tables.{rule};
 ghost use Rattle.meaning.specs.Fault.{ruleFault};
-ghost use Rattle.meaning.specs.Records.{placesBelow, ruleWithin};
+ghost use Rattle.meaning.specs.Records.{indexesBelow, ruleWithin};
 ghost use Rattle.meaning.specs.Cut.{cutRecords, cutRule};
 ghost use Rattle.meaning.specs.Layout.{ruleWords};
 ghost use Rattle.laws.specs.Written.{Wrote};
@@ -164,10 +164,10 @@ pub fn check_rule(chained: bool, src: &[u8], at: usize) -> Fault
     Fault::At(at)
 }
 
-// Whether each of the `n` records from `at` on has a place below `count`, an input's count.
-pub fn places_below(src: &[u8], at: usize, n: usize, count: usize) -> bool
+// Whether each of the `n` records from `at` on has a sequence index below `count`, the count of an input.
+pub fn indexes_below(src: &[u8], at: usize, n: usize, count: usize) -> bool
     requires { ⌜ at + 4 * n < 0x1_0000_0000_0000 ⌝ }
-    ensures { λ r. ⌜ r ≡ placesBelow count (entries (now (src .entry)) at n) ⌝ }
+    ensures { λ r. ⌜ r ≡ indexesBelow count (entries (now (src .entry)) at n) ⌝ }
 {
     let mut i = 0;
     while i < n {
@@ -185,7 +185,7 @@ pub fn rule_within(chained: bool, src: &[u8], at: usize) -> bool
     ensures { λ r. ⌜ r ≡ ruleWithin (rule chained (now (src .entry)) at) ⌝ }
 {
     let r = rule_parts(chained, src, at);
-    places_below(src, r.records.at, r.records.len, r.count)
+    indexes_below(src, r.records.at, r.records.len, r.count)
 }
 
 // Whether something is left of the plain rule at `at`: its count is not 0, and each number of its input has a new one.

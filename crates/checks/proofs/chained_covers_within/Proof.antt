@@ -10,7 +10,7 @@ returns c =
     let a = k .before in
     let i = a .before in
     let b = i .before in
-    covers-chained (b .before .before .args .src .now) (b .word-at .ensures .0) (i .word-at2 .ensures .0) (a .word-at3 .ensures .0) (k .word-at4 .ensures .0) (c .places-below .ensures)
+    covers-chained (b .before .before .args .src .now) (b .word-at .ensures .0) (i .word-at2 .ensures .0) (a .word-at3 .ensures .0) (k .word-at4 .ensures .0) (c .indexes-below .ensures)
 
 pub chained-covers-within-spec : {M : Type 1} → statement M
 chained-covers-within-spec =

@@ -5,7 +5,7 @@ use Rattle.rules.proofs.rule_within.Statement.{statement}
 use Rattle.rules.proofs.rule_within.Tie as tie
 
 returns : tie.Need-returns
-returns c = rule-places (c .before .rule-parts .ensures) (c .places-below .ensures)
+returns c = rule-places (c .before .rule-parts .ensures) (c .indexes-below .ensures)
 
 pub rule-within-spec : {M : Type 1} → statement M
 rule-within-spec = tie.close (tie.spec (λ c κs. search needs) (λ c κs. search needs) returns)

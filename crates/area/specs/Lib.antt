@@ -1,0 +1,4 @@
+pub mod Extends
+pub mod Part
+pub mod Closed
+pub mod Stored

@@ -1,0 +1,195 @@
+-- What the check of a header says to the cut, and what the parts of the whole answer.
+use Prim.Native.Nat.{ℕ, zero, suc, _+_, _-_, _*_, _/_, _%_, _≤_, _<_}
+use mathlib.Core.Path.{_≡_, refl, ap, _∙_}
+use mathlib.Core.Bool.{Bool, true, cond, _&&_}
+use mathlib.Core.Option.{Option, none, some}
+use mathlib.Core.List.{List, [], _∷_, map}
+use native.Mathlib.Decide.{decLt}
+use native.Mathlib.Nat.{zero-add}
+use native.Mathlib.Omega.{arith}
+use lib.ListN.{length, getD}
+use lib.Dec.{eqb}
+use borrow.Author.Tests.{ne-eqb, leb-true}
+use Rattle.meaning.specs.Words.{word, inside, find, bind, push, keys, ascends}
+use Rattle.meaning.specs.Parts.{coverage, coverageSound}
+use Rattle.meaning.specs.Fault.{faultThrough, coverageFault, enough, headerFault}
+use Rattle.laws.specs.Stands.{All}
+use Rattle.laws.specs.Runs.{both}
+use Rattle.laws.specs.SoundGood.{part-sound, lowest-none, header-good}
+use Rattle.member_sets.specs.Sound.{inside-is, through-sound}
+use Rattle.area.specs.Part.{part, notes, oldAt}
+use Rattle.meaning.specs.Maps.{mapEntries}
+use Rattle.meaning.specs.Subset.{limit}
+use Rattle.fold.specs.Cells.{Holds, holds-kept}
+use Rattle.fold.specs.Laid.{Laid}
+use Rattle.fold.specs.declared.Map.{Map}
+use Rattle.rule_sets.specs.declared.Maps.{Maps}
+use Rattle.meet.specs.Met.{met, Met, Meets, met-count}
+use Rattle.kept_sets.specs.Sorts.{headerSize, setFaultOf, leftIn, left-kept, inside-kept}
+use Rattle.kept_sets.specs.Kept.{setAt, keptOf, Ready, keptIn}
+use Rattle.kept_sets.specs.declared.Sort.{Sort}
+use Rattle.kept_sets.specs.declared.Sort.the-variants.{Rules, Ligatures}
+use Rattle.by_glyph.specs.Asked.{SoundSets, MapsLaid, keptFrom}
+
+-- notes name glyphs of the coverage
+module _ (f : ℕ → Option ℕ) where
+  met-inside : (i : ℕ) (cov : List ℕ) → All (λ e. e .0 < i + length cov) (met f i cov)
+  unfolding met push bind
+  met-inside i [] = tt
+  met-inside i (c ∷ cov) = step (f c) (later (met f (i + 1) cov) (met-inside (i + 1) cov))
+    where
+      later : (l : List (ℕ × ℕ)) → All (λ e. e .0 < i + 1 + length cov) l → All (λ e. e .0 < i + length (c ∷ cov)) l
+      later [] h = tt
+      later (e ∷ l) h = (omega (arith, h .0), later l (h .1))
+
+      step : (o : Option ℕ) → All (λ e. e .0 < i + length (c ∷ cov)) (met f (i + 1) cov) → All (λ e. e .0 < i + length (c ∷ cov)) (push (bind o (λ n. some (i, n))) (met f (i + 1) cov))
+      step none h = h
+      step (some n) h = (omega arith, h)
+
+  met-length : (i : ℕ) (cov : List ℕ) → length (met f i cov) ≤ length cov
+  unfolding met push bind
+  met-length i [] = omega arith
+  met-length i (c ∷ cov) = step (f c) (met-length (i + 1) cov)
+    where
+      step : (o : Option ℕ) → length (met f (i + 1) cov) ≤ length cov → length (push (bind o (λ n. some (i, n))) (met f (i + 1) cov)) ≤ suc (length cov)
+      step none h = omega arith
+      step (some n) h = omega arith
+
+all-notes : (P : ℕ × ℕ → Type 0) (t : List ℕ) (at m : ℕ) → All P (notes t at m) → (i : ℕ) → i < m → P (getD t (at + i) 0 / 65536, getD t (at + i) 0 % 65536)
+unfolding part
+all-notes P t at zero h i l = absurd (omega arith)
+all-notes P t at (suc m) h zero l =
+    let e : at + 0 ≡ at = omega arith in
+    rw e (h .0)
+all-notes P t at (suc m) h (suc i) l =
+    let e : at + suc i ≡ at + 1 + i = omega arith in
+    rw e (all-notes P t (at + 1) m (h .1) i (omega arith))
+
+module _ {f : ℕ → Option ℕ} {cov t₀ : List ℕ} {to : ℕ} {t : List ℕ} {m : ℕ} (h : Met f cov t₀ to t m) where
+  -- there are at most as many notes as covered glyphs
+  pub noted-few : m ≤ length cov
+  noted-few = omega (arith, met-count h, met-length f 0 cov)
+
+  -- and each has the index of one
+  pub noted-index : (i : ℕ) → i < m → oldAt t (to + i) < length cov
+  noted-index i l =
+      let e : All (λ n. n .0 < 0 + length cov) (notes t to m) = rw (h .noted) (met-inside f 0 cov) in
+      omega (arith, all-notes (λ n. n .0 < 0 + length cov) t to m e i l)
+
+-- A header without a fault.
+module _ (good : Bool) (slot : ℕ) (faultAt : ℕ → Option ℕ) (s : List ℕ) (h : headerFault good 0 slot faultAt s ≡ none) where
+  -- its count and its offsets lie inside
+  pub header-inside : slot + 2 + 2 * word s slot ≤ length s
+  unfolding headerFault
+  header-inside = inside-is s (slot + 2) (2 * word s slot) (both (inside s (slot + 2) (2 * word s slot)) good (both (inside s 0 (slot + 2)) _ (part-sound 0 (inside s 0 (slot + 2) && (inside s (slot + 2) (2 * word s slot) && good)) _ h .0) .1) .0)
+
+  -- its coverage is sound
+  pub cover-sound : {at : ℕ} → at ≡ word s 2 → (at ≡ 0 → ⊥) → coverageSound s at ≡ true
+  unfolding faultThrough coverageFault
+  cover-sound {at} e z =
+      let q = lowest-none (cond (eqb (word s 2) 0) none (coverageFault s (0 + word s 2))) _ (header-good s good 0 slot faultAt h .1) .0 in
+      rw e (part-sound (word s 2) (coverageSound s (word s 2)) none (rw (ne-eqb (word s 2) 0 (λ w. z (e ∙ w)), zero-add) at q) .0)
+
+  -- the sets that it reaches are sound
+  pub reached-sound : (i : ℕ) → i < word s slot → (word s (slot + 2 + 2 * i) ≡ 0 → ⊥) → faultAt (word s (slot + 2 + 2 * i)) ≡ none
+  reached-sound i l z = rw zero-add at (through-sound faultAt s 0 (slot + 2) (word s slot) i (header-good s good 0 slot faultAt h .3) l z)
+
+  -- there is a set for each covered glyph, if it judges so
+  pub sets-enough : (good ≡ true → enough s (word s slot) ≡ true) → {at : ℕ} → at ≡ word s 2 → (at ≡ 0 → ⊥) → length (coverage s at) ≤ word s slot
+  unfolding enough
+  sets-enough g {at} e z =
+      let c : coverageSound s (word s 2) ≡ true = rw e at (cover-sound e z) in
+      rw e (leb-true (length (coverage s (word s 2))) (word s slot) (rw (ne-eqb (word s 2) 0 (λ w. z (e ∙ w)), c) at (g (header-good s good 0 slot faultAt h .0))))
+
+-- so the source is sound
+pub header-sound : (sort : Sort) (s : List ℕ) → headerFault (enough s (word s 4)) 0 4 (setFaultOf sort s) s ≡ none → length s ≤ limit → SoundSets sort s
+header-sound (Rules chained) s h l = record {
+  short = l;
+  header = header-inside (enough s (word s 4)) 4 (setFaultOf (Rules chained) s) s h;
+  cover = λ z. cover-sound (enough s (word s 4)) 4 (setFaultOf (Rules chained) s) s h refl z;
+  enough = λ z. sets-enough (enough s (word s 4)) 4 (setFaultOf (Rules chained) s) s h (λ e. e) refl z;
+  sets = reached-sound (enough s (word s 4)) 4 (setFaultOf (Rules chained) s) s h;
+}
+header-sound Ligatures s h l = record {
+  short = l;
+  header = header-inside (enough s (word s 4)) 4 (setFaultOf Ligatures s) s h;
+  cover = λ z. cover-sound (enough s (word s 4)) 4 (setFaultOf Ligatures s) s h refl z;
+  enough = λ z. sets-enough (enough s (word s 4)) 4 (setFaultOf Ligatures s) s h (λ e. e) refl z;
+  sets = reached-sound (enough s (word s 4)) 4 (setFaultOf Ligatures s) s h;
+}
+
+-- kept sets, under what leaves the same
+kept-same : (left other : ℕ → Option (List ℕ)) → ((p : ℕ) → left p ≡ other p) → (s : List ℕ) (slots : ℕ) (ns : List (ℕ × ℕ)) → keptOf left s slots ns ≡ keptOf other s slots ns
+unfolding keptOf setAt
+kept-same left other e s slots [] = refl
+kept-same left other e s slots (n ∷ ns) = rw (e (word s (slots + 2 * n .0)), kept-same left other e s slots ns)
+
+-- Sound sources and maps that are laid, before the map meets the coverage and after it.
+module _ {sort : Sort} {s glyphs t₀ : List ℕ} {maps : Maps} {notes : ℕ} (a : SoundSets sort s) (l : MapsLaid glyphs t₀ maps notes) (z : word s 2 ≡ 0 → ⊥) {cover : ℕ} (e : cover ≡ word s 2) where
+  pub may-meet : notes + length glyphs / 4 < length t₀ → Meets s cover glyphs (maps .input) t₀ notes
+  may-meet h = record { sound = rw e (a .cover z); ascend = l .ascend; holds = l .holds; behind = l .before .input; room = h }
+
+  module _ {t : List ℕ} {m : ℕ} (h : Met (find (mapEntries glyphs)) (coverage s cover) t₀ notes t m) where
+    many : length (coverage s cover) ≤ word s (headerSize sort - 2)
+    many = rw e (a .enough z)
+
+    pub may-write : Ready sort s t maps notes m
+    may-write = record {
+      short = a .short;
+      few = omega (arith, noted-few h, many, a .header);
+      fits = omega (arith, h .fits, h .kept .size);
+      reaches = λ i j. record {
+        inside = omega (arith, noted-index h i j, many, a .header);
+        sound = a .sets (oldAt t (notes + i)) (omega (arith, noted-index h i j, many));
+      };
+      inside = inside-kept (h .kept) (l .inside);
+      before = l .before;
+    }
+
+    -- the notes name the glyphs that both have
+    pub kept-said : keptIn sort s t maps notes m ≡ keptFrom sort s glyphs t₀ maps
+    kept-said =
+        kept-same (leftIn sort t maps s) (leftIn sort t₀ maps s) (left-kept (h .kept) sort (l .before) s) s (headerSize sort) _
+        ∙ ap (keptOf (leftIn sort t₀ maps s) s (headerSize sort)) (h .noted ∙ ap (λ (i : ℕ). met (find (mapEntries glyphs)) 0 (coverage s i)) e)
+
+-- a map that has no room
+pub no-room : {list t₀ t : List ℕ} {at : ℕ} {m : Map} → Laid list t₀ t at m → ascends (keys (mapEntries list)) ≡ true → m .mask ≡ 0 → length t₀ < at + 65536
+no-room {t₀ = t₀} {at = at} l a z = step (decLt (length t₀) (at + 65536))
+  where
+    step : Dec (length t₀ < at + 65536) → length t₀ < at + 65536
+    step (yes h) = h
+    step (no h) = absurd (l .room (omega arith) a z)
+
+-- one map for all, and glyphs before lookups
+module _ {g t₀ t : List ℕ} {m : Map} (a : Laid g t₀ t 0 m) (z : m .mask ≡ 0 → ⊥) (u : ascends (keys (mapEntries g)) ≡ true) where
+  -- the glyph map lies before the first free cell
+  ends : m .at + m .mask < m .mask + 1
+  ends = omega (arith, a .place)
+
+  pub one-laid : MapsLaid g t (record { back = m; input = m; ahead = m; lookups = m }) (m .mask + 1)
+  one-laid =
+      let h = a .holds z in
+      record {
+        ascend = u;
+        holds = h;
+        inside = record { back = h .inside; input = h .inside; ahead = h .inside; lookups = h .inside };
+        before = record { back = ends; input = ends; ahead = ends; lookups = ends };
+        small = omega (arith, a .few u);
+      }
+
+  module _ {l t₂ : List ℕ} {n : Map} (b : Laid l t t₂ (m .mask + 1) n) where
+    -- it stands as it was
+    pub glyphs-stand : Holds t₂ m (mapEntries g)
+    glyphs-stand = holds-kept (b .kept) ends (a .holds z)
+
+    pub two-laid : (n .mask ≡ 0 → ⊥) → ascends (keys (mapEntries l)) ≡ true → MapsLaid g t₂ (record { back = m; input = m; ahead = m; lookups = n }) (m .mask + n .mask + 2)
+    two-laid y v =
+        let h = glyphs-stand in
+        let e : m .at + m .mask < m .mask + n .mask + 2 = omega (arith, a .place) in
+        record {
+          ascend = u;
+          holds = h;
+          inside = record { back = h .inside; input = h .inside; ahead = h .inside; lookups = b .holds y .inside };
+          before = record { back = e; input = e; ahead = e; lookups = omega (arith, b .place) };
+          small = omega (arith, a .few u, b .few v);
+        }

@@ -1,0 +1,3 @@
+pub mod Finishing
+pub mod Asking
+pub mod Joining

@@ -1,0 +1,191 @@
+// Format 1 of each kind, cut in one walk: the retained covered glyphs are noted in cells, what is left of their sets is written into the area, and the table is handed over to the buffer.
+use area::hand_over;
+use area::lessen;
+use area::put_three;
+use area::write_cover;
+use fold::lay;
+use kept_sets::Sort;
+use kept_sets::header_size;
+use kept_sets::write_kept;
+use meet::meet;
+use room::Laid;
+use rule_sets::Maps;
+use wire::word_inside;
+ghost use mathlib.Core.Path.{_≡_};
+ghost use mathlib.Core.Bool.{true};
+ghost use mathlib.Core.Option.{none};
+ghost use mathlib.Core.List.{[], _∷_, _++_};
+ghost use Prim.Native.Nat.{_+_, _*_, _/_, _≤_, _<_};
+ghost use lib.ListN.{length};
+ghost use Rattle.meaning.specs.Words.{word, ascends, keys};
+ghost use Rattle.meaning.specs.Maps.{mapEntries};
+ghost use Rattle.meaning.specs.Fault.{headerFault, enough};
+ghost use Rattle.meaning.specs.Cut.{cut};
+ghost use Rattle.meaning.specs.Subset.{limit};
+ghost use Rattle.laws.specs.Written.{Wrote};
+ghost use Rattle.kept_sets.specs.Sorts.{moreOf, headerSize, setFaultOf};
+ghost use Rattle.kept_sets.specs.Kept.{Ready, keptIn};
+ghost use Rattle.kept_sets.specs.declared.Sort.the-variants.{Rules, Ligatures};
+ghost use Rattle.by_glyph.specs.Table.{Finishes, Finished, tableOf};
+ghost use Rattle.by_glyph.specs.Asked.{SoundSets, MapsLaid, keptFrom};
+ghost use Rattle.by_glyph.specs.Whole.{areaMost, cellsNeeded, Answered, CutAs, glyphContext, ligatureTable};
+
+// What became of a table: the cells are too few for the maps and the notes, the area is too short, or it was cut.
+pub enum Cut {
+    FewCells,
+    Short,
+    Became(Laid),
+}
+
+// The words before the offsets of the sets; the place after them.
+fn write_header(sort: Sort, area: &mut [u8], cover: usize, k: usize) -> usize
+    requires { ⌜ headerSize sort ≤ length (now area) ⌝ }
+    ensures { λ r. ⌜ Wrote (now (area .entry)) 0 (1 ∷ cover ∷ (moreOf sort ++ (k ∷ []))) (now (area .exit)) r ⌝ }
+{
+    match sort {
+        Sort::Rules(_) => put_three(area, 0, 1, cover, k),
+        Sort::Ligatures => put_three(area, 0, 1, cover, k),
+    }
+}
+
+// The table of the `k` kept sets, which stand from `first` up to `p`, with their places written as their offsets: the offsets without the gap before `first`, the coverage behind the sets, and the header; the place after it.
+fn finish(
+    sort: Sort,
+    t: &[u32],
+    notes: usize,
+    k: usize,
+    first: usize,
+    p: usize,
+    area: &mut [u8],
+) -> usize
+    requires { ⌜ Finishes sort (now t) notes k first p (now area) ⌝ }
+    ensures { λ r. ⌜ Finished sort (now (t .entry)) notes k first p (now (area .entry)) (now (area .exit)) r ⌝ }
+{
+    let slots = header_size(sort);
+    let gap = first - (slots + 2 * k);
+    lessen(area, slots, k, gap);
+    let end = write_cover(t, notes, k, area, p);
+    write_header(sort, area, p - gap, k);
+    end
+}
+
+// What is left of a table, of whose retained covered glyphs there are `m` notes from `notes` on, laid into the buffer if it is not over the limit and the buffer is not shorter.
+fn write_table(
+    sort: Sort,
+    src: &[u8],
+    t: &mut [u32],
+    notes: usize,
+    m: usize,
+    maps: Maps,
+    area: &mut [u8],
+    out: &mut [u8],
+) -> Cut
+    requires { ⌜ Ready sort (now src) (now t) maps notes m × (length (now area) ≤ areaMost) ⌝ }
+    ensures { λ r. ⌜ Answered ⊥ (now (out .entry)) (tableOf sort (keptIn sort (now (src .entry)) (now (t .entry)) maps notes m)) (length (now (src .entry))) (length (now (area .entry))) r (now (out .exit)) ⌝ }
+{
+    let sets = write_kept(sort, src, t, notes, m, maps, area);
+    let p = sets.end;
+    let k = sets.count;
+    if area.len() < p {
+        return Cut::Short;
+    }
+    if k == 0 {
+        return Cut::Became(Laid::Nothing);
+    }
+    let slots = header_size(sort);
+    let first = slots + 2 * m;
+    let end = finish(sort, t, notes, k, first, p, area);
+    if area.len() < end {
+        return Cut::Short;
+    }
+    Cut::Became(hand_over(area, slots + 2 * k, first, end, out))
+}
+
+// The same from the glyph map on, whose cells and those of the lookup map stand before `notes`.
+fn cut_sets(
+    sort: Sort,
+    src: &[u8],
+    glyphs: &[u8],
+    maps: Maps,
+    t: &mut [u32],
+    notes: usize,
+    area: &mut [u8],
+    out: &mut [u8],
+) -> Cut
+    requires { ⌜ SoundSets sort (now src) × MapsLaid (now glyphs) (now t) maps notes × (length (now area) ≤ areaMost) × (word (now src) 2 ≡ 0 → ⊥) ⌝ }
+    ensures { λ r. ⌜ Answered (length (now (t .entry)) ≤ notes + length (now (glyphs .entry)) / 4) (now (out .entry)) (tableOf sort (keptFrom sort (now (src .entry)) (now (glyphs .entry)) (now (t .entry)) maps)) (length (now (src .entry))) (length (now (area .entry))) r (now (out .exit)) ⌝ }
+{
+    if t.len() < notes + glyphs.len() / 4 + 1 {
+        return Cut::FewCells;
+    }
+    let cover = word_inside(src, 2);
+    let m = meet(src, cover, glyphs, maps.input, t, notes);
+    write_table(sort, src, t, notes, m, maps, area, out)
+}
+
+// What is left of a sound table of ligatures under a glyph map, laid into the buffer if it is not over the limit and the buffer is not shorter. `t` and `area` are scratch, whatever they hold.
+// The buffer is untouched where nothing is left, where there is no room, and where the scratch is too short.
+pub fn ligatures(src: &[u8], glyphs: &[u8], t: &mut [u32], area: &mut [u8], out: &mut [u8]) -> Cut
+    requires { ⌜ (headerFault (enough (now src) (word (now src) 4)) 0 4 (setFaultOf Ligatures (now src)) (now src) ≡ none) × (length (now src) ≤ limit) × (ascends (keys (mapEntries (now glyphs))) ≡ true) × (length (now area) ≤ areaMost) ⌝ }
+    ensures { λ r. ⌜ CutAs (length (now (t .entry)) ≤ cellsNeeded (now (glyphs .entry))) (now (out .entry)) (cut (mapEntries (now (glyphs .entry))) [] (ligatureTable (now (src .entry)))) (length (now (src .entry))) (length (now (area .entry))) r (now (out .exit)) ⌝ }
+{
+    if word_inside(src, 2) == 0 {
+        return Cut::Became(Laid::Nothing);
+    }
+    let g = lay(glyphs, t, 0);
+    let mask = g.mask;
+    if mask == 0 {
+        return Cut::FewCells;
+    }
+    let maps = Maps {
+        back: g,
+        input: g,
+        ahead: g,
+        lookups: g,
+    };
+    cut_sets(Sort::Ligatures, src, glyphs, maps, t, mask + 1, area, out)
+}
+
+// The same of a context by glyph, plain or chained, under a glyph map and a lookup map.
+pub fn contexts(
+    chained: bool,
+    src: &[u8],
+    glyphs: &[u8],
+    lookups: &[u8],
+    t: &mut [u32],
+    area: &mut [u8],
+    out: &mut [u8],
+) -> Cut
+    requires { ⌜ (headerFault (enough (now src) (word (now src) 4)) 0 4 (setFaultOf (Rules chained) (now src)) (now src) ≡ none) × (length (now src) ≤ limit) × (ascends (keys (mapEntries (now glyphs))) ≡ true) × (ascends (keys (mapEntries (now lookups))) ≡ true) × (length (now area) ≤ areaMost) ⌝ }
+    ensures { λ r. ⌜ CutAs (length (now (t .entry)) ≤ cellsNeeded (now (glyphs .entry))) (now (out .entry)) (cut (mapEntries (now (glyphs .entry))) (mapEntries (now (lookups .entry))) (glyphContext chained (now (src .entry)))) (length (now (src .entry))) (length (now (area .entry))) r (now (out .exit)) ⌝ }
+{
+    if word_inside(src, 2) == 0 {
+        return Cut::Became(Laid::Nothing);
+    }
+    let g = lay(glyphs, t, 0);
+    let mask = g.mask;
+    if mask == 0 {
+        return Cut::FewCells;
+    }
+    let l = lay(lookups, t, mask + 1);
+    let last = l.mask;
+    if last == 0 {
+        return Cut::FewCells;
+    }
+    let maps = Maps {
+        back: g,
+        input: g,
+        ahead: g,
+        lookups: l,
+    };
+    cut_sets(
+        Sort::Rules(chained),
+        src,
+        glyphs,
+        maps,
+        t,
+        mask + last + 2,
+        area,
+        out,
+    )
+}

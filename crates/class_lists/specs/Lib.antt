@@ -1,0 +1,4 @@
+pub mod Tables
+pub mod Stretches
+pub mod Elsewhere
+pub mod Listed

@@ -1,0 +1,4 @@
+pub mod Marking
+pub mod Mapping
+pub mod Entering
+pub mod Covering

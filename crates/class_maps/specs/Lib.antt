@@ -1,0 +1,5 @@
+pub mod Once
+pub mod Present
+pub mod Mapped
+pub mod Covered
+pub mod SlotWalk

@@ -1,0 +1,129 @@
+-- The turns of the loop over the classes.
+use Prim.Native.Nat.{ℕ, _+_, _-_, _*_, _/_, _≤_, _<_}
+use mathlib.Core.Path.{_≡_, refl, sym, ap, _∙_}
+use mathlib.Core.Bool.{Bool, true, false, cond}
+use mathlib.Core.Option.{Option, none}
+use mathlib.Core.List.{List, _∷_, map}
+use native.Mathlib.Omega.{arith}
+use lib.ListN.{length, getD}
+use lib.Dec.{eqb, leb}
+use borrow.Author.Tests.{leb-false}
+use Rattle.meaning.specs.Words.{word}
+use Rattle.meaning.specs.Fault.{ruleFault, setFault}
+use Rattle.meaning.specs.Cut.{cutSet}
+use Rattle.meaning.specs.Layout.{blocks, block, ruleWords, setWords}
+use Rattle.fold.specs.declared.Map.{Map}
+use Rattle.rule_sets.specs.Left.{mapsIn}
+use Rattle.rule_sets.specs.declared.Maps.{Maps}
+use Rattle.class_maps.specs.Present.{present, named}
+use Rattle.class_maps.specs.SlotWalk.{slotsFrom, walk-one, walk-none, walk-end}
+use Rattle.class_slots.specs.Sets.{slotsAt, slots-near, countAt, setPlace, setLeft, SetSound, Asked, place-slot}
+use Rattle.class_slots.specs.Slots.{setsIn, slotBlocks, Ready, WroteSlots, blocks-many, present-few}
+use Rattle.class_slots.proofs.Noting.{noted-moved}
+use Rattle.class_slots.proofs.Filling.{Filling, filling-all, filling-said, filling-few, filling-end}
+
+-- the blocks of the slots of the classes from c on
+abbrev pub blocksFrom : Bool → List ℕ → List ℕ → Maps → Map → ℕ → List (Option (List ℕ))
+blocksFrom chained s t maps marks c = map (block (setWords (ruleWords chained))) (slotsFrom (cutSet chained (mapsIn t maps)) (present t marks) (setsIn chained s t maps marks) t (maps .input .at) (maps .input .mask + 1) c)
+
+-- what the loop keeps
+pub record Turning (chained : Bool) (s t : List ℕ) (maps : Maps) (marks : Map) (slots first : ℕ) (area₀ area : List ℕ) (h k p c : ℕ) : Type 0 where
+  pub within : c ≤ maps .input .mask + 1
+  pub few : k ≤ 65536
+  pub filling : Filling (slotBlocks chained s t maps marks) slots first (blocksFrom chained s t maps marks c) area₀ area h k p
+
+module _ {chained : Bool} {s t : List ℕ} {maps : Maps} {marks : Map} {classes : ℕ} (a : Ready chained s t maps marks classes) {slots first : ℕ} (e : slots ≡ slotsAt chained) (f : first ≡ slots + 2 * classes) where
+  abbrev all : List (Option (List ℕ))
+  all = slotBlocks chained s t maps marks
+
+  -- there is a slot for each class
+  pub as-many : length all ≡ classes
+  as-many = blocks-many chained s t maps marks ∙ sym (a .number)
+
+  pub few-classes : classes ≤ 65536
+  few-classes = omega (arith, a .number, a .few, present-few t (maps .input .at) 0 (maps .input .mask + 1))
+
+  done-few : {left : List (Option (List ℕ))} {area₀ area : List ℕ} {h k p : ℕ} → Filling all slots first left area₀ area h k p → k ≤ 65536
+  done-few c = omega (arith, filling-few all slots first c, as-many, few-classes)
+
+  pub turning-all : {area : List ℕ} → first ≤ length area → Turning chained s t maps marks slots first area area 0 0 first 0
+  turning-all l = record {
+    within = omega arith;
+    few = omega arith;
+    filling = filling-all all slots first begins (omega (arith, e, f, slots-near chained)) (omega (arith, f, as-many)) l;
+  }
+    where
+      begins : blocksFrom chained s t maps marks 0 ≡ all
+      begins =
+          let z : maps .input .mask + 1 - 0 ≡ maps .input .mask + 1 = omega arith in
+          rw z
+
+  -- there is no room for the slots
+  pub wrote-short : {area₀ : List ℕ} {end : ℕ} → length area₀ < first → length area₀ < end → WroteSlots chained s t maps marks area₀ area₀ (record { count = 0; end = end })
+  wrote-short h l = record { same = refl; done = λ k. absurd (omega arith); full = λ k. omega (arith, as-many, e, f) }
+
+  -- what is asked to find the set of a class, and that the set is sound
+  pub asked : {c : ℕ} → c ≤ maps .input .mask → Asked s slots t marks c
+  asked h = record {
+    header = rw e (a .header);
+    count = omega (arith, e, slots-near chained);
+    low = omega (arith, e, slots-near chained);
+    inside = a .marked;
+    cell = omega (arith, a .alike);
+  }
+
+  pub set-sound : (c : ℕ) {at : ℕ} → at ≡ setPlace s slots t marks c → SetSound chained s at
+  unfolding setPlace
+  set-sound c {at} g = record { sound = λ z. step (leb (countAt s slots) c) refl (eqb (named t marks c) c) g z }
+    where
+      step : (b : Bool) → leb (countAt s slots) c ≡ b → (d : Bool) → at ≡ cond b 0 (cond d (word s (slots + 2 * c)) 0) → (at ≡ 0 → ⊥) → setFault (ruleFault chained s) s at ≡ none
+      step true l d g z = absurd (z g)
+      step false l false g z = absurd (z g)
+      step false l true g z =
+          let w : at ≡ word s (slotsAt chained + 2 * c) = rw e at g in
+          let n : c < countAt s (slotsAt chained) = rw e at (leb-false (countAt s slots) c l) in
+          rw w (a .sets c n (λ q. z (w ∙ q)))
+
+  module _ {area₀ area : List ℕ} {h k p c : ℕ} (i : Turning chained s t maps marks slots first area₀ area h k p c) where
+    -- a class that has no entry
+    pub turning-skip : c ≤ maps .input .mask → (getD t (maps .input .at + c) 0 / 65536 ≡ c → ⊥) → Turning chained s t maps marks slots first area₀ area h k p (c + 1)
+    turning-skip l n = record {
+      within = omega arith;
+      few = i .few;
+      filling = filling-said all slots first (i .filling)
+          (ap (map (block (setWords (ruleWords chained)))) (walk-none (cutSet chained (mapsIn t maps)) (present t marks) (setsIn chained s t maps marks) t (maps .input .at) (maps .input .mask + 1) c (omega arith) n));
+    }
+
+    -- one that has: its slot comes next
+    pub turning-here : {at : ℕ} → c ≤ maps .input .mask → getD t (maps .input .at + c) 0 / 65536 ≡ c → at ≡ setPlace s slots t marks c
+        → Filling all slots first (setLeft chained (mapsIn t maps) s at ∷ blocksFrom chained s t maps marks (c + 1)) area₀ area h k p
+    turning-here {at} l n g =
+        let w : at ≡ setPlace s (slotsAt chained) t marks c = rw e at g in
+        filling-said all slots first (i .filling)
+        (ap (map (block (setWords (ruleWords chained)))) (walk-one (cutSet chained (mapsIn t maps)) (present t marks) (setsIn chained s t maps marks) t (maps .input .at) (maps .input .mask + 1) c (omega arith) n)
+        ∙ ap (λ (o : Option (List ℕ)). o ∷ blocksFrom chained s t maps marks (c + 1)) (sym (ap (setLeft chained (mapsIn t maps) s) w ∙ place-slot chained (mapsIn t maps) s (slotsAt chained) t marks c (omega (arith, a .alike)))))
+
+    -- its slot has room
+    pub slot-room : {o : Option (List ℕ)} {rest : List (Option (List ℕ))} → Filling all slots first (o ∷ rest) area₀ area h k p → slots + 2 * k + 2 ≤ first
+    slot-room j = omega (arith, filling-few all slots first j, j .places)
+
+    pub turned : {next : List ℕ} {g q : ℕ} → c ≤ maps .input .mask → Filling all slots first (blocksFrom chained s t maps marks (c + 1)) area₀ next g (k + 1) q
+        → Turning chained s t maps marks slots first area₀ next g (k + 1) q (c + 1)
+    turned l j = record { within = omega arith; few = done-few j; filling = j }
+
+    -- there is no room for a set
+    pub wrote-full : {one : List ℕ} {q : ℕ} → length one ≡ length area → length one < q → length area₀ < first + 2 * length (blocks all) + 2 * length s
+        → WroteSlots chained s t maps marks area₀ one (record { count = 0; end = q })
+    wrote-full w l g = record { same = w ∙ i .filling .same; done = λ k. absurd (omega (arith, w, i .filling .same)); full = λ k. omega (arith, as-many, e, f) }
+
+    -- all are written
+    pub wrote-all : maps .input .mask < c → WroteSlots chained s t maps marks area₀ area (record { count = h; end = p })
+    wrote-all l =
+        let none-left = ap (map (block (setWords (ruleWords chained)))) (walk-end (cutSet chained (mapsIn t maps)) (present t marks) (setsIn chained s t maps marks) t (maps .input .at) (maps .input .mask + 1) c (omega arith)) in
+        let w = filling-end all slots first (i .filling) none-left in
+        let g : first ≡ slotsAt chained + 2 * length all = omega (arith, as-many, e, f) in
+        record {
+          same = i .filling .same;
+          done = λ k. record { noted = noted-moved e g (w .0); few = w .1; head = w .2 };
+          full = λ k. absurd (omega (arith, w .0 .room, i .filling .same));
+        }

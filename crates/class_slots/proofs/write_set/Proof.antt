@@ -1,0 +1,27 @@
+use borrow.Author.Needs.{needs}
+use Rattle.rule_sets.specs.Left.{mapsIn}
+use Rattle.class_slots.specs.Sets.{leaves-null, leaves-there}
+use Rattle.class_slots.proofs.write_set.Statement.{statement}
+use Rattle.class_slots.proofs.write_set.Tie as tie
+
+returns : tie.Need-returns
+returns c =
+    let a = c .before .before .before .before .args in
+    leaves-null (a .chained) (mapsIn (a .t .now) (a .maps)) (a .src .now) (c .if1 .taken)
+
+write-rules-requires : tie.Need-write-rules-requires
+write-rules-requires c κs =
+    let a = c .before .before .before .before .before .pre in
+    (a .0 .sound (c .before .if1 .left), a .1, a .2, a .3)
+
+same-length : tie.Need-same-length
+same-length c = search needs
+
+returns-2 : tie.Need-returns-2
+returns-2 c =
+    let i = c .before .before .before .before in
+    let a = i .before .before .before .before .args in
+    leaves-there (a .chained) (mapsIn (a .t .now) (a .maps)) (a .src .now) (i .if1 .left) (c .before .before .write-rules .ensures)
+
+pub write-set-spec : {M : Type 1} → statement M
+write-set-spec = tie.close (tie.spec returns write-rules-requires same-length returns-2)

@@ -1,0 +1,77 @@
+-- A context by coverages: where its parts stand, what is asked of it, and the words of what is left of it.
+use Prim.Native.Nat.{ℕ, _+_, _*_, _≤_, _<_}
+use mathlib.Core.Path.{_≡_}
+use mathlib.Core.Bool.{Bool, true, false}
+use mathlib.Core.Option.{Option, none, some}
+use mathlib.Core.List.{List}
+use lib.ListN.{length}
+use Rattle.meaning.specs.Words.{entries, bind}
+use Rattle.meaning.specs.Maps.{mapEntries}
+use Rattle.meaning.specs.Parts.{coverage}
+use Rattle.meaning.specs.Tables.{Table, reaches, coverContext}
+use Rattle.meaning.specs.Cut.{cutRecords}
+use Rattle.meaning.specs.Layout.{coversLayout}
+use Rattle.fold.specs.Cells.{Inside, Holds}
+use Rattle.fold.specs.declared.Map.{Map}
+use Rattle.area.specs.Extends.{Extends}
+use Rattle.covers.specs.Rows.{rowLeft, SoundRow, Ready}
+use Rattle.covers.specs.declared.Row.{Row}
+use Rattle.covers.specs.declared.CoverParts.{CoverParts}
+
+-- the coverages that a row of offsets reaches
+abbrev pub coversAt : List ℕ → Row → List (Option (List ℕ))
+coversAt s r = reaches (coverage s) s 0 (r .at) (r .len)
+
+-- the records of a row
+abbrev pub recordsAt : List ℕ → Row → List (ℕ × ℕ)
+recordsAt s r = entries s (r .at) (r .len)
+
+-- where a plain context has its input and its records, and where a chained one has each part after the one before it, with its count
+pub record Plain (r : CoverParts) : Type 0 where
+  pub back : r .back .len ≡ 0
+  pub input : r .input .at ≡ 6
+  pub ahead : r .ahead .len ≡ 0
+  pub records : r .records .at ≡ 6 + 2 * r .input .len
+
+pub record Chained (r : CoverParts) : Type 0 where
+  pub back : r .back .at ≡ 4
+  pub input : r .input .at ≡ 6 + 2 * r .back .len
+  pub ahead : r .ahead .at ≡ r .input .at + 2 * r .input .len + 2
+  pub records : r .records .at ≡ r .ahead .at + 2 * r .ahead .len + 2
+
+-- r says where the parts of the context stand, and they are sound
+pub record IsContext (chained : Bool) (s : List ℕ) (r : CoverParts) : Type 0 where
+  pub table : coverContext chained s ≡ Table.by-cover chained (coversAt s (r .back)) (coversAt s (r .input)) (coversAt s (r .ahead)) (recordsAt s (r .records))
+  pub back : SoundRow s (r .back)
+  pub input : SoundRow s (r .input)
+  pub ahead : SoundRow s (r .ahead)
+  pub records : r .records .at + 4 * r .records .len ≤ length s
+  pub plain : chained ≡ false → Plain r
+  pub chain : chained ≡ true → Chained r
+
+-- the words of what is left of the context; none if a coverage is null or left with no glyph
+unfoldable pub contextLeft : Bool → List (ℕ × ℕ) → List (ℕ × ℕ) → List ℕ → CoverParts → Option (List ℕ)
+contextLeft chained g l s r =
+    bind (rowLeft g s (r .back)) (λ b. bind (rowLeft g s (r .input)) (λ i. bind (rowLeft g s (r .ahead)) (λ a.
+    some (coversLayout chained b i a (cutRecords l (recordsAt s (r .records)))))))
+
+-- What is left stands from the area's start on, and r is the place after it, or past the area, which is then too short for it; r is 0 if nothing is left.
+pub record Settles (left : Option (List ℕ)) (before after : List ℕ) (r : ℕ) : Type 0 where
+  pub gone : left ≡ none → r ≡ 0
+  pub kept : {ws : List ℕ} → left ≡ some ws → 0 < r
+  pub fits : {ws : List ℕ} → left ≡ some ws → r ≤ length before → Extends before 0 ws after r
+  pub full : {ws : List ℕ} → left ≡ some ws → length before < r → length before < 2 * length ws
+
+-- what the functions that write a context ask: its parts are sound, the cells of l lie inside, m holds the glyph map, and the area has room for the header with all records
+pub record Asks (chained : Bool) (s : List ℕ) (r : CoverParts) (glyphs : List ℕ) (m l : Map) (t area : List ℕ) : Type 0 where
+  pub parts : IsContext chained s r
+  pub ready : Ready glyphs m t
+  pub lookups : Inside t l
+  pub header : r .records .at + 4 * r .records .len ≤ length area
+  pub short : length area ≤ 0x1_0000_0000
+  pub cells : length t ≤ 0x1_0000_0000
+
+-- whatever lookup map the cells of l hold, the context is written
+pub record Writes (chained : Bool) (s : List ℕ) (r : CoverParts) (glyphs : List ℕ) (l : Map) (t before after : List ℕ) (end : ℕ) : Type 0 where
+  pub same : length after ≡ length before
+  pub settled : {es : List (ℕ × ℕ)} → Holds t l es → Settles (contextLeft chained (mapEntries glyphs) es s r) before after end

@@ -1,0 +1,345 @@
+// Format 3 of contexts and chained contexts: coverages for backtrack, input and lookahead, and records; cut in one walk, from the source into the area.
+// The area's header has its parts where the source has them, since each row of coverages stays whole.
+use area::hand_over;
+use area::put;
+use area::put_three;
+use area::write_cover;
+use fold::Map;
+use fold::lay;
+use meet::meet;
+use records::write_counted_records;
+use records::write_records;
+use room::LIMIT;
+use room::Laid;
+use tried::Tried;
+use wire::word_at;
+use wire::word_inside;
+ghost use mathlib.Core.Path.{_≡_};
+ghost use mathlib.Core.Option.{none};
+ghost use mathlib.Core.Bool.{true, false};
+ghost use Prim.Native.Nat.{_+_, _-_, _*_, _≤_, _<_};
+ghost use lib.ListN.{length};
+ghost use lib.Seq.{sets};
+ghost use Rattle.meaning.specs.Words.{bytes2};
+ghost use Rattle.meaning.specs.Maps.{mapEntries};
+ghost use Rattle.meaning.specs.Fault.{coversFault};
+ghost use Rattle.covers.specs.Context.{IsContext, Asks, Writes};
+ghost use Rattle.covers.specs.Cutting.{HandsOver, Cuts, CutsInto, Sound, enoughCells, Least};
+ghost use Rattle.meaning.specs.Tables.{coverContext};
+ghost use Rattle.meaning.specs.Cut.{cut};
+ghost use Rattle.meaning.specs.Subset.{limit, written};
+ghost use Rattle.tried.specs.Tries.{Tries};
+ghost use Rattle.covers.specs.Rows.{WritesSlot, WritesRow, slotLeft, rowLeft, LaysLeft};
+
+// The number of cells that is enough for any source: two maps of 65,536 cells each, and a note for each entry of the glyph map and one more.
+pub const CELLS: usize = 196609;
+
+// Offsets or records in a row: where the first stands, and how many there are.
+pub struct Row {
+    pub at: usize,
+    pub len: usize,
+}
+
+// Where the parts of a context stand: the offsets of its coverages, and its records.
+pub struct CoverParts {
+    pub back: Row,
+    pub input: Row,
+    pub ahead: Row,
+    pub records: Row,
+}
+
+// Where the parts of a plain context stand; it has neither backtrack nor lookahead.
+fn plain_parts(src: &[u8]) -> CoverParts
+    requires { ⌜ coversFault false (now src) ≡ none ⌝ }
+    ensures { λ r. ⌜ IsContext false (now (src .entry)) r ⌝ }
+{
+    let n = word_at(src, 2);
+    CoverParts {
+        back: Row { at: 0, len: 0 },
+        input: Row { at: 6, len: n },
+        ahead: Row { at: 0, len: 0 },
+        records: Row {
+            at: 6 + 2 * n,
+            len: word_at(src, 4),
+        },
+    }
+}
+
+// Where the parts of a chained context stand.
+fn chained_parts(src: &[u8]) -> CoverParts
+    requires { ⌜ coversFault true (now src) ≡ none ⌝ }
+    ensures { λ r. ⌜ IsContext true (now (src .entry)) r ⌝ }
+{
+    let backs = word_at(src, 2);
+    let i = 4 + 2 * backs;
+    let inputs = word_at(src, i);
+    let a = i + 2 + 2 * inputs;
+    let aheads = word_at(src, a);
+    let r = a + 2 + 2 * aheads;
+    CoverParts {
+        back: Row { at: 4, len: backs },
+        input: Row {
+            at: i + 2,
+            len: inputs,
+        },
+        ahead: Row {
+            at: a + 2,
+            len: aheads,
+        },
+        records: Row {
+            at: r + 2,
+            len: word_at(src, r),
+        },
+    }
+}
+
+// Where the parts of the context stand.
+pub fn cover_parts(chained: bool, src: &[u8]) -> CoverParts
+    requires { ⌜ coversFault chained (now src) ≡ none ⌝ }
+    ensures { λ r. ⌜ IsContext chained (now (src .entry)) r ⌝ }
+{
+    if chained {
+        return chained_parts(src);
+    }
+    plain_parts(src)
+}
+
+// What is left of the coverage at `cover`: its offset at `slot`, and itself at `p`; the place after it, and 0 if no glyph is retained. Where `p` is past the area nothing is written.
+fn write_slot(
+    src: &[u8],
+    cover: usize,
+    glyphs: &[u8],
+    m: Map,
+    t: &mut [u32],
+    area: &mut [u8],
+    slot: usize,
+    p: usize,
+) -> usize
+    requires { ⌜ WritesSlot (now src) cover (now glyphs) m (now t) (now area) slot p ⌝ }
+    ensures { λ r. ⌜ LaysLeft (slotLeft (mapEntries (now (glyphs .entry))) (now (src .entry)) cover) m (now (t .entry)) (now (t .exit)) (now (area .entry)) slot p (now (area .exit)) r ⌝ }
+{
+    let notes = m.at + m.mask + 1;
+    let k = meet(src, cover, glyphs, m, t, notes);
+    if k == 0 {
+        return 0;
+    }
+    if area.len() < p {
+        return p;
+    }
+    put(area, slot, p);
+    write_cover(t, notes, k, area, p)
+}
+
+// What is left of the coverages that a row reaches: their offsets where the row stands, and themselves from `pos` on; the place after them, and 0 if one of them is null or left with no glyph.
+fn write_row(
+    src: &[u8],
+    row: Row,
+    glyphs: &[u8],
+    m: Map,
+    t: &mut [u32],
+    area: &mut [u8],
+    pos: usize,
+) -> usize
+    requires { ⌜ WritesRow (now src) row (now glyphs) m (now t) (now area) pos ⌝ }
+    ensures { λ r. ⌜ LaysLeft (rowLeft (mapEntries (now (glyphs .entry))) (now (src .entry)) row) m (now (t .entry)) (now (t .exit)) (now (area .entry)) (row .at) pos (now (area .exit)) r ⌝ }
+{
+    let mut p = pos;
+    let mut i = 0;
+    while i < row.len {
+        let slot = row.at + 2 * i;
+        let cover = word_inside(src, slot);
+        if cover == 0 {
+            return 0;
+        }
+        p = write_slot(src, cover, glyphs, m, t, area, slot, p);
+        if p == 0 {
+            return 0;
+        }
+        i += 1;
+    }
+    p
+}
+
+// The count of a row, and what is left of the coverages that the row reaches, as `write_row` says.
+fn write_counted_row(
+    src: &[u8],
+    row: Row,
+    glyphs: &[u8],
+    m: Map,
+    t: &mut [u32],
+    area: &mut [u8],
+    pos: usize,
+) -> usize
+    requires { ⌜ WritesRow (now src) row (now glyphs) m (now t) (now area) pos × (2 ≤ row .at) × (row .at ≤ length (now area)) ⌝ }
+    ensures { λ r. ⌜ LaysLeft (rowLeft (mapEntries (now (glyphs .entry))) (now (src .entry)) row) m (now (t .entry)) (now (t .exit)) (sets (now (area .entry)) (row .at - 2) (bytes2 (row .len))) (row .at) pos (now (area .exit)) r ⌝ }
+{
+    put(area, row.at - 2, row.len);
+    write_row(src, row, glyphs, m, t, area, pos)
+}
+
+// A plain context: format, both counts, the offsets, the records that stay, and what is left of the coverages; the place after it, and 0 if nothing is left.
+fn write_plain(
+    src: &[u8],
+    parts: CoverParts,
+    glyphs: &[u8],
+    m: Map,
+    l: Map,
+    t: &mut [u32],
+    area: &mut [u8],
+) -> usize
+    requires { ⌜ Asks false (now src) parts (now glyphs) m l (now t) (now area) ⌝ }
+    ensures { λ r. ⌜ Writes false (now (src .entry)) parts (now (glyphs .entry)) l (now (t .entry)) (now (area .entry)) (now (area .exit)) r ⌝ }
+{
+    let at = parts.records.at;
+    let p = write_records(src, at, parts.records.len, t, l, area, at);
+    put_three(area, 0, 3, parts.input.len, (p - at) / 4);
+    write_row(src, parts.input, glyphs, m, t, area, p)
+}
+
+// A chained context: format, and each row with its count; the records that stay with theirs, and what is left of the coverages; the place after it, and 0 if nothing is left.
+fn write_chained(
+    src: &[u8],
+    parts: CoverParts,
+    glyphs: &[u8],
+    m: Map,
+    l: Map,
+    t: &mut [u32],
+    area: &mut [u8],
+) -> usize
+    requires { ⌜ Asks true (now src) parts (now glyphs) m l (now t) (now area) ⌝ }
+    ensures { λ r. ⌜ Writes true (now (src .entry)) parts (now (glyphs .entry)) l (now (t .entry)) (now (area .entry)) (now (area .exit)) r ⌝ }
+{
+    let at = parts.records.at;
+    let p = write_counted_records(src, at, parts.records.len, t, l, area, at - 2);
+    put(area, 0, 3);
+    let q = write_counted_row(src, parts.back, glyphs, m, t, area, p);
+    if q == 0 {
+        return 0;
+    }
+    let r = write_counted_row(src, parts.input, glyphs, m, t, area, q);
+    if r == 0 {
+        return 0;
+    }
+    write_counted_row(src, parts.ahead, glyphs, m, t, area, r)
+}
+
+// What is left of a context by coverages, written from the area's start on; the place after it, and 0 if nothing is left.
+pub fn write_context(
+    chained: bool,
+    src: &[u8],
+    parts: CoverParts,
+    glyphs: &[u8],
+    m: Map,
+    l: Map,
+    t: &mut [u32],
+    area: &mut [u8],
+) -> usize
+    requires { ⌜ Asks chained (now src) parts (now glyphs) m l (now t) (now area) ⌝ }
+    ensures { λ r. ⌜ Writes chained (now (src .entry)) parts (now (glyphs .entry)) l (now (t .entry)) (now (area .entry)) (now (area .exit)) r ⌝ }
+{
+    if chained {
+        return write_chained(src, parts, glyphs, m, l, t, area);
+    }
+    write_plain(src, parts, glyphs, m, l, t, area)
+}
+
+// What was written into the area up to `end`, handed over: nothing if `end` is 0; where it is past the area, the layout is over the limit if the area is not shorter than that.
+fn settle(end: usize, area: &[u8], out: &mut [u8]) -> Tried
+    ensures { λ r. ⌜ HandsOver end (now (area .entry)) r (now (out .entry)) (now (out .exit)) ⌝ }
+{
+    if end == 0 {
+        return Tried::Became(Laid::Nothing);
+    }
+    if area.len() < end {
+        if area.len() < LIMIT {
+            return Tried::Short;
+        }
+        return Tried::Became(Laid::TooBig);
+    }
+    Tried::Became(hand_over(area, 0, 0, end, out))
+}
+
+// What is left of a sound context, with both maps in cells, handed over if there is room.
+fn cut_context(
+    chained: bool,
+    src: &[u8],
+    glyphs: &[u8],
+    m: Map,
+    l: Map,
+    t: &mut [u32],
+    area: &mut [u8],
+    out: &mut [u8],
+) -> Tried
+    requires { ⌜ Cuts chained (now src) (now glyphs) m l (now t) (now area) ⌝ }
+    ensures { λ r. ⌜ CutsInto chained (now (src .entry)) (now (glyphs .entry)) l (now (t .entry)) (now (area .entry)) r (now (out .entry)) (now (out .exit)) ⌝ }
+{
+    let parts = cover_parts(chained, src);
+    if area.len() < parts.records.at + 4 * parts.records.len {
+        return Tried::Short;
+    }
+    let end = write_context(chained, src, parts, glyphs, m, l, t, area);
+    settle(end, area, out)
+}
+
+// The same from the maps' lists, with lent scratch whose content is arbitrary.
+fn cut_in(
+    chained: bool,
+    src: &[u8],
+    glyphs: &[u8],
+    lookups: &[u8],
+    t: &mut [u32],
+    area: &mut [u8],
+    out: &mut [u8],
+) -> Tried
+    requires { ⌜ Sound chained (now src) (now glyphs) (now lookups) × (length (now t) ≤ 0x1_0000_0000) × (length (now area) ≤ 0x1_0000_0000) ⌝ }
+    ensures { λ r. ⌜ Tries (length (now (t .entry)) < enoughCells) (length (now (area .entry)) < limit) r (now (out .entry)) (now (out .exit)) (written (now (out .entry)) (cut (mapEntries (now (glyphs .entry))) (mapEntries (now (lookups .entry))) (coverContext chained (now (src .entry))))) ⌝ }
+{
+    let l = lay(lookups, t, 0);
+    if l.mask == 0 {
+        return Tried::FewCells;
+    }
+    let m = lay(glyphs, t, l.mask + 1);
+    if m.mask == 0 {
+        return Tried::FewCells;
+    }
+    if t.len() <= m.at + m.mask + 1 + glyphs.len() / 4 {
+        return Tried::FewCells;
+    }
+    cut_context(chained, src, glyphs, m, l, t, area, out)
+}
+
+// The lesser of two numbers.
+fn least(a: usize, b: usize) -> usize
+    ensures { λ r. ⌜ Least a b r ⌝ }
+{
+    if a < b {
+        return a;
+    }
+    b
+}
+
+// What is left of a sound context by coverages, plain or chained, under a glyph map and a lookup map, handed over if there is room, with lent scratch whose content is arbitrary.
+pub fn by_cover(
+    chained: bool,
+    src: &[u8],
+    glyphs: &[u8],
+    lookups: &[u8],
+    t: &mut [u32],
+    area: &mut [u8],
+    out: &mut [u8],
+) -> Tried
+    requires { ⌜ Sound chained (now src) (now glyphs) (now lookups) ⌝ }
+    ensures { λ r. ⌜ Tries (length (now (t .entry)) < enoughCells) (length (now (area .entry)) < limit) r (now (out .entry)) (now (out .exit)) (written (now (out .entry)) (cut (mapEntries (now (glyphs .entry))) (mapEntries (now (lookups .entry))) (coverContext chained (now (src .entry))))) ⌝ }
+{
+    let cells = least(t.len(), CELLS);
+    let bytes = least(area.len(), LIMIT);
+    cut_in(
+        chained,
+        src,
+        glyphs,
+        lookups,
+        &mut t[..cells],
+        &mut area[..bytes],
+        out,
+    )
+}

@@ -1,0 +1,33 @@
+use borrow.Author.Needs.{needs}
+use Rattle.kept_sets.specs.Sorts.{rules-sound, ligatures-sound, rules-leave, ligatures-leave}
+use Rattle.kept_sets.proofs.write_set.Statement.{statement}
+use Rattle.kept_sets.proofs.write_set.Tie as tie
+
+write-rules-requires : tie.Need-write-rules-requires
+write-rules-requires c κs =
+    let a = c .before .before .before .before .before .before .before in
+    (rules-sound _ _ (c .before .before .sort .given .1) (a .pre .0), a .pre .1, a .pre .2, a .pre .3)
+
+write-ligatures-requires : tie.Need-write-ligatures-requires
+write-ligatures-requires c κs =
+    let a = c .before .before .before .before .before .before in
+    (ligatures-sound _ _ (c .before .enum-told .given .1) (a .pre .0), a .pre .1, a .pre .2 .input, a .pre .3)
+
+returns : tie.Need-returns
+returns c = rules-leave _ _ _ (c .before .before .before .before .before .sort .given .1) (c .before .before .write-rules .ensures)
+
+returns-2 : tie.Need-returns-2
+returns-2 c = ligatures-leave _ _ _ (c .before .before .before .before .enum-told .given .1) (c .before .before .write-ligatures .ensures)
+
+pub write-set-spec : {M : Type 1} → statement M
+write-set-spec =
+    tie.close
+    (tie.spec
+    (λ c. search needs)
+    write-rules-requires
+    (λ c. search needs)
+    write-ligatures-requires
+    (λ c. search needs)
+    returns
+    (λ c. search needs)
+    returns-2)

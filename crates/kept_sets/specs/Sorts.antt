@@ -1,0 +1,119 @@
+-- The sorts of sets: what is left of one, and what stands around them.
+use Prim.Native.Nat.{ℕ, zero, suc, _+_, _*_, _<_, _≤_}
+use mathlib.Core.Path.{_≡_, refl, ap}
+use mathlib.Core.Bool.{Bool}
+use mathlib.Core.Option.{Option, none, some}
+use mathlib.Core.List.{List, []}
+use native.Mathlib.Omega.{arith}
+use lib.ListN.{length}
+use Rattle.meaning.specs.Words.{mapSome, upFrom}
+use Rattle.meaning.specs.Tables.{ruleSet, ligatureSet}
+use Rattle.meaning.specs.Fault.{ruleFault, ligatureFault, setFault}
+use Rattle.meaning.specs.Cut.{RuleMaps, cutSet, cutLigatures}
+use Rattle.meaning.specs.Layout.{block, ruleWords, ligatureWords, setWords}
+use Rattle.laws.specs.Members.{wordsLeft}
+use Rattle.fold.specs.Cells.{Inside, Kept}
+use Rattle.fold.specs.declared.Map.{Map}
+use Rattle.numbers.specs.Entries.{entryIn, entriesIn}
+use Rattle.numbers.specs.Leaves.{Leaves, leaves-said}
+use Rattle.member_sets.specs.Sets.{setMost}
+use Rattle.rule_sets.specs.Left.{AllInside, mapsIn}
+use Rattle.rule_sets.specs.declared.Maps.{Maps}
+use Rattle.kept_sets.specs.declared.Sort.{Sort}
+use Rattle.kept_sets.specs.declared.Sort.the-variants.{Rules, Ligatures}
+
+-- the words between the coverage's offset and the count of the sets
+abbrev pub moreOf : Sort → List ℕ
+moreOf (Rules chained) = []
+moreOf Ligatures = []
+
+-- how many bytes stand before the offsets of the sets
+abbrev pub headerSize : Sort → ℕ
+headerSize sort = 6 + 2 * length (moreOf sort)
+
+-- where the set at a place is faulty
+unfoldable pub setFaultOf : Sort → List ℕ → ℕ → Option ℕ
+setFaultOf (Rules chained) s at = setFault (ruleFault chained s) s at
+setFaultOf Ligatures s at = setFault (ligatureFault s) s at
+
+-- the words of what is left of the set at a place
+unfoldable pub setLeft : Sort → RuleMaps → List ℕ → ℕ → Option (List ℕ)
+setLeft (Rules chained) m s at = block (setWords (ruleWords chained)) (cutSet chained m (ruleSet chained s at))
+setLeft Ligatures m s at = block (setWords ligatureWords) (cutLigatures (m .input) (ligatureSet s at))
+
+-- the same under the maps that cells hold
+abbrev pub leftIn : Sort → List ℕ → Maps → List ℕ → ℕ → Option (List ℕ)
+leftIn sort t m s at = setLeft sort (mapsIn t m) s at
+
+-- the words, and none where nothing is left
+unfoldable pub wordsIn : Option (List ℕ) → List ℕ
+wordsIn none = []
+wordsIn (some ws) = ws
+
+-- more than there is room for, where a set has none: what is left of it, and twice the source
+unfoldable pub mostOf : Option (List ℕ) → List ℕ → ℕ
+mostOf o s = 2 * length (wordsIn o) + 2 * length s
+
+-- the cells of the maps lie before `at`
+pub record AllBefore (m : Maps) (at : ℕ) : Type 0 where
+  pub back : m .back .at + m .back .mask < at
+  pub input : m .input .at + m .input .mask < at
+  pub ahead : m .ahead .at + m .ahead .mask < at
+  pub lookups : m .lookups .at + m .lookups .mask < at
+
+-- a set of members has the words of its members
+words-block : {A : Type 0} (f : A → List ℕ) (o : Option A) → wordsLeft f o ≡ wordsIn (block f o)
+unfolding wordsLeft wordsIn block
+words-block f none = refl
+words-block f (some a) = refl
+
+set-leaves : {A : Type 0} (f : A → List ℕ) (o : Option (List A)) {a b : List ℕ} {p r : ℕ} (s : List ℕ) → Leaves a p (block (setWords f) o) (setMost f o s) b r
+    → Leaves a p (block (setWords f) o) (mostOf (block (setWords f) o) s) b r
+unfolding setMost mostOf
+set-leaves f o s w = leaves-said w refl (omega (arith, ap length (words-block (setWords f) o)))
+
+-- The code asks for the sort: what the check says of a set of rules and of one of ligatures, and what their writers leave.
+module _ {sort : Sort} (s : List ℕ) (at : ℕ) where
+  pub rules-sound : {chained : Bool} → sort ≡ Rules chained → setFaultOf sort s at ≡ none → setFault (ruleFault chained s) s at ≡ none
+  unfolding setFaultOf
+  rules-sound e h = rw e at h
+
+  pub ligatures-sound : sort ≡ Ligatures → setFaultOf sort s at ≡ none → setFault (ligatureFault s) s at ≡ none
+  unfolding setFaultOf
+  ligatures-sound e h = rw e at h
+
+  module _ (m : RuleMaps) {a b : List ℕ} {p r : ℕ} where
+    pub rules-leave : {chained : Bool} → sort ≡ Rules chained → Leaves a p (block (setWords (ruleWords chained)) (cutSet chained m (ruleSet chained s at))) (setMost (ruleWords chained) (cutSet chained m (ruleSet chained s at)) s) b r
+        → Leaves a p (setLeft sort m s at) (mostOf (setLeft sort m s at) s) b r
+    unfolding setLeft
+    rules-leave {chained} e w = rw e (set-leaves (ruleWords chained) (cutSet chained m (ruleSet chained s at)) s w)
+
+    pub ligatures-leave : sort ≡ Ligatures → Leaves a p (block (setWords ligatureWords) (cutLigatures (m .input) (ligatureSet s at))) (setMost ligatureWords (cutLigatures (m .input) (ligatureSet s at)) s) b r
+        → Leaves a p (setLeft sort m s at) (mostOf (setLeft sort m s at) s) b r
+    unfolding setLeft
+    ligatures-leave e w = rw e (set-leaves ligatureWords (cutLigatures (m .input) (ligatureSet s at)) s w)
+
+-- Cells behind the maps may change.
+module _ {at : ℕ} {t₀ t : List ℕ} (k : Kept at t₀ t) where
+  cells-kept : (m : Map) (n i : ℕ) → m .at + i + n ≤ at → mapSome (entryIn t m) (upFrom i n) ≡ mapSome (entryIn t₀ m) (upFrom i n)
+  unfolding mapSome upFrom entryIn
+  cells-kept m zero i h = refl
+  cells-kept m (suc n) i h = rw (k .same (m .at + i) (omega arith), cells-kept m n (i + 1) (omega arith))
+
+  entries-kept : (m : Map) → m .at + m .mask < at → entriesIn t m ≡ entriesIn t₀ m
+  unfolding entriesIn
+  entries-kept m h = cells-kept m (m .mask + 1) 0 (omega arith)
+
+  inside-as : {m : Map} → Inside t₀ m → Inside t m
+  inside-as i = record { within = omega (arith, k .size, i .within) }
+
+  -- what is left of a set stays the same
+  pub left-kept : (sort : Sort) {m : Maps} → AllBefore m at → (s : List ℕ) (p : ℕ) → leftIn sort t m s p ≡ leftIn sort t₀ m s p
+  left-kept sort {m} b s p = rw (entries-kept (m .back) (b .back), entries-kept (m .input) (b .input), entries-kept (m .ahead) (b .ahead), entries-kept (m .lookups) (b .lookups))
+
+  pub leaves-kept : (sort : Sort) {m : Maps} → AllBefore m at → (s : List ℕ) (p : ℕ) {a b : List ℕ} {q r : ℕ} → Leaves a q (leftIn sort t m s p) (mostOf (leftIn sort t m s p) s) b r
+      → Leaves a q (leftIn sort t₀ m s p) (mostOf (leftIn sort t₀ m s p) s) b r
+  leaves-kept sort {m} w s p l = rw (left-kept sort w s p) at l
+
+  pub inside-kept : {m : Maps} → AllInside t₀ m → AllInside t m
+  inside-kept i = record { back = inside-as (i .back); input = inside-as (i .input); ahead = inside-as (i .ahead); lookups = inside-as (i .lookups) }

@@ -1,0 +1,102 @@
+// Format 1 of each kind: the sets of the retained covered glyphs, written one after the other into the area, behind a place for the header and for an offset each.
+use area::over;
+use area::put;
+use ligatures::write_ligatures;
+use rule_sets::Maps;
+use rule_sets::write_rules;
+use wire::word_inside;
+ghost use mathlib.Core.Path.{_≡_};
+ghost use mathlib.Core.Option.{none};
+ghost use Prim.Native.Nat.{_≤_};
+ghost use lib.ListN.{length};
+ghost use Rattle.meaning.specs.Subset.{limit};
+ghost use Rattle.numbers.specs.Leaves.{Leaves};
+ghost use Rattle.rule_sets.specs.Left.{AllInside};
+ghost use Rattle.kept_sets.specs.Sorts.{setFaultOf, headerSize, leftIn, mostOf};
+ghost use Rattle.kept_sets.specs.Kept.{Ready, WroteKept};
+
+// The sorts of sets: rules, plain or chained, and ligatures.
+pub enum Sort {
+    Rules(bool),
+    Ligatures,
+}
+
+// How many sets were kept, and the place after them; more than the length of the area, where there is no room.
+pub struct Sets {
+    pub count: usize,
+    pub end: usize,
+}
+
+// How many bytes stand before the offsets of the sets: the format, the coverage's offset and the count.
+pub fn header_size(sort: Sort) -> usize
+    ensures { λ r. ⌜ (r ≡ headerSize sort) × (r ≤ 10) ⌝ }
+{
+    match sort {
+        Sort::Rules(_) => 6,
+        Sort::Ligatures => 6,
+    }
+}
+
+// What is left of the set at `at`, from `pos` on. Ligatures go through the map of the input alone.
+fn write_set(
+    sort: Sort,
+    src: &[u8],
+    at: usize,
+    t: &[u32],
+    maps: Maps,
+    area: &mut [u8],
+    pos: usize,
+) -> usize
+    requires { ⌜ (setFaultOf sort (now src) at ≡ none) × (length (now src) ≤ limit) × AllInside (now t) maps × (pos ≤ length (now area)) ⌝ }
+    ensures { λ r. ⌜ Leaves (now (area .entry)) pos (leftIn sort (now (t .entry)) maps (now (src .entry)) at) (mostOf (leftIn sort (now (t .entry)) maps (now (src .entry)) at) (now (src .entry))) (now (area .exit)) r ⌝ }
+{
+    match sort {
+        Sort::Rules(chained) => write_rules(chained, src, at, t, maps, area, pos),
+        Sort::Ligatures => write_ligatures(src, at, t, maps.input, area, pos),
+    }
+}
+
+// What is left of the sets that the `m` notes from `notes` on name by their coverage index, written after the place for the header and an offset for each note. A note stays, and its set's place is written as its offset, if something of the set is left.
+pub fn write_kept(
+    sort: Sort,
+    src: &[u8],
+    t: &mut [u32],
+    notes: usize,
+    m: usize,
+    maps: Maps,
+    area: &mut [u8],
+) -> Sets
+    requires { ⌜ Ready sort (now src) (now t) maps notes m ⌝ }
+    ensures { λ r. ⌜ WroteKept sort (now (src .entry)) (now (t .entry)) maps notes m (now (area .entry)) (now (t .exit)) (now (area .exit)) r ⌝ }
+{
+    let slots = header_size(sort);
+    let first = slots + 2 * m;
+    if area.len() < first {
+        return Sets {
+            count: 0,
+            end: over(area),
+        };
+    }
+    let mut k = 0;
+    let mut p = first;
+    let mut i = 0;
+    while i < m {
+        let note = t[notes + i];
+        let at = word_inside(src, slots + 2 * (note as usize / 65536));
+        i += 1;
+        if at == 0 {
+            continue;
+        }
+        let q = write_set(sort, src, at, t, maps, area, p);
+        if area.len() < q {
+            return Sets { count: 0, end: q };
+        }
+        if q != 0 {
+            put(area, slots + 2 * k, p);
+            t[notes + k] = note;
+            k += 1;
+            p = q;
+        }
+    }
+    Sets { count: k, end: p }
+}

@@ -1,0 +1,4 @@
+pub mod Entries
+pub mod Lists
+pub mod Ranges
+pub mod Formats

@@ -1,0 +1,127 @@
+// Where a glyph map meets a coverage: the covered glyphs that the map has, noted in cells.
+use fold::Map;
+use fold::entry;
+use wire::word_inside;
+ghost use mathlib.Core.Path.{_≡_};
+ghost use mathlib.Core.Bool.{true};
+ghost use Prim.Native.Nat.{_+_, _*_, _/_, _≤_, _<_};
+ghost use lib.ListN.{length};
+ghost use Rattle.meaning.specs.Words.{words, triples};
+ghost use Rattle.meaning.specs.Parts.{rangeGlyphs, coverage};
+ghost use Rattle.meaning.specs.Maps.{mapEntries};
+ghost use Rattle.meaning.specs.Words.{find, keys, ascends};
+ghost use Rattle.fold.specs.Cells.{folded};
+ghost use Rattle.meet.specs.Met.{Met, Meets};
+ghost use Rattle.meet.specs.Walks.{MeetsList, MeetsRanges, MeetsRange, InRange, Reached};
+
+// Which of the places from `lo` up to `hi` to look at next: the first one while it is before `near`, else the middle one.
+fn probe(lo: usize, hi: usize, near: usize) -> usize
+    requires { ⌜ lo < hi ⌝ }
+    ensures { λ r. ⌜ (lo ≤ r) × (r < hi) ⌝ }
+{
+    if lo < near {
+        return lo;
+    }
+    lo + (hi - lo) / 2
+}
+
+// The first entry of the map, from the entry `from` on, whose old number is `value` or more; the number of entries if none is.
+// It looks at four entries one by one, then it halves.
+fn reach(glyphs: &[u8], from: usize, value: usize) -> usize
+    requires { ⌜ (from ≤ length (now glyphs) / 4) × (ascends (keys (mapEntries (now glyphs))) ≡ true) ⌝ }
+    ensures { λ r. ⌜ Reached (now (glyphs .entry)) from value r ⌝ }
+{
+    let mut lo = from;
+    let mut hi = glyphs.len() / 4;
+    let near = from + 4;
+    while lo < hi {
+        let mid = probe(lo, hi, near);
+        if word_inside(glyphs, 4 * mid) < value {
+            lo = mid + 1;
+        } else {
+            hi = mid;
+        }
+    }
+    lo
+}
+
+// The `n` listed glyphs from `at` on that the map has, noted from `to` on; how many. Each is noted, and the place moves on if the map has it, so that no branch waits for the answer.
+fn meet_list(src: &[u8], at: usize, n: usize, m: Map, t: &mut [u32], to: usize) -> usize
+    requires { ⌜ MeetsList (now src) at n m (now t) to ⌝ }
+    ensures { λ r. ⌜ Met (folded (now (t .entry)) m) (words (now (src .entry)) at n) (now (t .entry)) to (now (t .exit)) r ⌝ }
+{
+    let mut k = 0;
+    let mut i = 0;
+    while i < n {
+        let glyph = word_inside(src, at + 2 * i);
+        let e = entry(t, m, glyph);
+        t[to + k] = (i * 65536 + e % 65536) as u32;
+        if e / 65536 == glyph {
+            k += 1;
+        }
+        i += 1;
+    }
+    k
+}
+
+// The entries of the map from the entry `from` on that are `last` at most, noted from `to` on; how many. They lie in a range of glyphs whose first one is `first`, with the coverage index `index`.
+fn meet_range(
+    glyphs: &[u8],
+    from: usize,
+    first: usize,
+    last: usize,
+    index: usize,
+    t: &mut [u32],
+    to: usize,
+) -> usize
+    requires { ⌜ MeetsRange (now glyphs) from first index (now t) to ⌝ }
+    ensures { λ r. ⌜ InRange (now (glyphs .entry)) from first last index (now (t .entry)) to (now (t .exit)) r ⌝ }
+{
+    let mut k = 0;
+    while from + k < glyphs.len() / 4 {
+        let old = word_inside(glyphs, 4 * (from + k));
+        if last < old {
+            return k;
+        }
+        let new = word_inside(glyphs, 4 * (from + k) + 2);
+        t[to + k] = ((index + (old - first)) * 65536 + new) as u32;
+        k += 1;
+    }
+    k
+}
+
+// The glyphs of the `n` ranges from `at` on that the map has, noted from `to` on; how many. A range costs the entries that lie in it, and a few steps to find the first.
+fn meet_ranges(src: &[u8], at: usize, n: usize, glyphs: &[u8], t: &mut [u32], to: usize) -> usize
+    requires { ⌜ MeetsRanges (now src) at n (now glyphs) (now t) to ⌝ }
+    ensures { λ r. ⌜ Met (find (mapEntries (now (glyphs .entry)))) (rangeGlyphs (triples (now (src .entry)) at n)) (now (t .entry)) to (now (t .exit)) r ⌝ }
+{
+    let mut e = 0;
+    let mut k = 0;
+    let mut i = 0;
+    while i < n {
+        if glyphs.len() / 4 <= e {
+            return k;
+        }
+        let first = word_inside(src, at + 6 * i);
+        let last = word_inside(src, at + 6 * i + 2);
+        let index = word_inside(src, at + 6 * i + 4);
+        let from = reach(glyphs, e, first);
+        let met = meet_range(glyphs, from, first, last, index, t, to + k);
+        e = from + met;
+        k += met;
+        i += 1;
+    }
+    k
+}
+
+// The retained glyphs of the coverage at `at`, in order, noted in the cells from `to` on, each as its coverage index times 65,536, plus its new number; how many. `m` holds the glyph map.
+pub fn meet(src: &[u8], at: usize, glyphs: &[u8], m: Map, t: &mut [u32], to: usize) -> usize
+    requires { ⌜ Meets (now src) at (now glyphs) m (now t) to ⌝ }
+    ensures { λ r. ⌜ Met (find (mapEntries (now (glyphs .entry)))) (coverage (now (src .entry)) at) (now (t .entry)) to (now (t .exit)) r ⌝ }
+{
+    let n = word_inside(src, at + 2);
+    if word_inside(src, at) == 1 {
+        return meet_list(src, at + 4, n, m, t, to);
+    }
+    meet_ranges(src, at + 4, n, glyphs, t, to)
+}
