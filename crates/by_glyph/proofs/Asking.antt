@@ -25,6 +25,7 @@ use Rattle.fold.specs.Laid.{Laid}
 use Rattle.fold.specs.declared.Map.{Map}
 use Rattle.rule_sets.specs.declared.Maps.{Maps}
 use Rattle.meet.specs.Met.{met, Met, Meets, met-count}
+use Rattle.meet.proofs.Entries.{map-rises}
 use Rattle.kept_sets.specs.Sorts.{headerSize, setFaultOf, leftIn, left-kept, inside-kept}
 use Rattle.kept_sets.specs.Kept.{setAt, keptOf, Ready, keptIn}
 use Rattle.kept_sets.specs.declared.Sort.{Sort}
@@ -151,6 +152,22 @@ module _ {sort : Sort} {s glyphs t₀ : List ℕ} {maps : Maps} {notes : ℕ} (a
     kept-said =
         kept-same (leftIn sort t maps s) (leftIn sort t₀ maps s) (left-kept (h .kept) sort (l .before) s) s (headerSize sort) _
         ∙ ap (keptOf (leftIn sort t₀ maps s) s (headerSize sort)) (h .noted ∙ ap (λ (i : ℕ). met (find (mapEntries glyphs)) 0 (coverage s i)) e)
+
+-- A map whose old numbers ascend has 65,536 entries at most.
+word-small : (m : List ℕ) → ((i : ℕ) → getD m i 0 < 256) → (at : ℕ) → word m at < 65536
+unfolding word
+word-small m h at = omega (arith, h at, h (at + 1))
+
+map-least : (m : List ℕ) → ascends (keys (mapEntries m)) ≡ true → (k : ℕ) → k < length m / 4 → k ≤ word m (4 * k)
+map-least m good zero h = omega arith
+map-least m good (suc k) h = omega (arith, map-least m good k (omega arith), map-rises m good k (suc k) (omega arith) h)
+
+pub few-entries : (m : List ℕ) → ascends (keys (mapEntries m)) ≡ true → ((i : ℕ) → getD m i 0 < 256) → length m / 4 ≤ 65536
+few-entries m good bytes = step (decLt 0 (length m / 4))
+  where
+    step : Dec (0 < length m / 4) → length m / 4 ≤ 65536
+    step (yes h) = omega (arith, map-least m good (length m / 4 - 1) (omega arith), word-small m bytes (4 * (length m / 4 - 1)))
+    step (no h) = omega arith
 
 -- a map that has no room
 pub no-room : {list t₀ t : List ℕ} {at : ℕ} {m : Map} → Laid list t₀ t at m → ascends (keys (mapEntries list)) ≡ true → m .mask ≡ 0 → length t₀ < at + 65536

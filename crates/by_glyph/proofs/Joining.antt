@@ -10,6 +10,7 @@ use Rattle.meaning.specs.Cut.{glyphsOf}
 use Rattle.meaning.specs.Layout.{offsets, blocks, coverageWords, setsLayout}
 use Rattle.meaning.specs.Tables.{Table}
 use Rattle.meaning.specs.Subset.{Outcome, refused, limit, laidInto, written}
+use Rattle.tried.specs.declared.Tried.{Tried}
 use Rattle.area.specs.Part.{part, news}
 use Rattle.area.specs.Closed.{members}
 use Rattle.rule_sets.specs.declared.Maps.{Maps}
@@ -18,7 +19,7 @@ use Rattle.kept_sets.specs.Kept.{wordsOf, Ready, Done, WroteKept, keptIn}
 use Rattle.kept_sets.specs.declared.Sort.{Sort}
 use Rattle.kept_sets.specs.declared.Sets.{Sets}
 use Rattle.by_glyph.specs.Table.{areaMost, layoutOf, tableOf, Finishes, Finished}
-use Rattle.by_glyph.specs.Whole.{laidWords}
+use Rattle.by_glyph.specs.Whole.{laidWords, NoRoom, Answered, words-over}
 
 -- the sets and the coverage are part of their table
 table-most : (more cov : List ℕ) (bs : List (Option (List ℕ))) → length (blocks bs) + length cov ≤ length (setsLayout 1 (some cov ∷ []) more bs)
@@ -61,6 +62,10 @@ laid-none out e = rw e refl
 pub written-none : (out : List ℕ) {o : Option Table} → o ≡ none → refused out 8 ≡ written out o
 unfolding written
 written-none out e = rw e refl
+
+-- there is no room
+pub answered-short : {a b n : ℕ} {r : Tried} {out : List ℕ} {words : Option (List ℕ)} → NoRoom b r → b ≡ a → n ≤ limit → a < 2 * length (wordsIn words) + 3 * n → Answered (⊥) out words a r out
+answered-short {out = out} {words} h e l o = record { answer = (rw e at h) .refuses (words-over out words l o) }
 
 module _ {sort : Sort} {s t₀ : List ℕ} {maps : Maps} {at m : ℕ} {area₀ t area : List ℕ} {r : Sets} (a : Ready sort s t₀ maps at m) (w : WroteKept sort s t₀ maps at m area₀ t area r) where
   abbrev kept : List (ℕ × List ℕ)

@@ -10,6 +10,7 @@ use kept_sets::write_kept;
 use meet::meet;
 use room::Laid;
 use rule_sets::Maps;
+use tried::Tried;
 use wire::word_inside;
 ghost use mathlib.Core.Path.{_≡_};
 ghost use mathlib.Core.Bool.{true};
@@ -21,21 +22,18 @@ ghost use Rattle.meaning.specs.Words.{word, ascends, keys};
 ghost use Rattle.meaning.specs.Maps.{mapEntries};
 ghost use Rattle.meaning.specs.Fault.{headerFault, enough};
 ghost use Rattle.meaning.specs.Cut.{cut};
-ghost use Rattle.meaning.specs.Subset.{limit};
+ghost use Rattle.meaning.specs.Subset.{limit, written};
 ghost use Rattle.laws.specs.Written.{Wrote};
 ghost use Rattle.kept_sets.specs.Sorts.{moreOf, headerSize, setFaultOf};
 ghost use Rattle.kept_sets.specs.Kept.{Ready, keptIn};
 ghost use Rattle.kept_sets.specs.declared.Sort.the-variants.{Rules, Ligatures};
-ghost use Rattle.by_glyph.specs.Table.{Finishes, Finished, tableOf};
+ghost use Rattle.tried.specs.Tries.{Tries};
+ghost use Rattle.by_glyph.specs.Table.{areaMost, Finishes, Finished, tableOf};
 ghost use Rattle.by_glyph.specs.Asked.{SoundSets, MapsLaid, keptFrom};
-ghost use Rattle.by_glyph.specs.Whole.{areaMost, cellsNeeded, Answered, CutAs, glyphContext, ligatureTable};
+ghost use Rattle.by_glyph.specs.Whole.{cellsMost, NoRoom, Answered, Least, glyphContext, ligatureTable};
 
-// What became of a table: the cells are too few for the maps and the notes, the area is too short, or it was cut.
-pub enum Cut {
-    FewCells,
-    Short,
-    Became(Laid),
-}
+// The bytes of an area that are enough for any source: four times the limit. No more are used.
+const AREA: usize = 262144;
 
 // The words before the offsets of the sets; the place after them.
 fn write_header(sort: Sort, area: &mut [u8], cover: usize, k: usize) -> usize
@@ -69,6 +67,16 @@ fn finish(
     end
 }
 
+// There is no room in the area: it is too short; or it has what is enough for any source, and then the layout is over the limit.
+fn no_room(area: &[u8]) -> Tried
+    ensures { λ r. ⌜ NoRoom (length (now (area .entry))) r ⌝ }
+{
+    if area.len() < AREA {
+        return Tried::Short;
+    }
+    Tried::Became(Laid::TooBig)
+}
+
 // What is left of a table, of whose retained covered glyphs there are `m` notes from `notes` on, laid into the buffer if it is not over the limit and the buffer is not shorter.
 fn write_table(
     sort: Sort,
@@ -79,26 +87,26 @@ fn write_table(
     maps: Maps,
     area: &mut [u8],
     out: &mut [u8],
-) -> Cut
+) -> Tried
     requires { ⌜ Ready sort (now src) (now t) maps notes m × (length (now area) ≤ areaMost) ⌝ }
-    ensures { λ r. ⌜ Answered ⊥ (now (out .entry)) (tableOf sort (keptIn sort (now (src .entry)) (now (t .entry)) maps notes m)) (length (now (src .entry))) (length (now (area .entry))) r (now (out .exit)) ⌝ }
+    ensures { λ r. ⌜ Answered ⊥ (now (out .entry)) (tableOf sort (keptIn sort (now (src .entry)) (now (t .entry)) maps notes m)) (length (now (area .entry))) r (now (out .exit)) ⌝ }
 {
     let sets = write_kept(sort, src, t, notes, m, maps, area);
     let p = sets.end;
     let k = sets.count;
     if area.len() < p {
-        return Cut::Short;
+        return no_room(area);
     }
     if k == 0 {
-        return Cut::Became(Laid::Nothing);
+        return Tried::Became(Laid::Nothing);
     }
     let slots = header_size(sort);
     let first = slots + 2 * m;
     let end = finish(sort, t, notes, k, first, p, area);
     if area.len() < end {
-        return Cut::Short;
+        return no_room(area);
     }
-    Cut::Became(hand_over(area, slots + 2 * k, first, end, out))
+    Tried::Became(hand_over(area, slots + 2 * k, first, end, out))
 }
 
 // The same from the glyph map on, whose cells and those of the lookup map stand before `notes`.
@@ -111,31 +119,30 @@ fn cut_sets(
     notes: usize,
     area: &mut [u8],
     out: &mut [u8],
-) -> Cut
+) -> Tried
     requires { ⌜ SoundSets sort (now src) × MapsLaid (now glyphs) (now t) maps notes × (length (now area) ≤ areaMost) × (word (now src) 2 ≡ 0 → ⊥) ⌝ }
-    ensures { λ r. ⌜ Answered (length (now (t .entry)) ≤ notes + length (now (glyphs .entry)) / 4) (now (out .entry)) (tableOf sort (keptFrom sort (now (src .entry)) (now (glyphs .entry)) (now (t .entry)) maps)) (length (now (src .entry))) (length (now (area .entry))) r (now (out .exit)) ⌝ }
+    ensures { λ r. ⌜ Answered (length (now (t .entry)) ≤ notes + length (now (glyphs .entry)) / 4) (now (out .entry)) (tableOf sort (keptFrom sort (now (src .entry)) (now (glyphs .entry)) (now (t .entry)) maps)) (length (now (area .entry))) r (now (out .exit)) ⌝ }
 {
     if t.len() < notes + glyphs.len() / 4 + 1 {
-        return Cut::FewCells;
+        return Tried::FewCells;
     }
     let cover = word_inside(src, 2);
     let m = meet(src, cover, glyphs, maps.input, t, notes);
     write_table(sort, src, t, notes, m, maps, area, out)
 }
 
-// What is left of a sound table of ligatures under a glyph map, laid into the buffer if it is not over the limit and the buffer is not shorter. `t` and `area` are scratch, whatever they hold.
-// The buffer is untouched where nothing is left, where there is no room, and where the scratch is too short.
-pub fn ligatures(src: &[u8], glyphs: &[u8], t: &mut [u32], area: &mut [u8], out: &mut [u8]) -> Cut
+// The same from the source and the map's list on, for ligatures.
+fn cut_ligatures(src: &[u8], glyphs: &[u8], t: &mut [u32], area: &mut [u8], out: &mut [u8]) -> Tried
     requires { ⌜ (headerFault (enough (now src) (word (now src) 4)) 0 4 (setFaultOf Ligatures (now src)) (now src) ≡ none) × (length (now src) ≤ limit) × (ascends (keys (mapEntries (now glyphs))) ≡ true) × (length (now area) ≤ areaMost) ⌝ }
-    ensures { λ r. ⌜ CutAs (length (now (t .entry)) ≤ cellsNeeded (now (glyphs .entry))) (now (out .entry)) (cut (mapEntries (now (glyphs .entry))) [] (ligatureTable (now (src .entry)))) (length (now (src .entry))) (length (now (area .entry))) r (now (out .exit)) ⌝ }
+    ensures { λ r. ⌜ Tries (length (now (t .entry)) < cellsMost) (length (now (area .entry)) < areaMost) r (now (out .entry)) (now (out .exit)) (written (now (out .entry)) (cut (mapEntries (now (glyphs .entry))) [] (ligatureTable (now (src .entry))))) ⌝ }
 {
     if word_inside(src, 2) == 0 {
-        return Cut::Became(Laid::Nothing);
+        return Tried::Became(Laid::Nothing);
     }
     let g = lay(glyphs, t, 0);
     let mask = g.mask;
     if mask == 0 {
-        return Cut::FewCells;
+        return Tried::FewCells;
     }
     let maps = Maps {
         back: g,
@@ -146,8 +153,8 @@ pub fn ligatures(src: &[u8], glyphs: &[u8], t: &mut [u32], area: &mut [u8], out:
     cut_sets(Sort::Ligatures, src, glyphs, maps, t, mask + 1, area, out)
 }
 
-// The same of a context by glyph, plain or chained, under a glyph map and a lookup map.
-pub fn contexts(
+// The same for contexts by glyph, plain or chained.
+fn cut_contexts(
     chained: bool,
     src: &[u8],
     glyphs: &[u8],
@@ -155,22 +162,22 @@ pub fn contexts(
     t: &mut [u32],
     area: &mut [u8],
     out: &mut [u8],
-) -> Cut
+) -> Tried
     requires { ⌜ (headerFault (enough (now src) (word (now src) 4)) 0 4 (setFaultOf (Rules chained) (now src)) (now src) ≡ none) × (length (now src) ≤ limit) × (ascends (keys (mapEntries (now glyphs))) ≡ true) × (ascends (keys (mapEntries (now lookups))) ≡ true) × (length (now area) ≤ areaMost) ⌝ }
-    ensures { λ r. ⌜ CutAs (length (now (t .entry)) ≤ cellsNeeded (now (glyphs .entry))) (now (out .entry)) (cut (mapEntries (now (glyphs .entry))) (mapEntries (now (lookups .entry))) (glyphContext chained (now (src .entry)))) (length (now (src .entry))) (length (now (area .entry))) r (now (out .exit)) ⌝ }
+    ensures { λ r. ⌜ Tries (length (now (t .entry)) < cellsMost) (length (now (area .entry)) < areaMost) r (now (out .entry)) (now (out .exit)) (written (now (out .entry)) (cut (mapEntries (now (glyphs .entry))) (mapEntries (now (lookups .entry))) (glyphContext chained (now (src .entry))))) ⌝ }
 {
     if word_inside(src, 2) == 0 {
-        return Cut::Became(Laid::Nothing);
+        return Tried::Became(Laid::Nothing);
     }
     let g = lay(glyphs, t, 0);
     let mask = g.mask;
     if mask == 0 {
-        return Cut::FewCells;
+        return Tried::FewCells;
     }
     let l = lay(lookups, t, mask + 1);
     let last = l.mask;
     if last == 0 {
-        return Cut::FewCells;
+        return Tried::FewCells;
     }
     let maps = Maps {
         back: g,
@@ -188,4 +195,41 @@ pub fn contexts(
         area,
         out,
     )
+}
+
+// The lesser of two numbers.
+fn least(a: usize, b: usize) -> usize
+    ensures { λ r. ⌜ Least a b r ⌝ }
+{
+    if a < b {
+        return a;
+    }
+    b
+}
+
+// What is left of a sound table of ligatures under a glyph map, laid into the buffer if it is not over the limit and the buffer is not shorter. `t` and `area` are scratch, whatever they hold.
+// The buffer is untouched where nothing is left, where there is no room, and where the scratch is too short.
+pub fn ligatures(src: &[u8], glyphs: &[u8], t: &mut [u32], area: &mut [u8], out: &mut [u8]) -> Tried
+    requires { ⌜ (headerFault (enough (now src) (word (now src) 4)) 0 4 (setFaultOf Ligatures (now src)) (now src) ≡ none) × (length (now src) ≤ limit) × (ascends (keys (mapEntries (now glyphs))) ≡ true) ⌝ }
+    ensures { λ r. ⌜ Tries (length (now (t .entry)) < cellsMost) (length (now (area .entry)) < areaMost) r (now (out .entry)) (now (out .exit)) (written (now (out .entry)) (cut (mapEntries (now (glyphs .entry))) [] (ligatureTable (now (src .entry))))) ⌝ }
+{
+    let bytes = least(area.len(), AREA);
+    cut_ligatures(src, glyphs, t, &mut area[..bytes], out)
+}
+
+// The same of a context by glyph, plain or chained, under a glyph map and a lookup map.
+pub fn contexts(
+    chained: bool,
+    src: &[u8],
+    glyphs: &[u8],
+    lookups: &[u8],
+    t: &mut [u32],
+    area: &mut [u8],
+    out: &mut [u8],
+) -> Tried
+    requires { ⌜ (headerFault (enough (now src) (word (now src) 4)) 0 4 (setFaultOf (Rules chained) (now src)) (now src) ≡ none) × (length (now src) ≤ limit) × (ascends (keys (mapEntries (now glyphs))) ≡ true) × (ascends (keys (mapEntries (now lookups))) ≡ true) ⌝ }
+    ensures { λ r. ⌜ Tries (length (now (t .entry)) < cellsMost) (length (now (area .entry)) < areaMost) r (now (out .entry)) (now (out .exit)) (written (now (out .entry)) (cut (mapEntries (now (glyphs .entry))) (mapEntries (now (lookups .entry))) (glyphContext chained (now (src .entry))))) ⌝ }
+{
+    let bytes = least(area.len(), AREA);
+    cut_contexts(chained, src, glyphs, lookups, t, &mut area[..bytes], out)
 }

@@ -1,13 +1,16 @@
-use mathlib.Core.Path.{refl}
+use mathlib.Core.Path.{_∙_}
 use Prim.Native.Nat.{_+_, _*_}
 use native.Mathlib.Omega.{arith}
 use borrow.Author.Needs.{needs}
-use Rattle.by_glyph.proofs.Joining.{short-sets, none-kept, may-finish, short-table, table-laid, laid-none}
+use Rattle.by_glyph.proofs.Joining.{answered-short, short-sets, none-kept, may-finish, short-table, table-laid, laid-none}
 use Rattle.by_glyph.proofs.write_table.Statement.{statement}
 use Rattle.by_glyph.proofs.write_table.Tie as tie
 
 returns : tie.Need-returns
-returns c = record { answer = (short-sets (c .before .before .before .before .before .before .before .before .before .before .before .before .pre .0) (c .before .before .before .before .before .write-kept .ensures) (c .if1 .taken), refl) }
+returns c =
+    let a = c .before .before .before .before .before .before .before .before .before .before .before .before .before .before .pre .0 in
+    let w = c .before .before .before .before .before .before .before .write-kept .ensures in
+    answered-short (c .no-room .ensures) (w .same) (a .short) (short-sets a w (c .before .before .if1 .taken))
 
 returns-2 : tie.Need-returns-2
 returns-2 c = record { answer = laid-none _ (none-kept (c .before .before .before .before .before .before .before .before .before .before .before .before .before .pre .0) (c .before .before .before .before .before .before .write-kept .ensures) (c .before .if1 .left) (c .if2 .taken)) }
@@ -16,7 +19,11 @@ finish-requires : tie.Need-finish-requires
 finish-requires c κs = may-finish (c .before .before .before .before .before .before .before .before .before .before .before .before .before .before .before .before .pre .0) (c .before .before .before .before .before .before .before .before .before .write-kept .ensures) (c .before .before .before .before .if1 .left) (c .before .before .before .if2 .left) (omega (arith, c .before .before .header-size .ensures .0)) (c .before .before .before .before .before .before .before .before .before .before .before .before .before .before .before .before .pre .1)
 
 returns-3 : tie.Need-returns-3
-returns-3 c = record { answer = (short-table (c .before .before .before .before .before .before .before .before .before .before .before .before .before .before .before .before .before .before .before .before .pre .0) (c .before .before .before .before .before .before .before .before .before .before .before .before .before .write-kept .ensures) (c .before .before .before .before .before .before .before .before .if1 .left) (c .before .before .before .before .before .before .before .if2 .left) (omega (arith, c .before .before .before .before .before .before .header-size .ensures .0)) (c .before .before .before .finish .ensures) (c .if3 .taken), refl) }
+returns-3 c =
+    let a = c .before .before .before .before .before .before .before .before .before .before .before .before .before .before .before .before .before .before .before .before .before .before .pre .0 in
+    let w = c .before .before .before .before .before .before .before .before .before .before .before .before .before .before .before .write-kept .ensures in
+    let f = c .before .before .before .before .before .finish .ensures in
+    answered-short (c .no-room2 .ensures) (f .same ∙ w .same) (a .short) (short-table a w (c .before .before .before .before .before .before .before .before .before .before .if1 .left) (c .before .before .before .before .before .before .before .before .before .if2 .left) (omega (arith, c .before .before .before .before .before .before .before .before .header-size .ensures .0)) f (c .before .before .if3 .taken))
 
 mul-hand-over : tie.Need-mul-hand-over
 mul-hand-over c =
@@ -42,6 +49,7 @@ write-table-spec =
     tie.close
     (tie.spec
     (λ c κs. search needs)
+    (λ c κs. search needs)
     (λ c. search needs)
     (λ c. search needs)
     returns
@@ -52,6 +60,7 @@ write-table-spec =
     (λ c. search needs)
     (λ c. search needs)
     finish-requires
+    (λ c κs. search needs)
     (λ c. search needs)
     (λ c. search needs)
     returns-3
