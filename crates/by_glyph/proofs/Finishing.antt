@@ -1,6 +1,7 @@
 -- The gap is taken out of the offsets, and the coverage and the header are written: then the table stands in two parts.
 use Prim.Native.Nat.{ℕ, _+_, _-_, _*_, _≤_}
 use mathlib.Core.Path.{_≡_, sym, ap, ap₂, _∙_}
+use mathlib.Core.Bool.{Bool}
 use mathlib.Core.Option.{Option, some}
 use mathlib.Core.List.{List, [], _∷_, _++_, append-assoc, append-nil}
 use native.Mathlib.Omega.{arith}
@@ -10,22 +11,37 @@ use Rattle.meaning.specs.Words.{words, flat}
 use Rattle.meaning.specs.Layout.{offsets, blocks, coverageWords, setsLayout}
 use Rattle.laws.specs.Stands.{flat-length, flat-append}
 use Rattle.laws.specs.Through.{offsets-length}
-use Rattle.laws.specs.Written.{Wrote, wrote-length}
+use Rattle.laws.specs.Written.{Wrote, wrote-none, wrote-two, wrote-three, wrote-length}
 use Rattle.area.specs.Extends.{Extends, Tried, extends-keeps, wrote-extends}
 use Rattle.area.specs.Part.{part, part-append, news}
 use Rattle.area.specs.Closed.{members, lessened, lessBy, offsets-less, offsets-most}
 use Rattle.area.proofs.Moved.{part-behind, less-flat}
 use Rattle.numbers.proofs.Fronts.{part-keeps, extends-part}
+use Rattle.pair_sets.specs.declared.Formats.{Formats}
 use Rattle.kept_sets.specs.Sorts.{moreOf, headerSize}
 use Rattle.kept_sets.specs.Kept.{Placed}
 use Rattle.kept_sets.specs.declared.Sort.{Sort}
-use Rattle.kept_sets.specs.declared.Sort.the-variants.{Rules, Ligatures}
+use Rattle.kept_sets.specs.declared.Sort.the-variants.{Rules, Ligatures, Pairs}
 use Rattle.by_glyph.specs.Table.{layoutOf, Finishes, Finished}
 
--- the header of a sort that has no further words
-pub header-wrote : (sort : Sort) (cover k : ℕ) {a b : List ℕ} {r : ℕ} → (r ≡ 0 + 6) × (b ≡ sets a 0 (flat (1 ∷ cover ∷ k ∷ []))) → Wrote a 0 (1 ∷ cover ∷ (moreOf sort ++ (k ∷ []))) b r
-header-wrote (Rules chained) cover k e = record { place = omega (arith, e .0); bytes = e .1 }
-header-wrote Ligatures cover k e = record { place = omega (arith, e .0); bytes = e .1 }
+-- the header of a sort that has no further words, and that of pairs
+module _ (sort : Sort) (cover k : ℕ) {a b : List ℕ} {r : ℕ} where
+  header-plain : moreOf sort ≡ [] → (r ≡ 0 + 6) × (b ≡ sets a 0 (flat (1 ∷ cover ∷ k ∷ []))) → Wrote a 0 (1 ∷ cover ∷ (moreOf sort ++ (k ∷ []))) b r
+  header-plain n e = rw n (wrote-three 1 cover k wrote-none e)
+
+  pub header-rules : {chained : Bool} → sort ≡ Rules chained → (r ≡ 0 + 6) × (b ≡ sets a 0 (flat (1 ∷ cover ∷ k ∷ []))) → Wrote a 0 (1 ∷ cover ∷ (moreOf sort ++ (k ∷ []))) b r
+  header-rules n e = header-plain (ap moreOf n) e
+
+  pub header-ligatures : sort ≡ Ligatures → (r ≡ 0 + 6) × (b ≡ sets a 0 (flat (1 ∷ cover ∷ k ∷ []))) → Wrote a 0 (1 ∷ cover ∷ (moreOf sort ++ (k ∷ []))) b r
+  header-ligatures n e = header-plain (ap moreOf n) e
+
+  pub header-pairs : {f : Formats} {c : List ℕ} {p : ℕ} → sort ≡ Pairs f → (p ≡ 0 + 6) × (c ≡ sets a 0 (flat (1 ∷ cover ∷ f .n1 ∷ []))) → (r ≡ p + 4) × (b ≡ sets c p (flat (f .n2 ∷ k ∷ [])))
+      → Wrote a 0 (1 ∷ cover ∷ (moreOf sort ++ (k ∷ []))) b r
+  header-pairs {f} n d e = rw n (wrote-two (f .n2) k (wrote-three 1 cover (f .n1) wrote-none d) e)
+
+-- ten bytes before the offsets of pairs
+pub pairs-ten : {sort : Sort} {f : Formats} {n : ℕ} → sort ≡ Pairs f → headerSize sort ≤ n → 10 ≤ n
+pairs-ten e h = rw e at h
 
 -- the words of a table by sets with a coverage, in order
 table-is : (more cov : List ℕ) (bs : List (Option (List ℕ))) {q k f : ℕ} → k ≡ length bs → f ≡ 6 + 2 * length more + 2 * k → q ≡ f + 2 * length (blocks bs)

@@ -53,7 +53,7 @@ module _ {A : Type 0} (read : ℕ → A) (cutOne : A → Option A) (F : A → Li
       step (some x) r = one-is i x _ _ r
 
 -- glyphs and words of kept sets
-glyphs-as : {A : Type 0} (F : A → List ℕ) (ks : List (ℕ × A)) → glyphsOf (asWords F ks) ≡ glyphsOf ks
+pub glyphs-as : {A : Type 0} (F : A → List ℕ) (ks : List (ℕ × A)) → glyphsOf (asWords F ks) ≡ glyphsOf ks
 unfolding glyphsOf
 glyphs-as F [] = refl
 glyphs-as F (k ∷ ks) = ap (λ (l : List ℕ). k .0 ∷ l) (glyphs-as F ks)

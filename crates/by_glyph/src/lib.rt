@@ -2,12 +2,16 @@
 use area::hand_over;
 use area::lessen;
 use area::put_three;
+use area::put_two;
 use area::write_cover;
+use fold::Map;
 use fold::lay;
 use kept_sets::Sort;
 use kept_sets::header_size;
 use kept_sets::write_kept;
 use meet::meet;
+use pair_formats::new_formats;
+use pair_sets::kept_places;
 use room::Laid;
 use rule_sets::Maps;
 use tried::Tried;
@@ -22,18 +26,26 @@ ghost use Rattle.meaning.specs.Words.{word, ascends, keys};
 ghost use Rattle.meaning.specs.Maps.{mapEntries};
 ghost use Rattle.meaning.specs.Fault.{headerFault, enough};
 ghost use Rattle.meaning.specs.Cut.{cut};
+ghost use Rattle.meaning.specs.Layout.{block, tableWords};
 ghost use Rattle.meaning.specs.Subset.{limit, written};
 ghost use Rattle.laws.specs.Written.{Wrote};
-ghost use Rattle.kept_sets.specs.Sorts.{moreOf, headerSize, setFaultOf};
+ghost use Rattle.kept_sets.specs.Sorts.{moreOf, headerSize, setFaultOf, Told};
 ghost use Rattle.kept_sets.specs.Kept.{Ready, keptIn};
 ghost use Rattle.kept_sets.specs.declared.Sort.the-variants.{Rules, Ligatures};
 ghost use Rattle.tried.specs.Tries.{Tries};
 ghost use Rattle.by_glyph.specs.Table.{areaMost, Finishes, Finished, tableOf};
 ghost use Rattle.by_glyph.specs.Asked.{SoundSets, MapsLaid, keptFrom};
+ghost use Rattle.by_glyph.specs.PairTables.{pairsOf, oneMap, pairFault, pairTable, AnsweredPairs};
 ghost use Rattle.by_glyph.specs.Whole.{cellsMost, NoRoom, Answered, Least, glyphContext, ligatureTable};
 
 // The bytes of an area that are enough for any source: four times the limit. No more are used.
 const AREA: usize = 262144;
+
+// Where the notes of the retained covered glyphs stand in the cells, and how many there are.
+struct Notes {
+    at: usize,
+    count: usize,
+}
 
 // The words before the offsets of the sets; the place after them.
 fn write_header(sort: Sort, area: &mut [u8], cover: usize, k: usize) -> usize
@@ -43,6 +55,10 @@ fn write_header(sort: Sort, area: &mut [u8], cover: usize, k: usize) -> usize
     match sort {
         Sort::Rules(_) => put_three(area, 0, 1, cover, k),
         Sort::Ligatures => put_three(area, 0, 1, cover, k),
+        Sort::Pairs(f) => {
+            let p = put_three(area, 0, 1, cover, f.n1);
+            put_two(area, p, f.n2, k)
+        }
     }
 }
 
@@ -77,21 +93,22 @@ fn no_room(area: &[u8]) -> Tried
     Tried::Became(Laid::TooBig)
 }
 
-// What is left of a table, of whose retained covered glyphs there are `m` notes from `notes` on, laid into the buffer if it is not over the limit and the buffer is not shorter.
+// What is left of a table, whose retained covered glyphs are noted, laid into the buffer if it is not over the limit and the buffer is not shorter. `places` says where the fields that stay stand in a pair record.
 fn write_table(
     sort: Sort,
     src: &[u8],
+    places: &[u8],
     t: &mut [u32],
-    notes: usize,
-    m: usize,
+    notes: Notes,
     maps: Maps,
     area: &mut [u8],
     out: &mut [u8],
 ) -> Tried
-    requires { ⌜ Ready sort (now src) (now t) maps notes m × (length (now area) ≤ areaMost) ⌝ }
-    ensures { λ r. ⌜ Answered ⊥ (now (out .entry)) (tableOf sort (keptIn sort (now (src .entry)) (now (t .entry)) maps notes m)) (length (now (area .entry))) r (now (out .exit)) ⌝ }
+    requires { ⌜ Ready sort (now src) (now t) maps (notes .at) (notes .count) × (length (now area) ≤ areaMost) × Told sort (now places) ⌝ }
+    ensures { λ r. ⌜ Answered ⊥ (now (out .entry)) (tableOf sort (keptIn sort (now (src .entry)) (now (t .entry)) maps (notes .at) (notes .count))) (length (now (area .entry))) r (now (out .exit)) ⌝ }
 {
-    let sets = write_kept(sort, src, t, notes, m, maps, area);
+    let m = notes.count;
+    let sets = write_kept(sort, src, places, t, notes.at, m, maps, area);
     let p = sets.end;
     let k = sets.count;
     if area.len() < p {
@@ -102,14 +119,14 @@ fn write_table(
     }
     let slots = header_size(sort);
     let first = slots + 2 * m;
-    let end = finish(sort, t, notes, k, first, p, area);
+    let end = finish(sort, t, notes.at, k, first, p, area);
     if area.len() < end {
         return no_room(area);
     }
     Tried::Became(hand_over(area, slots + 2 * k, first, end, out))
 }
 
-// The same from the glyph map on, whose cells and those of the lookup map stand before `notes`.
+// The same from the glyph map on, whose cells and those of the lookup map stand before `notes`, for sets that have no value formats.
 fn cut_sets(
     sort: Sort,
     src: &[u8],
@@ -120,7 +137,7 @@ fn cut_sets(
     area: &mut [u8],
     out: &mut [u8],
 ) -> Tried
-    requires { ⌜ SoundSets sort (now src) × MapsLaid (now glyphs) (now t) maps notes × (length (now area) ≤ areaMost) × (word (now src) 2 ≡ 0 → ⊥) ⌝ }
+    requires { ⌜ SoundSets sort (now src) × MapsLaid (now glyphs) (now t) maps notes × (length (now area) ≤ areaMost) × (word (now src) 2 ≡ 0 → ⊥) × Told sort [] ⌝ }
     ensures { λ r. ⌜ Answered (length (now (t .entry)) ≤ notes + length (now (glyphs .entry)) / 4) (now (out .entry)) (tableOf sort (keptFrom sort (now (src .entry)) (now (glyphs .entry)) (now (t .entry)) maps)) (length (now (area .entry))) r (now (out .exit)) ⌝ }
 {
     if t.len() < notes + glyphs.len() / 4 + 1 {
@@ -128,7 +145,11 @@ fn cut_sets(
     }
     let cover = word_inside(src, 2);
     let m = meet(src, cover, glyphs, maps.input, t, notes);
-    write_table(sort, src, t, notes, m, maps, area, out)
+    let found = Notes {
+        at: notes,
+        count: m,
+    };
+    write_table(sort, src, &src[..0], t, found, maps, area, out)
 }
 
 // The same from the source and the map's list on, for ligatures.
@@ -197,6 +218,71 @@ fn cut_contexts(
     )
 }
 
+// What is left of a table of pairs, whose retained covered glyphs are noted: its new value formats, and then the table with the fields that stay.
+fn write_pair_table(
+    src: &[u8],
+    g: Map,
+    t: &mut [u32],
+    notes: Notes,
+    area: &mut [u8],
+    out: &mut [u8],
+) -> Tried
+    requires { ⌜ Ready (pairsOf (now src)) (now src) (now t) (oneMap g) (notes .at) (notes .count) × (length (now area) ≤ areaMost) ⌝ }
+    ensures { λ r. ⌜ AnsweredPairs (now (src .entry)) (now (t .entry)) g (notes .at) (notes .count) (now (out .entry)) (length (now (area .entry))) r (now (out .exit)) ⌝ }
+{
+    let f = new_formats(src, t, notes.at, notes.count, g);
+    let mut places = [0u8; 8];
+    let k = kept_places(f.f1, f.f2, f.n1, f.n2, &mut places);
+    let maps = Maps {
+        back: g,
+        input: g,
+        ahead: g,
+        lookups: g,
+    };
+    write_table(Sort::Pairs(f), src, &places[..k], t, notes, maps, area, out)
+}
+
+// The same from the glyph map on, whose cells stand before `notes`.
+fn cut_pair_sets(
+    src: &[u8],
+    glyphs: &[u8],
+    g: Map,
+    t: &mut [u32],
+    notes: usize,
+    area: &mut [u8],
+    out: &mut [u8],
+) -> Tried
+    requires { ⌜ SoundSets (pairsOf (now src)) (now src) × MapsLaid (now glyphs) (now t) (oneMap g) notes × (length (now area) ≤ areaMost) × (word (now src) 2 ≡ 0 → ⊥) ⌝ }
+    ensures { λ r. ⌜ Answered (length (now (t .entry)) ≤ notes + length (now (glyphs .entry)) / 4) (now (out .entry)) (block tableWords (cut (mapEntries (now (glyphs .entry))) [] (pairTable (now (src .entry))))) (length (now (area .entry))) r (now (out .exit)) ⌝ }
+{
+    if t.len() < notes + glyphs.len() / 4 + 1 {
+        return Tried::FewCells;
+    }
+    let cover = word_inside(src, 2);
+    let m = meet(src, cover, glyphs, g, t, notes);
+    let found = Notes {
+        at: notes,
+        count: m,
+    };
+    write_pair_table(src, g, t, found, area, out)
+}
+
+// The same from the source and the map's list on.
+fn cut_pairs(src: &[u8], glyphs: &[u8], t: &mut [u32], area: &mut [u8], out: &mut [u8]) -> Tried
+    requires { ⌜ (pairFault (now src) ≡ none) × (length (now src) ≤ limit) × (ascends (keys (mapEntries (now glyphs))) ≡ true) × (length (now area) ≤ areaMost) ⌝ }
+    ensures { λ r. ⌜ Tries (length (now (t .entry)) < cellsMost) (length (now (area .entry)) < areaMost) r (now (out .entry)) (now (out .exit)) (written (now (out .entry)) (cut (mapEntries (now (glyphs .entry))) [] (pairTable (now (src .entry))))) ⌝ }
+{
+    if word_inside(src, 2) == 0 {
+        return Tried::Became(Laid::Nothing);
+    }
+    let g = lay(glyphs, t, 0);
+    let mask = g.mask;
+    if mask == 0 {
+        return Tried::FewCells;
+    }
+    cut_pair_sets(src, glyphs, g, t, mask + 1, area, out)
+}
+
 // The lesser of two numbers.
 fn least(a: usize, b: usize) -> usize
     ensures { λ r. ⌜ Least a b r ⌝ }
@@ -232,4 +318,13 @@ pub fn contexts(
 {
     let bytes = least(area.len(), AREA);
     cut_contexts(chained, src, glyphs, lookups, t, &mut area[..bytes], out)
+}
+
+// The same of a sound table of pairs by glyph, under a glyph map.
+pub fn pairs(src: &[u8], glyphs: &[u8], t: &mut [u32], area: &mut [u8], out: &mut [u8]) -> Tried
+    requires { ⌜ (pairFault (now src) ≡ none) × (length (now src) ≤ limit) × (ascends (keys (mapEntries (now glyphs))) ≡ true) ⌝ }
+    ensures { λ r. ⌜ Tries (length (now (t .entry)) < cellsMost) (length (now (area .entry)) < areaMost) r (now (out .entry)) (now (out .exit)) (written (now (out .entry)) (cut (mapEntries (now (glyphs .entry))) [] (pairTable (now (src .entry))))) ⌝ }
+{
+    let bytes = least(area.len(), AREA);
+    cut_pairs(src, glyphs, t, &mut area[..bytes], out)
 }

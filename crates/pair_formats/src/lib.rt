@@ -29,15 +29,7 @@ fn set_uses(src: &[u8], at: usize, size: usize, place: usize, t: &[u32], glyphs:
 }
 
 // The same of the sets that the `n` notes from `at` on name by their coverage index. At the place 0 there is no field.
-fn uses(
-    src: &[u8],
-    size: usize,
-    place: usize,
-    t: &[u32],
-    at: usize,
-    n: usize,
-    glyphs: Map,
-) -> bool
+fn uses(src: &[u8], size: usize, place: usize, t: &[u32], at: usize, n: usize, glyphs: Map) -> bool
     requires { ⌜ NamesSets (now src) (now t) at n size × (place + 2 ≤ size) × Inside (now t) glyphs ⌝ }
     ensures { λ r. ⌜ r ≡ usedIn (entriesIn (now (t .entry)) glyphs) (now (src .entry)) size place (notes (now (t .entry)) at n) ⌝ }
 {

@@ -1,11 +1,11 @@
 use mathlib.Core.Path.{refl, sym, _∙_}
 use native.Mathlib.Omega.{arith}
 use borrow.Author.Needs.{needs}
-use Rattle.kept_sets.specs.declared.Sort.the-variants.{Rules}
 use Rattle.by_glyph.specs.Asked.{rules-null, rules-cut}
+use Rattle.by_glyph.specs.PairTables.{told-rules}
 use Rattle.by_glyph.specs.Whole.{answered-as}
 use Rattle.by_glyph.proofs.Joining.{written-none}
-use Rattle.by_glyph.proofs.Asking.{header-inside, header-sound, few-entries, no-room, glyphs-stand, two-laid}
+use Rattle.by_glyph.proofs.Asking.{header-inside, rules-asked, few-entries, no-room, glyphs-stand, two-laid}
 use Rattle.by_glyph.proofs.cut_contexts.Statement.{statement}
 use Rattle.by_glyph.proofs.cut_contexts.Tie as tie
 
@@ -39,7 +39,7 @@ add-cut-sets-2 c = omega (arith, c .before .before .before .before .before .befo
 cut-sets-requires : tie.Need-cut-sets-requires
 cut-sets-requires c κs =
     let a = c .before .before .before .before .before .before .before .before .before .before .before .before .before .before .before .before .before .before .before .before .before in
-    (header-sound (Rules (a .args .chained)) _ (a .pre .0) (a .pre .1), two-laid (c .before .before .before .before .before .before .before .before .before .before .before .lay .ensures) (c .before .before .before .before .before .before .before .before .if2 .left) (a .pre .2) (c .before .before .before .before .before .before .lay2 .ensures) (c .before .before .before .if3 .left) (a .pre .3), a .pre .4, λ z. c .before .before .before .before .before .before .before .before .before .before .before .before .before .if1 .left (c .before .before .before .before .before .before .before .before .before .before .before .before .before .before .word-inside .ensures .0 ∙ z))
+    (rules-asked _ (a .pre .1) (a .args .chained) (a .pre .0), two-laid (c .before .before .before .before .before .before .before .before .before .before .before .lay .ensures) (c .before .before .before .before .before .before .before .before .if2 .left) (a .pre .2) (c .before .before .before .before .before .before .lay2 .ensures) (c .before .before .before .if3 .left) (a .pre .3), a .pre .4, λ z. c .before .before .before .before .before .before .before .before .before .before .before .before .before .if1 .left (c .before .before .before .before .before .before .before .before .before .before .before .before .before .before .word-inside .ensures .0 ∙ z), told-rules _)
 
 returns-4 : tie.Need-returns-4
 returns-4 c =
@@ -47,7 +47,7 @@ returns-4 c =
     let l = c .before .before .before .before .before .before .before .before .before .before .before .before .before .before .before .before .before .before .lay .ensures in
     let n = c .before .before .before .before .before .before .before .before .before .before .before .before .before .lay2 .ensures in
     let g = glyphs-stand l (c .before .before .before .before .before .before .before .before .before .before .before .before .before .before .before .if2 .left) (a .pre .2) n in
-    answered-as (λ h. omega (arith, h, few-entries (a .args .glyphs .now) (a .pre .2) (λ i. omega (arith, c .before .before .before .before .before .before .before .before .before .before .before .before .before .before .before .before .before .before .before .before .before .before .before .before .before .before .shared-slice-known2 .given i)), l .kept .size, n .kept .size, l .few (a .pre .2), n .few (a .pre .3))) _ (rules-cut _ _ _ g _ g g (n .holds (c .before .before .before .before .before .before .before .before .before .before .if3 .left)) (a .args .chained) (λ z. c .before .before .before .before .before .before .before .before .before .before .before .before .before .before .before .before .before .before .before .before .if1 .left (c .before .before .before .before .before .before .before .before .before .before .before .before .before .before .before .before .before .before .before .before .before .word-inside .ensures .0 ∙ z)) (header-sound (Rules (a .args .chained)) _ (a .pre .0) (a .pre .1))) (c .before .before .before .before .before .before .cut-sets .ensures)
+    answered-as (λ h. omega (arith, h, few-entries (a .args .glyphs .now) (a .pre .2) (λ i. omega (arith, c .before .before .before .before .before .before .before .before .before .before .before .before .before .before .before .before .before .before .before .before .before .before .before .before .before .before .shared-slice-known2 .given i)), l .kept .size, n .kept .size, l .few (a .pre .2), n .few (a .pre .3))) _ (rules-cut _ _ _ g _ g g (n .holds (c .before .before .before .before .before .before .before .before .before .before .if3 .left)) (a .args .chained) (λ z. c .before .before .before .before .before .before .before .before .before .before .before .before .before .before .before .before .before .before .before .before .if1 .left (c .before .before .before .before .before .before .before .before .before .before .before .before .before .before .before .before .before .before .before .before .before .word-inside .ensures .0 ∙ z)) (rules-asked _ (a .pre .1) (a .args .chained) (a .pre .0))) (c .before .before .before .before .before .before .cut-sets .ensures)
 
 pub cut-contexts-spec : {M : Type 1} → statement M
 cut-contexts-spec =
