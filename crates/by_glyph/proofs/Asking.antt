@@ -3,7 +3,7 @@ use Prim.Native.Nat.{ℕ, zero, suc, _+_, _-_, _*_, _/_, _%_, _≤_, _<_}
 use mathlib.Core.Path.{_≡_, refl, sym, ap, ap₂, _∙_}
 use mathlib.Core.Bool.{Bool, true, cond, _&&_}
 use mathlib.Core.Option.{Option, none, some}
-use mathlib.Core.List.{List, [], _∷_, _++_, map}
+use mathlib.Core.List.{List, [], _∷_, _++_}
 use native.Mathlib.Decide.{decLt}
 use native.Mathlib.Nat.{zero-add}
 use native.Mathlib.Omega.{arith}
@@ -20,11 +20,9 @@ use Rattle.laws.specs.Stands.{All}
 use Rattle.laws.specs.Runs.{both}
 use Rattle.laws.specs.SoundGood.{part-sound, lowest-none, header-good}
 use Rattle.numbers.specs.Alike.{Alike, holds-alike}
-use Rattle.numbers.specs.Entries.{entriesIn}
 use Rattle.pair_sets.specs.Formats.{pairSize, placesOf}
 use Rattle.pair_sets.specs.Puts.{Puts}
 use Rattle.pair_sets.specs.declared.Formats.{Formats}
-use Rattle.pair_formats.specs.Used.{NamesSets}
 use Rattle.pair_formats.specs.New.{formatIn, AsksFormats, NewFormats, format-alike}
 use Rattle.tried.specs.declared.Tried.{Tried}
 use Rattle.member_sets.specs.Sound.{inside-is, through-sound}
@@ -41,9 +39,9 @@ use Rattle.kept_sets.specs.Sorts.{headerSize, setFaultOf, leftIn, Told, pairs-s
 use Rattle.kept_sets.specs.Kept.{setAt, keptOf, Ready, keptIn}
 use Rattle.kept_sets.specs.declared.Sort.{Sort}
 use Rattle.kept_sets.specs.declared.Sort.the-variants.{Rules, Ligatures, Pairs}
-use Rattle.by_glyph.specs.Table.{tableOf}
+use Rattle.kept_table.specs.Table.{tableOf}
 use Rattle.by_glyph.specs.Asked.{SoundSets, MapsLaid, keptFrom}
-use Rattle.by_glyph.specs.Whole.{Answered, answered-said}
+use Rattle.kept_table.specs.Answers.{Answered, answered-said}
 use Rattle.by_glyph.specs.PairTables.{pairTable, pairFault, pairsOf, oneMap, AnsweredPairs, told-pairs, sound-pairs, pairs-cut}
 
 -- notes name glyphs of the coverage

@@ -16,7 +16,7 @@ use Rattle.area.specs.Closed.{members}
 use Rattle.meet.specs.Met.{met}
 use Rattle.kept_sets.specs.Kept.{setAt, keptOf, wordsOf}
 use Rattle.kept_sets.specs.declared.Sort.the-variants.{Rules, Ligatures}
-use Rattle.by_glyph.specs.Table.{tableOf}
+use Rattle.kept_table.specs.Table.{tableOf}
 
 -- a kept set as the words of its layout
 abbrev pub asWords : {A : Type 0} → (A → List ℕ) → List (ℕ × A) → List (ℕ × List ℕ)

@@ -1,11 +1,10 @@
 -- Tables of pairs: what is asked of a source, and what is left of it.
-use Prim.Native.Nat.{ℕ, _+_, _*_, _/_, _≤_}
-use mathlib.Core.Path.{_≡_, refl, sym, ap, ap₂, _∙_}
+use Prim.Native.Nat.{ℕ, _/_}
+use mathlib.Core.Path.{_≡_, refl, sym, ap, _∙_}
 use mathlib.Core.Bool.{Bool, true, false, _&&_, true≢false}
 use mathlib.Core.Option.{Option, none, some}
 use mathlib.Core.List.{List, [], _∷_, map}
 use native.Mathlib.Nat.{zero-add}
-use lib.ListN.{length}
 use lib.Dec.{eqb}
 use borrow.Author.Tests.{ne-eqb, eq-eqb}
 use Rattle.meaning.specs.Words.{word, find, bind}
@@ -13,7 +12,7 @@ use Rattle.meaning.specs.Maps.{mapEntries}
 use Rattle.meaning.specs.Parts.{coverage}
 use Rattle.meaning.specs.Tables.{Table, Pair, fieldCount, reach, reaches, pairSet}
 use Rattle.meaning.specs.Fault.{pairSetFault, enough, headerFault}
-use Rattle.meaning.specs.Cut.{cut, cutPairs, keptSets, glyphsOf, setsOf, newFormat, newSecond, standIn, thinPair, thin, keptPairs}
+use Rattle.meaning.specs.Cut.{cut, cutPairs, keptSets, setsOf, newFormat, newSecond, thinPair, thin, keptPairs}
 use Rattle.meaning.specs.Layout.{block, pairSetWords, tableWords}
 use Rattle.fold.specs.Cells.{Holds}
 use Rattle.fold.specs.declared.Map.{Map}
@@ -25,14 +24,14 @@ use Rattle.rule_sets.specs.declared.Maps.{Maps}
 use Rattle.meet.specs.Met.{met}
 use Rattle.pair_sets.specs.Formats.{pairSize, placesOf, pairs-left}
 use Rattle.pair_sets.specs.declared.Formats.{Formats}
-use Rattle.pair_formats.specs.New.{formatIn, NewFormats, first-format, second-format}
+use Rattle.pair_formats.specs.New.{NewFormats, first-format, second-format}
 use Rattle.kept_sets.specs.Sorts.{setFaultOf, setLeft, leftIn, Told}
 use Rattle.kept_sets.specs.Kept.{wordsOf, Ready, keptIn}
 use Rattle.kept_sets.specs.declared.Sort.{Sort}
 use Rattle.kept_sets.specs.declared.Sort.the-variants.{Rules, Ligatures, Pairs}
 use Rattle.tried.specs.declared.Tried.{Tried}
-use Rattle.by_glyph.specs.Table.{tableOf}
-use Rattle.by_glyph.specs.Whole.{Answered}
+use Rattle.kept_table.specs.Table.{tableOf}
+use Rattle.kept_table.specs.Answers.{Answered}
 use Rattle.by_glyph.specs.KeptIs.{asWords, kept-met, glyphs-as}
 use Rattle.by_glyph.specs.Asked.{SoundSets, keptFrom}
 

@@ -1,14 +1,10 @@
 // Format 1 of each kind, cut in one walk: the retained covered glyphs are noted in cells, what is left of their sets is written into the area, and the table is handed over to the buffer.
-use area::hand_over;
-use area::lessen;
-use area::put_three;
-use area::put_two;
-use area::write_cover;
 use fold::Map;
 use fold::lay;
 use kept_sets::Sort;
-use kept_sets::header_size;
-use kept_sets::write_kept;
+use kept_table::AREA;
+use kept_table::Notes;
+use kept_table::write_table;
 use meet::meet;
 use pair_formats::new_formats;
 use pair_sets::kept_places;
@@ -19,8 +15,8 @@ use wire::word_inside;
 ghost use mathlib.Core.Path.{_≡_};
 ghost use mathlib.Core.Bool.{true};
 ghost use mathlib.Core.Option.{none};
-ghost use mathlib.Core.List.{[], _∷_, _++_};
-ghost use Prim.Native.Nat.{_+_, _*_, _/_, _≤_, _<_};
+ghost use mathlib.Core.List.{[]};
+ghost use Prim.Native.Nat.{_+_, _/_, _≤_, _<_};
 ghost use lib.ListN.{length};
 ghost use Rattle.meaning.specs.Words.{word, ascends, keys};
 ghost use Rattle.meaning.specs.Maps.{mapEntries};
@@ -28,105 +24,17 @@ ghost use Rattle.meaning.specs.Fault.{headerFault, enough};
 ghost use Rattle.meaning.specs.Cut.{cut};
 ghost use Rattle.meaning.specs.Layout.{block, tableWords};
 ghost use Rattle.meaning.specs.Subset.{limit, written};
-ghost use Rattle.laws.specs.Written.{Wrote};
-ghost use Rattle.kept_sets.specs.Sorts.{moreOf, headerSize, setFaultOf, Told};
-ghost use Rattle.kept_sets.specs.Kept.{Ready, keptIn};
+ghost use Rattle.kept_sets.specs.Sorts.{setFaultOf, Told};
+ghost use Rattle.kept_sets.specs.Kept.{Ready};
 ghost use Rattle.kept_sets.specs.declared.Sort.the-variants.{Rules, Ligatures};
 ghost use Rattle.tried.specs.Tries.{Tries};
-ghost use Rattle.by_glyph.specs.Table.{areaMost, Finishes, Finished, tableOf};
+ghost use Rattle.kept_table.specs.Table.{areaMost, tableOf};
+ghost use Rattle.kept_table.specs.Answers.{Answered};
 ghost use Rattle.by_glyph.specs.Asked.{SoundSets, MapsLaid, keptFrom};
 ghost use Rattle.by_glyph.specs.PairTables.{pairsOf, oneMap, pairFault, pairTable, AnsweredPairs};
-ghost use Rattle.by_glyph.specs.Whole.{cellsMost, NoRoom, Answered, Least, glyphContext, ligatureTable};
+ghost use Rattle.by_glyph.specs.Whole.{cellsMost, Least, glyphContext, ligatureTable};
 
-// The bytes of an area that are enough for any source: four times the limit. No more are used.
-const AREA: usize = 262144;
-
-// Where the notes of the retained covered glyphs stand in the cells, and how many there are.
-struct Notes {
-    at: usize,
-    count: usize,
-}
-
-// The words before the offsets of the sets; the place after them.
-fn write_header(sort: Sort, area: &mut [u8], cover: usize, k: usize) -> usize
-    requires { ⌜ headerSize sort ≤ length (now area) ⌝ }
-    ensures { λ r. ⌜ Wrote (now (area .entry)) 0 (1 ∷ cover ∷ (moreOf sort ++ (k ∷ []))) (now (area .exit)) r ⌝ }
-{
-    match sort {
-        Sort::Rules(_) => put_three(area, 0, 1, cover, k),
-        Sort::Ligatures => put_three(area, 0, 1, cover, k),
-        Sort::Pairs(f) => {
-            let p = put_three(area, 0, 1, cover, f.n1);
-            put_two(area, p, f.n2, k)
-        }
-    }
-}
-
-// The table of the `k` kept sets, which stand from `first` up to `p`, with their places written as their offsets: the offsets without the gap before `first`, the coverage behind the sets, and the header; the place after it.
-fn finish(
-    sort: Sort,
-    t: &[u32],
-    notes: usize,
-    k: usize,
-    first: usize,
-    p: usize,
-    area: &mut [u8],
-) -> usize
-    requires { ⌜ Finishes sort (now t) notes k first p (now area) ⌝ }
-    ensures { λ r. ⌜ Finished sort (now (t .entry)) notes k first p (now (area .entry)) (now (area .exit)) r ⌝ }
-{
-    let slots = header_size(sort);
-    let gap = first - (slots + 2 * k);
-    lessen(area, slots, k, gap);
-    let end = write_cover(t, notes, k, area, p);
-    write_header(sort, area, p - gap, k);
-    end
-}
-
-// There is no room in the area: it is too short; or it has what is enough for any source, and then the layout is over the limit.
-fn no_room(area: &[u8]) -> Tried
-    ensures { λ r. ⌜ NoRoom (length (now (area .entry))) r ⌝ }
-{
-    if area.len() < AREA {
-        return Tried::Short;
-    }
-    Tried::Became(Laid::TooBig)
-}
-
-// What is left of a table, whose retained covered glyphs are noted, laid into the buffer if it is not over the limit and the buffer is not shorter. `places` says where the fields that stay stand in a pair record.
-fn write_table(
-    sort: Sort,
-    src: &[u8],
-    places: &[u8],
-    t: &mut [u32],
-    notes: Notes,
-    maps: Maps,
-    area: &mut [u8],
-    out: &mut [u8],
-) -> Tried
-    requires { ⌜ Ready sort (now src) (now t) maps (notes .at) (notes .count) × (length (now area) ≤ areaMost) × Told sort (now places) ⌝ }
-    ensures { λ r. ⌜ Answered ⊥ (now (out .entry)) (tableOf sort (keptIn sort (now (src .entry)) (now (t .entry)) maps (notes .at) (notes .count))) (length (now (area .entry))) r (now (out .exit)) ⌝ }
-{
-    let m = notes.count;
-    let sets = write_kept(sort, src, places, t, notes.at, m, maps, area);
-    let p = sets.end;
-    let k = sets.count;
-    if area.len() < p {
-        return no_room(area);
-    }
-    if k == 0 {
-        return Tried::Became(Laid::Nothing);
-    }
-    let slots = header_size(sort);
-    let first = slots + 2 * m;
-    let end = finish(sort, t, notes.at, k, first, p, area);
-    if area.len() < end {
-        return no_room(area);
-    }
-    Tried::Became(hand_over(area, slots + 2 * k, first, end, out))
-}
-
-// The same from the glyph map on, whose cells and those of the lookup map stand before `notes`, for sets that have no value formats.
+// What is left of a table under a glyph map, whose cells and those of the lookup map stand before `notes`, for sets that have no value formats: the retained covered glyphs are noted, and the table is written.
 fn cut_sets(
     sort: Sort,
     src: &[u8],

@@ -1,12 +1,11 @@
 -- The new value formats, by the fields that the sets use that notes name.
 use Prim.Native.Nat.{ℕ, _+_, _*_, _≤_}
-use mathlib.Core.Path.{_≡_, refl, sym, ap, _∙_}
-use mathlib.Core.List.{List, [], _∷_}
-use native.Mathlib.Omega.{arith}
+use mathlib.Core.Path.{_≡_}
+use mathlib.Core.List.{List}
 use lib.ListN.{length}
 use Rattle.meaning.specs.Words.{word, find}
 use Rattle.meaning.specs.Tables.{Pair, fieldCount, reaches, pairSet}
-use Rattle.meaning.specs.Cut.{cutPairs, used, keepIf, keptSets, newFormat, standIn, newSecond}
+use Rattle.meaning.specs.Cut.{cutPairs, keepIf, keptSets, newFormat, standIn, newSecond}
 use Rattle.fold.specs.Cells.{Inside}
 use Rattle.fold.specs.declared.Map.{Map}
 use Rattle.numbers.specs.Alike.{Alike}

@@ -1,14 +1,14 @@
 -- The fields that are used: whether some surviving pair of the sets that notes name has a value at a place that is not 0.
 use Prim.Native.Nat.{ℕ, zero, suc, _+_, _*_, _≤_, _<_}
-use mathlib.Core.Path.{_≡_, refl, sym, ap, ap₂, _∙_}
-use mathlib.Core.Bool.{Bool, true, false, cond, _&&_, _||_, not}
+use mathlib.Core.Path.{_≡_, refl, sym, ap, _∙_}
+use mathlib.Core.Bool.{Bool, true, false, cond, _||_}
 use mathlib.Core.Option.{Option, none, some}
 use mathlib.Core.List.{List, [], _∷_}
 use native.Mathlib.Nat.{zero-add}
 use native.Mathlib.Omega.{arith}
 use lib.ListN.{length}
 use lib.Dec.{eqb}
-use Rattle.meaning.specs.Words.{word, find, isSome, bind, push, mapSome}
+use Rattle.meaning.specs.Words.{word, find, bind, push, mapSome}
 use Rattle.meaning.specs.Tables.{Pair, reach, reaches, pairSet}
 use Rattle.meaning.specs.Cut.{unlessEmpty, cutPair, cutPairs, used, keptSets}
 use Rattle.area.specs.Part.{oldAt}

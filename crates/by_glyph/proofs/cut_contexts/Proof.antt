@@ -3,8 +3,8 @@ use native.Mathlib.Omega.{arith}
 use borrow.Author.Needs.{needs}
 use Rattle.by_glyph.specs.Asked.{rules-null, rules-cut}
 use Rattle.by_glyph.specs.PairTables.{told-rules}
-use Rattle.by_glyph.specs.Whole.{answered-as}
-use Rattle.by_glyph.proofs.Joining.{written-none}
+use Rattle.kept_table.specs.Answers.{answered-as}
+use Rattle.by_glyph.specs.Whole.{written-none}
 use Rattle.by_glyph.proofs.Asking.{header-inside, rules-asked, few-entries, no-room, glyphs-stand, two-laid}
 use Rattle.by_glyph.proofs.cut_contexts.Statement.{statement}
 use Rattle.by_glyph.proofs.cut_contexts.Tie as tie

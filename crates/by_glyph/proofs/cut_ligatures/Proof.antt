@@ -3,8 +3,8 @@ use native.Mathlib.Omega.{arith}
 use borrow.Author.Needs.{needs}
 use Rattle.by_glyph.specs.Asked.{ligatures-null, ligatures-cut}
 use Rattle.by_glyph.specs.PairTables.{told-ligatures}
-use Rattle.by_glyph.specs.Whole.{answered-as}
-use Rattle.by_glyph.proofs.Joining.{written-none}
+use Rattle.kept_table.specs.Answers.{answered-as}
+use Rattle.by_glyph.specs.Whole.{written-none}
 use Rattle.by_glyph.proofs.Asking.{header-inside, ligatures-asked, few-entries, no-room, one-laid}
 use Rattle.by_glyph.proofs.cut_ligatures.Statement.{statement}
 use Rattle.by_glyph.proofs.cut_ligatures.Tie as tie

@@ -1,8 +1,8 @@
 use mathlib.Core.Path.{refl, sym, _∙_}
 use native.Mathlib.Omega.{arith}
 use Rattle.by_glyph.specs.PairTables.{pairs-null}
-use Rattle.by_glyph.specs.Whole.{answered-as}
-use Rattle.by_glyph.proofs.Joining.{written-none}
+use Rattle.kept_table.specs.Answers.{answered-as}
+use Rattle.by_glyph.specs.Whole.{written-none}
 use Rattle.by_glyph.proofs.Asking.{header-inside, pairs-asked, few-entries, no-room, one-laid}
 use borrow.Author.Needs.{needs}
 use Rattle.by_glyph.proofs.cut_pairs.Statement.{statement}

@@ -2,8 +2,8 @@ use mathlib.Core.Path.{refl, sym, ap}
 use native.Mathlib.Omega.{arith}
 use lib.ListN.{length}
 use borrow.Author.Needs.{needs}
-use Rattle.by_glyph.specs.Table.{tableOf}
-use Rattle.by_glyph.specs.Whole.{answered-said}
+use Rattle.kept_table.specs.Table.{tableOf}
+use Rattle.kept_table.specs.Answers.{answered-said}
 use Rattle.by_glyph.proofs.Asking.{may-meet, may-write, kept-said, take-none, told-none}
 use Rattle.by_glyph.proofs.cut_sets.Statement.{statement}
 use Rattle.by_glyph.proofs.cut_sets.Tie as tie

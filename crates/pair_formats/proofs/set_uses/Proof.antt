@@ -1,6 +1,5 @@
 use borrow.Author.Tests.{eq-eqb, ne-eqb}
 use Rattle.pair_formats.specs.Used.{setUses}
-use borrow.Author.Needs.{needs}
 use Rattle.pair_formats.proofs.set_uses.Statement.{statement}
 use Rattle.pair_formats.proofs.set_uses.Tie as tie
 

@@ -1,7 +1,7 @@
 use borrow.Author.Needs.{needs}
-use Rattle.by_glyph.proofs.Finishing.{finish-table}
-use Rattle.by_glyph.proofs.finish.Statement.{statement}
-use Rattle.by_glyph.proofs.finish.Tie as tie
+use Rattle.kept_table.proofs.Finishing.{finish-table}
+use Rattle.kept_table.proofs.finish.Statement.{statement}
+use Rattle.kept_table.proofs.finish.Tie as tie
 
 returns : tie.Need-returns
 returns c = finish-table (c .before .before .before .before .before .before .before .before .before .before .before .before .before .before .before .pre) (c .before .before .before .before .before .before .before .before .before .before .before .before .header-size .ensures .0) (c .before .before .before .before .before .before .before .before .before .before .lessen .ensures) (c .before .before .before .before .before .before .write-cover .ensures) (c .before .before .write-header .ensures)

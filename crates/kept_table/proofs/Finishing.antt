@@ -22,7 +22,7 @@ use Rattle.kept_sets.specs.Sorts.{moreOf, headerSize}
 use Rattle.kept_sets.specs.Kept.{Placed}
 use Rattle.kept_sets.specs.declared.Sort.{Sort}
 use Rattle.kept_sets.specs.declared.Sort.the-variants.{Rules, Ligatures, Pairs}
-use Rattle.by_glyph.specs.Table.{layoutOf, Finishes, Finished}
+use Rattle.kept_table.specs.Table.{layoutOf, Finishes, Finished}
 
 -- the header of a sort that has no further words, and that of pairs
 module _ (sort : Sort) (cover k : ℕ) {a b : List ℕ} {r : ℕ} where

@@ -1,8 +1,8 @@
 use native.Mathlib.Omega.{arith}
 use borrow.Author.Needs.{needs}
-use Rattle.by_glyph.proofs.Finishing.{header-rules, header-ligatures, header-pairs, pairs-ten}
-use Rattle.by_glyph.proofs.write_header.Statement.{statement}
-use Rattle.by_glyph.proofs.write_header.Tie as tie
+use Rattle.kept_table.proofs.Finishing.{header-rules, header-ligatures, header-pairs, pairs-ten}
+use Rattle.kept_table.proofs.write_header.Statement.{statement}
+use Rattle.kept_table.proofs.write_header.Tie as tie
 
 put-two-requires : tie.Need-put-two-requires
 put-two-requires c κs =

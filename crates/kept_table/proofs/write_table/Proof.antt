@@ -2,9 +2,9 @@ use mathlib.Core.Path.{_∙_}
 use Prim.Native.Nat.{_+_, _*_}
 use native.Mathlib.Omega.{arith}
 use borrow.Author.Needs.{needs}
-use Rattle.by_glyph.proofs.Joining.{answered-short, short-sets, none-kept, may-finish, short-table, table-laid, laid-none}
-use Rattle.by_glyph.proofs.write_table.Statement.{statement}
-use Rattle.by_glyph.proofs.write_table.Tie as tie
+use Rattle.kept_table.proofs.Joining.{answered-short, short-sets, none-kept, may-finish, short-table, table-laid, laid-none}
+use Rattle.kept_table.proofs.write_table.Statement.{statement}
+use Rattle.kept_table.proofs.write_table.Tie as tie
 
 returns : tie.Need-returns
 returns c =

@@ -8,8 +8,7 @@ use lib.ListN.{length, length-append, length-map}
 use Rattle.meaning.specs.Words.{flat}
 use Rattle.meaning.specs.Cut.{glyphsOf}
 use Rattle.meaning.specs.Layout.{offsets, blocks, coverageWords, setsLayout}
-use Rattle.meaning.specs.Tables.{Table}
-use Rattle.meaning.specs.Subset.{Outcome, refused, limit, laidInto, written}
+use Rattle.meaning.specs.Subset.{Outcome, refused, limit, laidInto}
 use Rattle.tried.specs.declared.Tried.{Tried}
 use Rattle.area.specs.Part.{part, news}
 use Rattle.area.specs.Closed.{members}
@@ -18,8 +17,8 @@ use Rattle.kept_sets.specs.Sorts.{moreOf, headerSize, wordsIn}
 use Rattle.kept_sets.specs.Kept.{wordsOf, Ready, Done, WroteKept, keptIn}
 use Rattle.kept_sets.specs.declared.Sort.{Sort}
 use Rattle.kept_sets.specs.declared.Sets.{Sets}
-use Rattle.by_glyph.specs.Table.{areaMost, layoutOf, tableOf, Finishes, Finished}
-use Rattle.by_glyph.specs.Whole.{laidWords, NoRoom, Answered, words-over}
+use Rattle.kept_table.specs.Table.{areaMost, layoutOf, tableOf, Finishes, Finished}
+use Rattle.kept_table.specs.Answers.{laidWords, NoRoom, Answered, words-over}
 
 -- the sets and the coverage are part of their table
 table-most : (more cov : List ℕ) (bs : List (Option (List ℕ))) → length (blocks bs) + length cov ≤ length (setsLayout 1 (some cov ∷ []) more bs)
@@ -58,10 +57,6 @@ laid-some out ws = refl
 pub laid-none : (out : List ℕ) {o : Option (List ℕ)} → o ≡ none → refused out 8 ≡ laidWords out o
 unfolding laidWords
 laid-none out e = rw e refl
-
-pub written-none : (out : List ℕ) {o : Option Table} → o ≡ none → refused out 8 ≡ written out o
-unfolding written
-written-none out e = rw e refl
 
 -- there is no room
 pub answered-short : {a b n : ℕ} {r : Tried} {out : List ℕ} {words : Option (List ℕ)} → NoRoom b r → b ≡ a → n ≤ limit → a < 2 * length (wordsIn words) + 3 * n → Answered (⊥) out words a r out
