@@ -1,26 +1,27 @@
 -- What a source asks and says, by its kind and its format.
 use Prim.Native.Nat.{ℕ, _≤_, _<_}
 use mathlib.Core.Path.{_≡_, refl, sym, ap, _∙_}
-use mathlib.Core.Bool.{Bool, true, false, cond, _&&_, _||_, true≢false}
+use mathlib.Core.Bool.{Bool, true, false, cond, true≢false}
 use mathlib.Core.Option.{Option, none}
 use mathlib.Core.List.{List, []}
 use native.Mathlib.Omega.{arith}
 use lib.ListN.{length}
-use lib.Dec.{leb, eqb}
-use borrow.Author.Tests.{ne-eqb, eq-eqb, le-leb, leb-true}
+use lib.Dec.{eqb}
+use borrow.Author.Tests.{ne-eqb, eq-eqb, le-leb}
 use Rattle.meaning.specs.Words.{word, inside, isSome, keys, ascends}
 use Rattle.meaning.specs.Maps.{mapEntries}
 use Rattle.meaning.specs.Tables.{Table, classContext, coverContext, context, table}
 use Rattle.meaning.specs.Fault.{headerFault, enough, fault}
 use Rattle.meaning.specs.Cut.{cut}
-use Rattle.meaning.specs.Subset.{limit, goodKind, hasDevice, written}
-use Rattle.checks.specs.Parts.{byGlyphFault, byClassFault, ligaturesFault, pairsFault}
-use Rattle.checks.proofs.Laws.{context-1, context-2, context-3, source-short, source-plain, source-chained, source-ligatures, source-pairs}
+use Rattle.meaning.specs.Subset.{limit, written}
+use Rattle.laws.specs.Ascends.{glyphs-ascend, lookups-ascend}
+use Rattle.checks.proofs.Laws.{context-1, context-3, source-short, source-plain, source-chained, source-ligatures, source-pairs}
 use Rattle.kept_sets.specs.Sorts.{setFaultOf}
 use Rattle.kept_sets.specs.declared.Sort.the-variants.{Rules, Ligatures}
 use Rattle.tried.specs.Tries.{Tries, tries-less}
 use Rattle.tried.specs.declared.Tried.{Tried}
-use Rattle.by_glyph.specs.Whole.{glyphContext, ligatureTable, pairTable}
+use Rattle.by_glyph.specs.Whole.{glyphContext, ligatureTable}
+use Rattle.by_glyph.specs.PairTables.{pairFault, pairTable}
 use Rattle.covers.specs.Cutting as covers
 use Rattle.class_contexts.specs.Cutting as classes
 use Rattle.cut.specs.Cutting.{Sound, SoundContext, enoughBytes, classCells, otherCells, byClasses, contextCells, cellsFor}
@@ -58,13 +59,13 @@ module _ (chained : Bool) (s : List ℕ) {format : ℕ} (e : format ≡ word s 0
   module _ {g l : List ℕ} (a : SoundContext chained s g l) where
     pub asks-1 : format ≡ 1 → (headerFault (enough s (word s 4)) 0 4 (setFaultOf (Rules chained) s) s ≡ none) × (length s ≤ limit) × (ascends (keys (mapEntries g)) ≡ true) × (ascends (keys (mapEntries l)) ≡ true)
     unfolding setFaultOf
-    asks-1 f = (sym (context-1 chained s e f) ∙ a .sound, a .source, a .glyphs-ascend, a .lookups-ascend)
+    asks-1 f = (sym (context-1 chained s e f) ∙ a .sound, a .source, glyphs-ascend g (a .glyphs-good), lookups-ascend l (a .lookups-good))
 
     pub asks-2 : format ≡ 2 → classes.Sound chained s g l
-    asks-2 f = record { sound = sym (context-2 chained s e f) ∙ a .sound; source = a .source; glyphs-ascend = a .glyphs-ascend; lookups-ascend = a .lookups-ascend }
+    asks-2 f = record { sound = a .sound; format = sym e ∙ f; source = a .source; glyphs-good = a .glyphs-good; lookups-ascend = lookups-ascend l (a .lookups-good) }
 
     pub asks-3 : (format ≡ 1 → ⊥) → (format ≡ 2 → ⊥) → covers.Sound chained s g l
-    asks-3 f h = record { sound = sym (context-3 chained s e f h) ∙ a .sound; source = a .source; glyphs-ascend = a .glyphs-ascend; lookups-ascend = a .lookups-ascend }
+    asks-3 f h = record { sound = sym (context-3 chained s e f h) ∙ a .sound; source = a .source; glyphs-ascend = glyphs-ascend g (a .glyphs-good); lookups-ascend = lookups-ascend l (a .lookups-good) }
 
   says-1 : format ≡ 1 → glyphContext chained s ≡ context chained s
   unfolding context
@@ -91,23 +92,13 @@ module _ (chained : Bool) (s : List ℕ) {format : ℕ} (e : format ≡ word s 0
     tries-3 f k h = tries-less (n < otherCells) (b < limit) (n < contextCells s) (b < enoughBytes) r out after (written out (cut g l (context chained s))) (other-few s n) (λ x. omega arith) (rw (says-3 f k) at h)
 
 -- a source without a fault has its first two bytes
-pub sound-inside : (kind : ℕ) (s : List ℕ) → fault kind s ≡ none → inside s 0 2 ≡ true
+sound-inside : (kind : ℕ) (s : List ℕ) → fault kind s ≡ none → inside s 0 2 ≡ true
 unfolding isSome
 sound-inside kind s h = step (inside s 0 2) refl
   where
     step : (b : Bool) → inside s 0 2 ≡ b → inside s 0 2 ≡ true
     step true e = e
     step false e = absurd (true≢false (ap isSome (sym (source-short kind s e) ∙ h)))
-
--- a good kind that is none of the first three is the fourth
-fourth : (kind : ℕ) → goodKind kind ≡ true → (kind ≡ 1 → ⊥) → (kind ≡ 2 → ⊥) → (kind ≡ 3 → ⊥) → kind ≡ 4
-unfolding goodKind
-fourth kind g x y z = step (leb 1 kind) (leb kind 4) refl refl g
-  where
-    step : (a b : Bool) → leb 1 kind ≡ a → leb kind 4 ≡ b → a && b ≡ true → kind ≡ 4
-    step true true e f h = omega (arith, leb-true 1 kind e, leb-true kind 4 f)
-    step true false e f h = absurd (true≢false (sym h))
-    step false b e f h = absurd (true≢false (sym h))
 
 -- A source by its kind.
 module _ (kind : ℕ) (s : List ℕ) where
@@ -116,18 +107,17 @@ module _ (kind : ℕ) (s : List ℕ) where
     starts = sound-inside kind s (a .sound)
 
     pub asks-plain : kind ≡ 1 → SoundContext false s g l
-    asks-plain e = record { sound = sym (source-plain kind s starts e) ∙ a .sound; source = a .source; glyphs-ascend = a .glyphs-ascend; lookups-ascend = a .lookups-ascend }
+    asks-plain e = record { sound = sym (source-plain kind s starts e) ∙ a .sound; source = a .source; glyphs-good = a .glyphs-good; lookups-good = a .lookups-good }
 
     pub asks-chained : kind ≡ 2 → SoundContext true s g l
-    asks-chained e = record { sound = sym (source-chained kind s starts e) ∙ a .sound; source = a .source; glyphs-ascend = a .glyphs-ascend; lookups-ascend = a .lookups-ascend }
+    asks-chained e = record { sound = sym (source-chained kind s starts e) ∙ a .sound; source = a .source; glyphs-good = a .glyphs-good; lookups-good = a .lookups-good }
 
     pub asks-ligatures : kind ≡ 3 → (headerFault (enough s (word s 4)) 0 4 (setFaultOf Ligatures s) s ≡ none) × (length s ≤ limit) × (ascends (keys (mapEntries g)) ≡ true)
     unfolding setFaultOf
-    asks-ligatures e = (sym (source-ligatures kind s starts e) ∙ a .sound, a .source, a .glyphs-ascend)
+    asks-ligatures e = (sym (source-ligatures kind s starts e) ∙ a .sound, a .source, glyphs-ascend g (a .glyphs-good))
 
-    pub asks-pairs : (kind ≡ 1 → ⊥) → (kind ≡ 2 → ⊥) → (kind ≡ 3 → ⊥) → (pairsFault s ≡ none) × (hasDevice (word s 4) || hasDevice (word s 6) ≡ false) × (length s ≤ limit) × (ascends (keys (mapEntries g)) ≡ true)
-    asks-pairs x y z =
-        (sym (source-pairs kind s starts x y z) ∙ a .sound, (rw (eq-eqb kind 4 (fourth kind (a .good-kind) x y z)) at (a .device)), a .source, a .glyphs-ascend)
+    pub asks-pairs : (kind ≡ 1 → ⊥) → (kind ≡ 2 → ⊥) → (kind ≡ 3 → ⊥) → (pairFault s ≡ none) × (length s ≤ limit) × (ascends (keys (mapEntries g)) ≡ true)
+    asks-pairs x y z = (sym (source-pairs kind s starts x y z) ∙ a .sound, a .source, glyphs-ascend g (a .glyphs-good))
 
   says-plain : kind ≡ 1 → context false s ≡ table kind s
   unfolding table

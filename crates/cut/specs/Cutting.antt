@@ -1,36 +1,33 @@
 -- What a cut asks and answers, by the kind and the format of its source.
 use Prim.Native.Nat.{ℕ, _≤_, _<_}
 use mathlib.Core.Path.{_≡_}
-use mathlib.Core.Bool.{Bool, true, false, cond, _&&_, _||_}
+use mathlib.Core.Bool.{Bool, true, cond, _&&_}
 use mathlib.Core.Option.{none}
 use mathlib.Core.List.{List}
 use lib.ListN.{length}
 use lib.Dec.{leb, eqb}
-use Rattle.meaning.specs.Words.{word, keys, ascends}
-use Rattle.meaning.specs.Maps.{mapEntries}
+use Rattle.meaning.specs.Words.{word}
+use Rattle.meaning.specs.Maps.{goodGlyphs, goodLookups}
 use Rattle.meaning.specs.Fault.{contextFault, fault}
-use Rattle.meaning.specs.Subset.{Outcome, limit, goodKind, hasFormat, hasDevice}
+use Rattle.meaning.specs.Subset.{Outcome, limit}
 use Rattle.tried.specs.Tries.{Tries}
 use Rattle.tried.specs.declared.Tried.{Tried}
 use Rattle.covers.specs.Cutting as covers
 use Rattle.class_contexts.specs.Cutting as classes
 
--- what a cut asks: the source is of a kind and a format that are known, it has no fault and no device bits and is not over the limit, and the old numbers of both maps ascend
+-- what a cut asks: the source has no fault and is not over the limit, and both maps are good
 pub record Sound (kind : ℕ) (s glyphs lookups : List ℕ) : Type 0 where
-  pub good-kind : goodKind kind ≡ true
-  pub format : hasFormat kind (word s 0) ≡ true
   pub sound : fault kind s ≡ none
-  pub device : eqb kind 4 && (hasDevice (word s 4) || hasDevice (word s 6)) ≡ false
   pub source : length s ≤ limit
-  pub glyphs-ascend : ascends (keys (mapEntries glyphs)) ≡ true
-  pub lookups-ascend : ascends (keys (mapEntries lookups)) ≡ true
+  pub glyphs-good : goodGlyphs glyphs ≡ true
+  pub lookups-good : goodLookups lookups ≡ true
 
 -- the same of a context
 pub record SoundContext (chained : Bool) (s glyphs lookups : List ℕ) : Type 0 where
   pub sound : contextFault chained s ≡ none
   pub source : length s ≤ limit
-  pub glyphs-ascend : ascends (keys (mapEntries glyphs)) ≡ true
-  pub lookups-ascend : ascends (keys (mapEntries lookups)) ≡ true
+  pub glyphs-good : goodGlyphs glyphs ≡ true
+  pub lookups-good : goodLookups lookups ≡ true
 
 -- the bytes of an area that are enough for any source
 abbrev pub enoughBytes : ℕ

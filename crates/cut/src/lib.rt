@@ -218,11 +218,12 @@ fn in_size(
 
 // How many cells the cut is likely to use; no more than a guess, which saves the clearing of scratch.
 fn likely_cells(kind: usize, src: &[u8], glyphs: &[u8], lookups: &[u8]) -> usize {
-    let notes = cells(lookups) + glyphs.len() / 4 + 1;
+    let n = glyphs.len() / 4;
+    let in_maps = cells(lookups) + cells(glyphs) + n + 1;
     if by_classes(kind, src) {
-        return notes + 3 * (glyphs.len() / 4) + 256;
+        return in_maps + 3 * n + 256;
     }
-    notes + cells(glyphs)
+    in_maps
 }
 
 // How many bytes of area it is likely to use: not much more than the source has, and not more than some for each glyph.

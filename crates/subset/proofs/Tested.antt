@@ -6,7 +6,7 @@ use mathlib.Core.Option.{none, some}
 use mathlib.Core.List.{List}
 use lib.ListN.{length}
 use lib.Dec.{ltb, eqb}
-use borrow.Author.Tests.{ltb-false, not-false}
+use borrow.Author.Tests.{ltb-false}
 use Rattle.meaning.specs.Words.{word, inside, isSome}
 use Rattle.meaning.specs.Maps.{mapEntries, goodGlyphs, goodLookups}
 use Rattle.meaning.specs.Tables.{table}
@@ -14,11 +14,9 @@ use Rattle.meaning.specs.Fault.{fault}
 use Rattle.meaning.specs.Records.{recordsWithin}
 use Rattle.meaning.specs.Cut.{cut}
 use Rattle.meaning.specs.Subset.{refused, limit, goodKind, hasFormat, hasDevice, written, subset}
-use Rattle.laws.specs.Ascends.{glyphs-ascend, lookups-ascend}
 use Rattle.laws.specs.CallBack.{subset-is}
 use Rattle.room.specs.Laid.{outcomeOf}
 use Rattle.room.specs.declared.Laid.{Laid}
-use Rattle.cut.proofs.Says.{sound-inside}
 use Rattle.subset.specs.Answers.{answerOf, outcome, same-outcome}
 use Rattle.subset.specs.Refusals.{Passes, Judges}
 use Rattle.subset.specs.declared.Answer.{Answer}
@@ -68,15 +66,11 @@ module _ (kind : ℕ) (s g l : List ℕ) where
         unfolding isSome
         at-past w out = rw (subset-is kind s g l out, t .good-kind, t .good-glyphs, t .good-lookups, t .short, t .format, f, h, w)
 
-        -- the first two bytes stand, and hold a format of the kind
-        known : hasFormat kind (word s 0) ≡ true
-        known = not-false (hasFormat kind (word s 0)) (rw (sound-inside kind s f) at (t .format))
-
         -- none applies
         pub at-end : recordsWithin (table kind s) ≡ true → Passes kind s g l
         unfolding isSome
         at-end w = record {
-          sound = record { good-kind = t .good-kind; format = known; sound = f; device = h; source = ltb-false limit (length s) (t .short); glyphs-ascend = glyphs-ascend g (t .good-glyphs); lookups-ascend = lookups-ascend l (t .good-lookups) };
+          sound = record { sound = f; source = ltb-false limit (length s) (t .short); glyphs-good = t .good-glyphs; lookups-good = t .good-lookups };
           outcomes = λ out. rw (subset-is kind s g l out, t .good-kind, t .good-glyphs, t .good-lookups, t .short, t .format, f, h, w);
         }
 
