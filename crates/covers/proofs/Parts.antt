@@ -12,7 +12,7 @@ use Rattle.meaning.specs.Tables.{reaches, coverContext}
 use Rattle.meaning.specs.Fault.{faultThrough, coverageFault, coversFault}
 use Rattle.laws.specs.Runs.{both}
 use Rattle.laws.specs.SoundGood.{part-sound, lowest-none}
-use Rattle.covers.specs.Rows.{SoundRow}
+use Rattle.cover_rows.specs.Rows.{SoundRow}
 use Rattle.covers.specs.Context.{IsContext}
 
 inside-fits : (s : List ℕ) (at n : ℕ) → inside s at n ≡ true → at + n ≤ length s

@@ -11,11 +11,12 @@ use Rattle.meaning.specs.Parts.{coverage}
 use Rattle.meaning.specs.Tables.{Table, reaches, coverContext}
 use Rattle.meaning.specs.Cut.{cutRecords}
 use Rattle.meaning.specs.Layout.{coversLayout}
-use Rattle.fold.specs.Cells.{Inside, Holds}
+use Rattle.fold.specs.Cells.{Inside}
 use Rattle.fold.specs.declared.Map.{Map}
 use Rattle.area.specs.Extends.{Extends}
-use Rattle.covers.specs.Rows.{rowLeft, SoundRow, Ready}
-use Rattle.covers.specs.declared.Row.{Row}
+use Rattle.numbers.specs.Entries.{entriesIn}
+use Rattle.cover_rows.specs.Rows.{rowLeft, SoundRow, Ready}
+use Rattle.cover_rows.specs.declared.Row.{Row}
 use Rattle.covers.specs.declared.CoverParts.{CoverParts}
 
 -- the coverages that a row of offsets reaches
@@ -71,7 +72,7 @@ pub record Asks (chained : Bool) (s : List ℕ) (r : CoverParts) (glyphs : List 
   pub short : length area ≤ 0x1_0000_0000
   pub cells : length t ≤ 0x1_0000_0000
 
--- whatever lookup map the cells of l hold, the context is written
+-- the context is written, under the lookup map that the cells of l hold
 pub record Writes (chained : Bool) (s : List ℕ) (r : CoverParts) (glyphs : List ℕ) (l : Map) (t before after : List ℕ) (end : ℕ) : Type 0 where
   pub same : length after ≡ length before
-  pub settled : {es : List (ℕ × ℕ)} → Holds t l es → Settles (contextLeft chained (mapEntries glyphs) es s r) before after end
+  pub settled : Settles (contextLeft chained (mapEntries glyphs) (entriesIn t l) s r) before after end

@@ -3,24 +3,22 @@
 use area::hand_over;
 use area::put;
 use area::put_three;
-use area::write_cover;
+use cover_rows::Row;
+use cover_rows::write_counted_row;
+use cover_rows::write_row;
 use fold::Map;
 use fold::lay;
-use meet::meet;
-use records::write_counted_records;
-use records::write_records;
+use numbers::write_counted_records;
+use numbers::write_records;
 use room::LIMIT;
 use room::Laid;
 use tried::Tried;
 use wire::word_at;
-use wire::word_inside;
 ghost use mathlib.Core.Path.{_≡_};
 ghost use mathlib.Core.Option.{none};
 ghost use mathlib.Core.Bool.{true, false};
 ghost use Prim.Native.Nat.{_+_, _-_, _*_, _≤_, _<_};
 ghost use lib.ListN.{length};
-ghost use lib.Seq.{sets};
-ghost use Rattle.meaning.specs.Words.{bytes2};
 ghost use Rattle.meaning.specs.Maps.{mapEntries};
 ghost use Rattle.meaning.specs.Fault.{coversFault};
 ghost use Rattle.covers.specs.Context.{IsContext, Asks, Writes};
@@ -29,16 +27,9 @@ ghost use Rattle.meaning.specs.Tables.{coverContext};
 ghost use Rattle.meaning.specs.Cut.{cut};
 ghost use Rattle.meaning.specs.Subset.{limit, written};
 ghost use Rattle.tried.specs.Tries.{Tries};
-ghost use Rattle.covers.specs.Rows.{WritesSlot, WritesRow, slotLeft, rowLeft, LaysLeft};
 
 // The number of cells that is enough for any source: two maps of 65,536 cells each, and a note for each entry of the glyph map and one more.
 pub const CELLS: usize = 196609;
-
-// Offsets or records in a row: where the first stands, and how many there are.
-pub struct Row {
-    pub at: usize,
-    pub len: usize,
-}
 
 // Where the parts of a context stand: the offsets of its coverages, and its records.
 pub struct CoverParts {
@@ -102,79 +93,6 @@ pub fn cover_parts(chained: bool, src: &[u8]) -> CoverParts
         return chained_parts(src);
     }
     plain_parts(src)
-}
-
-// What is left of the coverage at `cover`: its offset at `slot`, and itself at `p`; the place after it, and 0 if no glyph is retained. Where `p` is past the area nothing is written.
-fn write_slot(
-    src: &[u8],
-    cover: usize,
-    glyphs: &[u8],
-    m: Map,
-    t: &mut [u32],
-    area: &mut [u8],
-    slot: usize,
-    p: usize,
-) -> usize
-    requires { ⌜ WritesSlot (now src) cover (now glyphs) m (now t) (now area) slot p ⌝ }
-    ensures { λ r. ⌜ LaysLeft (slotLeft (mapEntries (now (glyphs .entry))) (now (src .entry)) cover) m (now (t .entry)) (now (t .exit)) (now (area .entry)) slot p (now (area .exit)) r ⌝ }
-{
-    let notes = m.at + m.mask + 1;
-    let k = meet(src, cover, glyphs, m, t, notes);
-    if k == 0 {
-        return 0;
-    }
-    if area.len() < p {
-        return p;
-    }
-    put(area, slot, p);
-    write_cover(t, notes, k, area, p)
-}
-
-// What is left of the coverages that a row reaches: their offsets where the row stands, and themselves from `pos` on; the place after them, and 0 if one of them is null or left with no glyph.
-fn write_row(
-    src: &[u8],
-    row: Row,
-    glyphs: &[u8],
-    m: Map,
-    t: &mut [u32],
-    area: &mut [u8],
-    pos: usize,
-) -> usize
-    requires { ⌜ WritesRow (now src) row (now glyphs) m (now t) (now area) pos ⌝ }
-    ensures { λ r. ⌜ LaysLeft (rowLeft (mapEntries (now (glyphs .entry))) (now (src .entry)) row) m (now (t .entry)) (now (t .exit)) (now (area .entry)) (row .at) pos (now (area .exit)) r ⌝ }
-{
-    let mut p = pos;
-    let mut i = 0;
-    while i < row.len {
-        let slot = row.at + 2 * i;
-        let cover = word_inside(src, slot);
-        if cover == 0 {
-            return 0;
-        }
-        p = write_slot(src, cover, glyphs, m, t, area, slot, p);
-        if p == 0 {
-            return 0;
-        }
-        i += 1;
-    }
-    p
-}
-
-// The count of a row, and what is left of the coverages that the row reaches, as `write_row` says.
-fn write_counted_row(
-    src: &[u8],
-    row: Row,
-    glyphs: &[u8],
-    m: Map,
-    t: &mut [u32],
-    area: &mut [u8],
-    pos: usize,
-) -> usize
-    requires { ⌜ WritesRow (now src) row (now glyphs) m (now t) (now area) pos × (2 ≤ row .at) × (row .at ≤ length (now area)) ⌝ }
-    ensures { λ r. ⌜ LaysLeft (rowLeft (mapEntries (now (glyphs .entry))) (now (src .entry)) row) m (now (t .entry)) (now (t .exit)) (sets (now (area .entry)) (row .at - 2) (bytes2 (row .len))) (row .at) pos (now (area .exit)) r ⌝ }
-{
-    put(area, row.at - 2, row.len);
-    write_row(src, row, glyphs, m, t, area, pos)
 }
 
 // A plain context: format, both counts, the offsets, the records that stay, and what is left of the coverages; the place after it, and 0 if nothing is left.

@@ -16,7 +16,7 @@ use Rattle.meaning.specs.Layout.{offsets, blocks, coverageWords}
 use Rattle.fold.specs.Cells.{Holds, Kept}
 use Rattle.fold.specs.declared.Map.{Map}
 use Rattle.area.specs.Extends.{Extends}
-use Rattle.covers.specs.declared.Row.{Row}
+use Rattle.cover_rows.specs.declared.Row.{Row}
 
 -- the block of a coverage that is not null and keeps a glyph
 unfoldable pub blockLeft : List (ℕ × ℕ) → Option (List ℕ) → Option (Option (List ℕ))
@@ -45,6 +45,11 @@ pub record LaysLeft (left : Option (List (Option (List ℕ)))) (m : Map) (t₀ t
   pub same : length after ≡ length before
   pub gone : left ≡ none → r ≡ 0
   pub stays : {bs : List (Option (List ℕ))} → left ≡ some bs → Lays before slot p bs after r
+
+-- r is the place p if blocks are left, and 0 if none are
+pub record Passes (left : Option (List (Option (List ℕ)))) (p r : ℕ) : Type 0 where
+  pub gone : left ≡ none → r ≡ 0
+  pub stays : {bs : List (Option (List ℕ))} → left ≡ some bs → r ≡ p
 
 -- what the cutting of a coverage asks of the scratch: m holds the glyph map, whose old numbers ascend, and behind its cells there is one cell more than the map has entries
 pub record Ready (glyphs : List ℕ) (m : Map) (t : List ℕ) : Type 0 where

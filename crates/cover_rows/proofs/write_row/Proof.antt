@@ -1,10 +1,10 @@
 use borrow.Author.Needs.{needs}
-use Rattle.covers.proofs.Rows.{Rowing, rowing-all, rowing-null, rowing-asks, rowing-gone, rowing-turn, rowing-end}
+use Rattle.cover_rows.proofs.Rows.{Rowing, rowing-all, rowing-null, rowing-asks, rowing-gone, rowing-turn, rowing-end}
 use Rattle.meaning.specs.Maps.{mapEntries}
 use mathlib.Core.Path.{_∙_}
 use Prim.Native.Nat.{_-_}
-use Rattle.covers.proofs.write_row.Statement.{statement}
-use Rattle.covers.proofs.write_row.Tie as tie
+use Rattle.cover_rows.proofs.write_row.Statement.{statement}
+use Rattle.cover_rows.proofs.write_row.Tie as tie
 
 abbrev Inv-loop : tie.InvT-loop
 Inv-loop src row glyphs m t₀ area₀ pos p₀ i₀ t area p i = Rowing (mapEntries glyphs) src row m t₀ area₀ pos t area p i

@@ -1,7 +1,7 @@
-use Rattle.covers.proofs.Lays.{laid-said}
+use Rattle.cover_rows.proofs.Lays.{laid-said}
 use borrow.Author.Needs.{needs}
-use Rattle.covers.proofs.write_counted_row.Statement.{statement}
-use Rattle.covers.proofs.write_counted_row.Tie as tie
+use Rattle.cover_rows.proofs.write_counted_row.Statement.{statement}
+use Rattle.cover_rows.proofs.write_counted_row.Tie as tie
 
 returns : tie.Need-returns
 returns c = laid-said (c .before .before .before .before .before .before .before .before .before .put .ensures .1) (c .before .before .before .before .write-row .ensures)

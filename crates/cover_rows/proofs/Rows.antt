@@ -1,7 +1,7 @@
 -- What is left of the coverages of a row, and what the loop over them keeps.
 use Prim.Native.Nat.{ℕ, zero, suc, _+_, _-_, _*_, _%_, _≤_, _<_}
-use mathlib.Core.Path.{_≡_, refl, sym, ap, _∙_}
-use mathlib.Core.Bool.{true, cond}
+use mathlib.Core.Path.{_≡_, refl, sym, ap, _∙_, subst}
+use mathlib.Core.Bool.{Bool, true, false, cond, true≢false}
 use mathlib.Core.Option.{Option, none, some}
 use mathlib.Core.List.{List, [], _∷_, _++_, append-assoc, append-nil}
 use native.Mathlib.Nat.{zero-add}
@@ -10,7 +10,7 @@ use lib.ListN.{length, getD, length-append}
 use lib.Seq.{sets, length-sets}
 use lib.Dec.{eqb}
 use borrow.Author.Tests.{eq-eqb, ne-eqb}
-use Rattle.meaning.specs.Words.{word, bytes2, bind, mapAll, find}
+use Rattle.meaning.specs.Words.{word, bytes2, isSome, bind, mapAll, find}
 use Rattle.meaning.specs.Maps.{mapEntries}
 use Rattle.meaning.specs.Parts.{coverage, coverageSound}
 use Rattle.meaning.specs.Tables.{reach, reaches}
@@ -22,10 +22,11 @@ use Rattle.fold.specs.Cells.{Kept, kept-all, kept-more, holds-kept}
 use Rattle.fold.specs.declared.Map.{Map}
 use Rattle.area.specs.Extends.{Tried}
 use Rattle.area.specs.Part.{news, part}
-use Rattle.meet.specs.Met.{Met, Meets, met-news}
-use Rattle.covers.specs.Rows.{blockLeft, blocksLeft, slotLeft, rowLeft, Lays, LaysLeft, SoundRow, WritesSlot, WritesRow}
-use Rattle.covers.specs.declared.Row.{Row}
-use Rattle.covers.proofs.Lays.{some-none, lays-none, lays-one, lays-over, lays-more, laid-some, laid-none, laid-zero}
+use Rattle.meet.specs.Met.{Met, met-news}
+use Rattle.meet.specs.Answered.{Seeks}
+use Rattle.cover_rows.specs.Rows.{blockLeft, blocksLeft, slotLeft, rowLeft, Lays, LaysLeft, Passes, SoundRow, WritesSlot, WritesRow}
+use Rattle.cover_rows.specs.declared.Row.{Row}
+use Rattle.cover_rows.proofs.Lays.{some-none, lays-none, lays-one, lays-over, lays-more, laid-some, laid-none, laid-zero}
 
 -- a part that an offset of a row reaches has no fault if the row's parts have none
 through-none : (faultAt : ℕ → Option ℕ) (s : List ℕ) (slot n i : ℕ) → faultThrough faultAt s 0 slot n ≡ none → i < n → (word s (slot + 2 * i) ≡ 0 → ⊥) → faultAt (word s (slot + 2 * i)) ≡ none
@@ -63,17 +64,44 @@ module _ (g : List (ℕ × ℕ)) (cov : List ℕ) where
   news-left t to zero e z = absurd (z refl)
   news-left t to (suc k) e z = one-left (getD t to 0 % 65536) (news t (to + 1) k) (sym e)
 
+  -- by whether one is retained
+  passes-on : (p : ℕ) → isSome (unlessEmpty (newCoverage g cov)) ≡ true → Passes (blocksLeft g (some cov ∷ [])) p p
+  unfolding isSome unlessEmpty
+  passes-on p h = step (newCoverage g cov) refl h
+    where
+      step : (l : List ℕ) → newCoverage g cov ≡ l → isSome (unlessEmpty l) ≡ true → Passes (blocksLeft g (some cov ∷ [])) p p
+      step [] e h = absurd (true≢false (sym h))
+      step (n ∷ ns) e h = record { gone = λ q. absurd (some-none (sym (one-left n ns e) ∙ q)); stays = λ {bs = bs} q. refl }
+
+  passes-gone : (p : ℕ) → isSome (unlessEmpty (newCoverage g cov)) ≡ false → Passes (blocksLeft g (some cov ∷ [])) p 0
+  unfolding isSome unlessEmpty
+  passes-gone p h = step (newCoverage g cov) refl h
+    where
+      step : (l : List ℕ) → newCoverage g cov ≡ l → isSome (unlessEmpty l) ≡ false → Passes (blocksLeft g (some cov ∷ [])) p 0
+      step [] e h = record { gone = λ q. refl; stays = λ {bs = bs} q. absurd (some-none (sym q ∙ one-gone e)) }
+      step (n ∷ ns) e h = absurd (true≢false h)
+
+module _ {s : List ℕ} {cover : ℕ} {glyphs : List ℕ} {m : Map} {t : List ℕ} (a : Seeks s cover glyphs m t) (p : ℕ) {r : Bool} (e : r ≡ isSome (unlessEmpty (newCoverage (mapEntries glyphs) (coverage s cover)))) where
+  pub over-met : r ≡ true → Passes (slotLeft (mapEntries glyphs) s cover) p p
+  over-met h = passes-on (mapEntries glyphs) (coverage s cover) p (sym e ∙ h)
+
+  pub over-gone : r ≡ false → Passes (slotLeft (mapEntries glyphs) s cover) p 0
+  over-gone h = passes-gone (mapEntries glyphs) (coverage s cover) p (sym e ∙ h)
+
 module _ {s : List ℕ} {cover : ℕ} {glyphs : List ℕ} {m : Map} {t area : List ℕ} {slot p : ℕ} (a : WritesSlot s cover glyphs m t area slot p) where
-  pub slot-meets : Meets s cover glyphs m t (m .at + m .mask + 1)
-  slot-meets = record { sound = a .sound; ascend = a .ready .ascend; holds = a .ready .holds; behind = omega arith; room = a .ready .room }
+  -- the area has ended
+  pub slot-over : {r : ℕ} → length area < p → Passes (slotLeft (mapEntries glyphs) s cover) p r → LaysLeft (slotLeft (mapEntries glyphs) s cover) m t t area slot p area r
+  slot-over {r} l h = record {
+    cells = kept-all (m .at + m .mask + 1) t;
+    same = refl;
+    gone = h .gone;
+    stays = λ {bs = bs} e. subst (λ (q : ℕ). Lays area slot p bs area q) (sym (h .stays e)) (lays-over bs l);
+  }
 
   module _ {next : List ℕ} {k : ℕ} (h : Met (find (mapEntries glyphs)) (coverage s cover) t (m .at + m .mask + 1) next k) where
-    -- no glyph is retained; or the area has ended; or the coverage is written
+    -- no glyph is retained, or the coverage is written
     pub slot-gone : k ≡ 0 → LaysLeft (slotLeft (mapEntries glyphs) s cover) m t next area slot p area 0
     slot-gone z = laid-none (h .kept) refl (news-gone (mapEntries glyphs) (coverage s cover) next (m .at + m .mask + 1) k (met-news (mapEntries glyphs) h) z)
-
-    pub slot-over : (k ≡ 0 → ⊥) → length area < p → LaysLeft (slotLeft (mapEntries glyphs) s cover) m t next area slot p area p
-    slot-over z l = laid-some (h .kept) refl (news-left (mapEntries glyphs) (coverage s cover) next (m .at + m .mask + 1) k (met-news (mapEntries glyphs) h) z) (lays-over (some (coverageWords (newCoverage (mapEntries glyphs) (coverage s cover))) ∷ []) l)
 
     pub slot-written : {mid after : List ℕ} {r : ℕ} → (k ≡ 0 → ⊥) → mid ≡ sets area slot (bytes2 p) → Tried mid p (coverageWords (news next (m .at + m .mask + 1) k)) after r
         → LaysLeft (slotLeft (mapEntries glyphs) s cover) m t next area slot p after r

@@ -17,7 +17,7 @@ use Rattle.fold.specs.Cells.{Kept}
 use Rattle.fold.specs.declared.Map.{Map}
 use Rattle.area.specs.Extends.{Extends, Tried, extends-none, extends-more, extends-said}
 use Rattle.area.specs.Stored.{extends-store}
-use Rattle.covers.specs.Rows.{Lays, LaysLeft}
+use Rattle.cover_rows.specs.Rows.{Lays, LaysLeft}
 
 -- what is there is not gone, and is one
 pub some-none : {A : Type 0} {a : A} → some a ≡ none → ⊥
