@@ -1,15 +1,21 @@
-// Rows of offsets that reach coverages: what is left of each coverage, written into the area, with its offset in the row.
+// Contexts by coverages: where their parts stand, and the rows of offsets that reach coverages, of which what is left is written into the area.
 use area::put;
 use area::write_cover;
 use fold::Map;
 use meet::meet;
 use meet::meets;
+use wire::word_at;
 use wire::word_inside;
+ghost use mathlib.Core.Path.{_≡_};
+ghost use mathlib.Core.Option.{none};
+ghost use mathlib.Core.Bool.{true, false};
 ghost use Prim.Native.Nat.{_-_, _≤_};
 ghost use lib.ListN.{length};
 ghost use lib.Seq.{sets};
 ghost use Rattle.meaning.specs.Words.{bytes2};
 ghost use Rattle.meaning.specs.Maps.{mapEntries};
+ghost use Rattle.meaning.specs.Fault.{coversFault};
+ghost use Rattle.cover_rows.specs.Parts.{IsContext};
 ghost use Rattle.cover_rows.specs.Rows.{Passes, WritesSlot, WritesRow, slotLeft, rowLeft, LaysLeft};
 ghost use Rattle.meet.specs.Answered.{Seeks};
 
@@ -17,6 +23,70 @@ ghost use Rattle.meet.specs.Answered.{Seeks};
 pub struct Row {
     pub at: usize,
     pub len: usize,
+}
+
+// Where the parts of a context stand: the offsets of its coverages, and its records.
+pub struct CoverParts {
+    pub back: Row,
+    pub input: Row,
+    pub ahead: Row,
+    pub records: Row,
+}
+
+// Where the parts of a plain context stand; it has neither backtrack nor lookahead.
+fn plain_parts(src: &[u8]) -> CoverParts
+    requires { ⌜ coversFault false (now src) ≡ none ⌝ }
+    ensures { λ r. ⌜ IsContext false (now (src .entry)) r ⌝ }
+{
+    let n = word_at(src, 2);
+    CoverParts {
+        back: Row { at: 0, len: 0 },
+        input: Row { at: 6, len: n },
+        ahead: Row { at: 0, len: 0 },
+        records: Row {
+            at: 6 + 2 * n,
+            len: word_at(src, 4),
+        },
+    }
+}
+
+// Where the parts of a chained context stand.
+fn chained_parts(src: &[u8]) -> CoverParts
+    requires { ⌜ coversFault true (now src) ≡ none ⌝ }
+    ensures { λ r. ⌜ IsContext true (now (src .entry)) r ⌝ }
+{
+    let backs = word_at(src, 2);
+    let i = 4 + 2 * backs;
+    let inputs = word_at(src, i);
+    let a = i + 2 + 2 * inputs;
+    let aheads = word_at(src, a);
+    let r = a + 2 + 2 * aheads;
+    CoverParts {
+        back: Row { at: 4, len: backs },
+        input: Row {
+            at: i + 2,
+            len: inputs,
+        },
+        ahead: Row {
+            at: a + 2,
+            len: aheads,
+        },
+        records: Row {
+            at: r + 2,
+            len: word_at(src, r),
+        },
+    }
+}
+
+// Where the parts of the context stand.
+pub fn cover_parts(chained: bool, src: &[u8]) -> CoverParts
+    requires { ⌜ coversFault chained (now src) ≡ none ⌝ }
+    ensures { λ r. ⌜ IsContext chained (now (src .entry)) r ⌝ }
+{
+    if chained {
+        return chained_parts(src);
+    }
+    plain_parts(src)
 }
 
 // The place `p`, and 0 if no glyph of the coverage at `cover` is retained.

@@ -22,9 +22,10 @@ use Rattle.area.specs.Extends.{Extends}
 use Rattle.numbers.specs.Entries.{entriesIn}
 use Rattle.numbers.specs.Leaves.{Leaves, leaves-room}
 use Rattle.cover_rows.specs.Rows.{blocksLeft, rowLeft, Lays, LaysLeft, SoundRow, WritesRow}
-use Rattle.covers.specs.Context.{recordsAt, Plain, Chained, contextLeft, Settles, Asks, Writes}
+use Rattle.cover_rows.specs.Parts.{recordsAt, Plain, Chained}
+use Rattle.covers.specs.Context.{contextLeft, Settles, Asks, Writes}
 use Rattle.cover_rows.specs.declared.Row.{Row}
-use Rattle.covers.specs.declared.CoverParts.{CoverParts}
+use Rattle.cover_rows.specs.declared.CoverParts.{CoverParts}
 use Rattle.cover_rows.proofs.Lays.{some-none, some-same, laid-zero, laid-least}
 use Rattle.covers.proofs.Grows.{grows-start, grows-words, grows-row, grows-counted, grows-end, head-length, row-length}
 
@@ -76,13 +77,18 @@ chained-words b i a rs x y z k nb ni na =
     ∙ ap (λ (w : List ℕ). x ++ (ni ∷ (y ++ (na ∷ (z ++ (k ∷ w)))))) (append-assoc (rs ++ b) i a ∙ append-assoc rs b (i ++ a)))
 
 -- the same, by its definition
-chained-layout : (b i a : List (Option (List ℕ))) (rs : List (ℕ × ℕ)) (nb ni na x y z : ℕ) → length b ≡ nb → length i ≡ ni → length a ≡ na
+chained-layout : (b i a : List (Option (List ℕ))) (rs : List (ℕ × ℕ)) (ps : List ℕ) (nb ni na x y z : ℕ) → ps ≡ length rs ∷ twos rs → length b ≡ nb → length i ≡ ni → length a ≡ na
     → x ≡ 10 + 2 * length b + 2 * length i + 2 * length a + 4 * length rs → y ≡ 10 + 2 * length b + 2 * length i + 2 * length a + 4 * length rs + 2 * length (blocks b)
     → z ≡ 10 + 2 * length b + 2 * length i + 2 * length a + 4 * length rs + 2 * length (blocks b) + 2 * length (blocks i)
-    → ((((3 ∷ []) ++ (nb ∷ offsets x b)) ++ (ni ∷ offsets y i)) ++ (na ∷ offsets z a)) ++ ((((length rs ∷ twos rs) ++ blocks b) ++ blocks i) ++ blocks a) ≡ coversLayout true b i a rs
+    → ((((3 ∷ []) ++ (nb ∷ offsets x b)) ++ (ni ∷ offsets y i)) ++ (na ∷ offsets z a)) ++ (((ps ++ blocks b) ++ blocks i) ++ blocks a) ≡ coversLayout true b i a rs
 unfolding coversLayout
-chained-layout b i a rs nb ni na x y z eb ei ea ex ey ez =
-    chained-words (blocks b) (blocks i) (blocks a) (twos rs) (offsets x b) (offsets y i) (offsets z a) (length rs) nb ni na ∙ rw (ex, ey, ez, ← eb, ← ei, ← ea)
+chained-layout b i a rs ps nb ni na x y z ep eb ei ea ex ey ez =
+    rw ep (chained-words (blocks b) (blocks i) (blocks a) (twos rs) (offsets x b) (offsets y i) (offsets z a) (length rs) nb ni na ∙ rw (ex, ey, ez, ← eb, ← ei, ← ea))
+
+-- words from the area's start on, said otherwise
+said-otherwise : {area after : List ℕ} {end : ℕ} (ws vs : List ℕ) → ws ≡ vs → (end ≤ length area → Extends area 0 ws after end) × (length area < end → length area < 2 * length ws)
+    → (end ≤ length area → Extends area 0 vs after end) × (length area < end → length area < 2 * length vs)
+said-otherwise ws vs e h = rw e at h
 
 -- a row that is left with nothing leaves nothing of the context
 module _ (c : Bool) (g l : List (ℕ × ℕ)) (s : List ℕ) (r : CoverParts) where
@@ -129,9 +135,10 @@ chained-grown R area ps rs B I A ab ai aa nb ni na {mid} {next} {a₁} {a₂} {a
     let ga = grows-counted gi A (omega arith) (omega arith) (omega arith) ca sa ha in
     let la = head-length (((3 ∷ []) ++ (nb ∷ offsets (R + 2 * length ps) B)) ++ (ni ∷ offsets (R + 2 * length (ps ++ blocks B)) I)) na (R + 2 * length ((ps ++ blocks B) ++ blocks I)) A in
     let lp : length ps ≡ 1 + 2 * length rs = omega (arith, ap length ep, twos-length rs) in
-    subst (λ (ws : List ℕ). (end ≤ length area → Extends area 0 ws a₃ end) × (length area < end → length area < 2 * length ws))
-    (ap (λ (w : List ℕ). ((((3 ∷ []) ++ (nb ∷ offsets (R + 2 * length ps) B)) ++ (ni ∷ offsets (R + 2 * length (ps ++ blocks B)) I)) ++ (na ∷ offsets (R + 2 * length ((ps ++ blocks B) ++ blocks I)) A)) ++ (((w ++ blocks B) ++ blocks I) ++ blocks A)) ep
-    ∙ chained-layout B I A rs nb ni na (R + 2 * length ps) (R + 2 * length (ps ++ blocks B)) (R + 2 * length ((ps ++ blocks B) ++ blocks I)) cb ci ca (omega arith) (omega (arith, length-append ps (blocks B)))
+    said-otherwise
+    (((((3 ∷ []) ++ (nb ∷ offsets (R + 2 * length ps) B)) ++ (ni ∷ offsets (R + 2 * length (ps ++ blocks B)) I)) ++ (na ∷ offsets (R + 2 * length ((ps ++ blocks B) ++ blocks I)) A)) ++ (((ps ++ blocks B) ++ blocks I) ++ blocks A))
+    (coversLayout true B I A rs)
+    (chained-layout B I A rs ps nb ni na (R + 2 * length ps) (R + 2 * length (ps ++ blocks B)) (R + 2 * length ((ps ++ blocks B) ++ blocks I)) ep cb ci ca (omega arith) (omega (arith, length-append ps (blocks B)))
     (omega (arith, length-append ps (blocks B), length-append (ps ++ blocks B) (blocks I))))
     (grows-end ga (omega arith))
 

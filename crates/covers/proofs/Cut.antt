@@ -26,9 +26,10 @@ use Rattle.tried.specs.declared.Tried.the-variants.{Short, Became}
 use Rattle.numbers.specs.Entries.{entriesIn}
 use Rattle.numbers.specs.Alike.{holds-alike, records-alike}
 use Rattle.cover_rows.specs.Rows.{blockLeft, blocksLeft}
-use Rattle.covers.specs.Context.{coversAt, recordsAt, IsContext, contextLeft, Settles, Asks, Writes}
+use Rattle.cover_rows.specs.Parts.{coversAt, recordsAt, IsContext}
+use Rattle.covers.specs.Context.{contextLeft, Settles, Asks, Writes}
 use Rattle.covers.specs.Cutting.{wordsInto, HandsOver, Cuts, CutsInto}
-use Rattle.covers.specs.declared.CoverParts.{CoverParts}
+use Rattle.cover_rows.specs.declared.CoverParts.{CoverParts}
 
 -- the blocks that are left are those of the coverages that are left
 blocks-are : (g : List (ℕ × ℕ)) (cs : List (Option (List ℕ))) → blocksLeft g cs ≡ bind (coversLeft g cs) (λ ks. some (map (block coverageWords) ks))

@@ -1,4 +1,3 @@
-pub mod Parts
 pub mod Grows
 pub mod Context
 pub mod Cut

@@ -3,7 +3,8 @@
 use area::hand_over;
 use area::put;
 use area::put_three;
-use cover_rows::Row;
+use cover_rows::CoverParts;
+use cover_rows::cover_parts;
 use cover_rows::write_counted_row;
 use cover_rows::write_row;
 use fold::Map;
@@ -13,15 +14,11 @@ use numbers::write_records;
 use room::LIMIT;
 use room::Laid;
 use tried::Tried;
-use wire::word_at;
-ghost use mathlib.Core.Path.{_≡_};
-ghost use mathlib.Core.Option.{none};
 ghost use mathlib.Core.Bool.{true, false};
 ghost use Prim.Native.Nat.{_+_, _-_, _*_, _≤_, _<_};
 ghost use lib.ListN.{length};
 ghost use Rattle.meaning.specs.Maps.{mapEntries};
-ghost use Rattle.meaning.specs.Fault.{coversFault};
-ghost use Rattle.covers.specs.Context.{IsContext, Asks, Writes};
+ghost use Rattle.covers.specs.Context.{Asks, Writes};
 ghost use Rattle.covers.specs.Cutting.{HandsOver, Cuts, CutsInto, Sound, enoughCells, Least};
 ghost use Rattle.meaning.specs.Tables.{coverContext};
 ghost use Rattle.meaning.specs.Cut.{cut};
@@ -30,70 +27,6 @@ ghost use Rattle.tried.specs.Tries.{Tries};
 
 // The number of cells that is enough for any source: two maps of 65,536 cells each, and a note for each entry of the glyph map and one more.
 pub const CELLS: usize = 196609;
-
-// Where the parts of a context stand: the offsets of its coverages, and its records.
-pub struct CoverParts {
-    pub back: Row,
-    pub input: Row,
-    pub ahead: Row,
-    pub records: Row,
-}
-
-// Where the parts of a plain context stand; it has neither backtrack nor lookahead.
-fn plain_parts(src: &[u8]) -> CoverParts
-    requires { ⌜ coversFault false (now src) ≡ none ⌝ }
-    ensures { λ r. ⌜ IsContext false (now (src .entry)) r ⌝ }
-{
-    let n = word_at(src, 2);
-    CoverParts {
-        back: Row { at: 0, len: 0 },
-        input: Row { at: 6, len: n },
-        ahead: Row { at: 0, len: 0 },
-        records: Row {
-            at: 6 + 2 * n,
-            len: word_at(src, 4),
-        },
-    }
-}
-
-// Where the parts of a chained context stand.
-fn chained_parts(src: &[u8]) -> CoverParts
-    requires { ⌜ coversFault true (now src) ≡ none ⌝ }
-    ensures { λ r. ⌜ IsContext true (now (src .entry)) r ⌝ }
-{
-    let backs = word_at(src, 2);
-    let i = 4 + 2 * backs;
-    let inputs = word_at(src, i);
-    let a = i + 2 + 2 * inputs;
-    let aheads = word_at(src, a);
-    let r = a + 2 + 2 * aheads;
-    CoverParts {
-        back: Row { at: 4, len: backs },
-        input: Row {
-            at: i + 2,
-            len: inputs,
-        },
-        ahead: Row {
-            at: a + 2,
-            len: aheads,
-        },
-        records: Row {
-            at: r + 2,
-            len: word_at(src, r),
-        },
-    }
-}
-
-// Where the parts of the context stand.
-pub fn cover_parts(chained: bool, src: &[u8]) -> CoverParts
-    requires { ⌜ coversFault chained (now src) ≡ none ⌝ }
-    ensures { λ r. ⌜ IsContext chained (now (src .entry)) r ⌝ }
-{
-    if chained {
-        return chained_parts(src);
-    }
-    plain_parts(src)
-}
 
 // A plain context: format, both counts, the offsets, the records that stay, and what is left of the coverages; the place after it, and 0 if nothing is left.
 fn write_plain(

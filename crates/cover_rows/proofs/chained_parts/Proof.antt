@@ -1,8 +1,8 @@
 -- `covers::chained_parts` meets its contract: each array stands after the one before it. Assumes nothing.
 use borrow.Author.Needs.{needs}
-use Rattle.covers.proofs.Parts.{chained-is}
-use Rattle.covers.proofs.chained_parts.Statement.{statement}
-use Rattle.covers.proofs.chained_parts.Tie as tie
+use Rattle.cover_rows.proofs.Parts.{chained-is}
+use Rattle.cover_rows.proofs.chained_parts.Statement.{statement}
+use Rattle.cover_rows.proofs.chained_parts.Tie as tie
 
 returns : tie.Need-returns
 returns c =

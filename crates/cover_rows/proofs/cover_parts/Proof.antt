@@ -1,6 +1,6 @@
 -- `covers::cover_parts` meets its contract: by the kind of context. Assumes nothing.
-use Rattle.covers.proofs.cover_parts.Statement.{statement}
-use Rattle.covers.proofs.cover_parts.Tie as tie
+use Rattle.cover_rows.proofs.cover_parts.Statement.{statement}
+use Rattle.cover_rows.proofs.cover_parts.Tie as tie
 
 chained-parts-requires : tie.Need-chained-parts-requires
 chained-parts-requires c κs = rw (c .if1 .taken) at (c .before .before .pre)

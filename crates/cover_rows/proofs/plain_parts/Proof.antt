@@ -1,8 +1,8 @@
 -- `covers::plain_parts` meets its contract: the records stand after the offsets. Assumes nothing.
 use borrow.Author.Needs.{needs}
-use Rattle.covers.proofs.Parts.{plain-is}
-use Rattle.covers.proofs.plain_parts.Statement.{statement}
-use Rattle.covers.proofs.plain_parts.Tie as tie
+use Rattle.cover_rows.proofs.Parts.{plain-is}
+use Rattle.cover_rows.proofs.plain_parts.Statement.{statement}
+use Rattle.cover_rows.proofs.plain_parts.Tie as tie
 
 returns : tie.Need-returns
 returns c =

@@ -12,8 +12,8 @@ use Rattle.meaning.specs.Tables.{reaches, coverContext}
 use Rattle.meaning.specs.Fault.{faultThrough, coverageFault, coversFault}
 use Rattle.laws.specs.Runs.{both}
 use Rattle.laws.specs.SoundGood.{part-sound, lowest-none}
 use Rattle.cover_rows.specs.Rows.{SoundRow}
-use Rattle.covers.specs.Context.{IsContext}
+use Rattle.cover_rows.specs.Parts.{IsContext}
 
 inside-fits : (s : List ℕ) (at n : ℕ) → inside s at n ≡ true → at + n ≤ length s
 unfolding inside
