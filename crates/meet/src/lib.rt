@@ -9,14 +9,12 @@ ghost use lib.ListN.{length};
 ghost use Rattle.meaning.specs.Words.{words, triples};
 ghost use Rattle.meaning.specs.Parts.{rangeGlyphs, coverage};
 ghost use Rattle.meaning.specs.Maps.{mapEntries};
-ghost use Rattle.meaning.specs.Words.{find, keys, ascends};
-ghost use Rattle.fold.specs.Cells.{folded};
+ghost use Rattle.meaning.specs.Words.{find, keys, ascends, isSome};
+ghost use Rattle.meaning.specs.Cut.{unlessEmpty, newCoverage};
+ghost use Rattle.meet.specs.Answered.{answered, SeeksRanges, Seeks};
+ghost use Rattle.fold.specs.Cells.{folded, Inside};
 ghost use Rattle.meet.specs.Met.{Met, Meets};
 ghost use Rattle.meet.specs.Walks.{MeetsList, MeetsRanges, MeetsRange, InRange, Reached};
-ghost use Rattle.meaning.specs.Words.{isSome};
-ghost use Rattle.meaning.specs.Cut.{unlessEmpty, newCoverage};
-ghost use Rattle.fold.specs.Cells.{Inside};
-ghost use Rattle.meet.specs.Answered.{answered, SeeksRanges, Seeks};
 
 // Which of the places from `lo` up to `hi` to look at next: the first one while it is before `near`, else the middle one.
 fn probe(lo: usize, hi: usize, near: usize) -> usize
