@@ -100,7 +100,7 @@ fn pass_over(src: &[u8], cover: usize, glyphs: &[u8], m: Map, t: &[u32], p: usiz
     0
 }
 
-// What is left of the coverage at `cover`: its offset at `slot`, and itself at `p`; the place after it, and 0 if no glyph is retained. Where `p` is past the area nothing is written.
+// What is left of the coverage at `cover`: its offset at `slot`, and itself at `p`; the place after it, and 0 if no glyph is retained. Where `p` is past the area nothing is noted or written.
 fn write_slot(
     src: &[u8],
     cover: usize,

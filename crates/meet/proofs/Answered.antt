@@ -20,6 +20,7 @@ use Rattle.fold.specs.Cells.{cellEntry, folded, answerIn, Inside, answer-own, a
 use Rattle.fold.specs.declared.Map.{Map}
 use Rattle.meet.specs.Walks.{Reached}
 use Rattle.meet.specs.Answered.{answered, SeeksRanges, Seeks, answered-same, answered-left}
+use Rattle.meet.proofs.Formats.{inside-fits}
 
 -- What the loop over listed glyphs keeps: those that are left settle it.
 pub record Listing (t : List ℕ) (m : Map) (s : List ℕ) (at n i : ℕ) : Type 0 where
@@ -169,11 +170,7 @@ module _ {s : List ℕ} {at n : ℕ} {m : List ℕ} (a : SeeksRanges s at n m) w
   unfolding answered rangeGlyphs
   ranging-end {e} {i} c h = rw (triples-none s (at + 6 * i) n i h) at (c .left)
 
--- what lies inside
-inside-fits : (s : List ℕ) (at n : ℕ) → inside s at n ≡ true → at + n ≤ length s
-unfolding inside
-inside-fits s at n h = leb-true (at + n) (length s) h
-
+-- A sound coverage, by its format.
 module _ {s : List ℕ} {at : ℕ} {glyphs : List ℕ} {m : Map} {t : List ℕ} (a : Seeks s at glyphs m t) where
   -- the head of a sound coverage lies inside
   pub head-inside : at + 4 ≤ length s
