@@ -1,0 +1,89 @@
+// Format 2 of contexts and chained contexts: a coverage, class tables and sets of rules by class; cut in one walk, from the source into the area.
+use area::put;
+use area::write_classes;
+use area::write_cover;
+ghost use mathlib.Core.List.{[], _∷_};
+ghost use Prim.Native.Nat.{_+_, _*_, _≤_};
+ghost use lib.ListN.{length};
+ghost use Rattle.class_contexts.specs.Tail.{tableBlock, tableBlocks, tailBlocks, TableIn, TailIn, Lays, Places};
+
+// Cells in a row: where the first stands, and how many there are.
+pub struct Noted {
+    pub at: usize,
+    pub len: usize,
+}
+
+// A new class table: where the old one stands in the source, which is 0 if it is null, and the cells that its entries are noted in.
+pub struct NewTable {
+    pub old: usize,
+    pub list: usize,
+    pub len: usize,
+}
+
+// What follows the sets: the glyphs of the new coverage, which are noted in cells, and the new class tables.
+pub struct Tail {
+    pub cover: Noted,
+    pub back: NewTable,
+    pub input: NewTable,
+    pub ahead: NewTable,
+}
+
+// A new class table: its offset, less by the gap, at `slot`, and itself at `p`; the place after it. A null table stays null, and where `p` is past the area nothing is written.
+fn write_table(
+    t: &[u32],
+    table: NewTable,
+    area: &mut [u8],
+    slot: usize,
+    gap: usize,
+    p: usize,
+) -> usize
+    requires { ⌜ TableIn (now t) table × Places (now area) slot 1 gap p ⌝ }
+    ensures { λ r. ⌜ Lays (now (area .entry)) slot gap p (tableBlock (now (t .entry)) table ∷ []) (now (area .exit)) r ⌝ }
+{
+    if area.len() < p {
+        return p;
+    }
+    if table.old == 0 {
+        put(area, slot, 0);
+        return p;
+    }
+    put(area, slot, p - gap);
+    write_classes(t, table.list, table.len, area, p)
+}
+
+// The class tables of backtrack, input and lookahead, or of the input alone: their offsets, less by the gap, from 4 on, and themselves from `p` on; the place after them.
+fn write_tables(
+    chained: bool,
+    t: &[u32],
+    tail: Tail,
+    area: &mut [u8],
+    gap: usize,
+    p: usize,
+) -> usize
+    requires { ⌜ TailIn (now t) tail × Places (now area) 4 3 gap p ⌝ }
+    ensures { λ r. ⌜ Lays (now (area .entry)) 4 gap p (tableBlocks chained (now (t .entry)) tail) (now (area .exit)) r ⌝ }
+{
+    if !chained {
+        return write_table(t, tail.input, area, 4, gap, p);
+    }
+    let q = write_table(t, tail.back, area, 4, gap, p);
+    let r = write_table(t, tail.input, area, 6, gap, q);
+    write_table(t, tail.ahead, area, 8, gap, r)
+}
+
+// The coverage and the class tables: their offsets, less by the gap, from 2 on, and themselves from `p` on; the place after them.
+fn write_tail(
+    chained: bool,
+    t: &[u32],
+    tail: Tail,
+    area: &mut [u8],
+    gap: usize,
+    p: usize,
+) -> usize
+    requires { ⌜ TailIn (now t) tail × Places (now area) 2 4 gap p × (p ≤ length (now area)) ⌝ }
+    ensures { λ r. ⌜ Lays (now (area .entry)) 2 gap p (tailBlocks chained (now (t .entry)) tail) (now (area .exit)) r ⌝ }
+{
+    put(area, 2, p - gap);
+    let q = write_cover(t, tail.cover.at, tail.cover.len, area, p);
+    write_tables(chained, t, tail, area, gap, q)
+}
