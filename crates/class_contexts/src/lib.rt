@@ -2,10 +2,14 @@
 use area::put;
 use area::write_classes;
 use area::write_cover;
+use class_slots::Slots;
+use class_slots::settle;
+use class_slots::slots_at;
 ghost use mathlib.Core.List.{[], _∷_};
 ghost use Prim.Native.Nat.{_+_, _*_, _≤_};
 ghost use lib.ListN.{length};
 ghost use Rattle.class_contexts.specs.Tail.{tableBlock, tableBlocks, tailBlocks, TableIn, TailIn, Lays, Places};
+ghost use Rattle.class_contexts.specs.Table.{Finishes, Finished};
 
 // Cells in a row: where the first stands, and how many there are.
 pub struct Noted {
@@ -86,4 +90,25 @@ fn write_tail(
     put(area, 2, p - gap);
     let q = write_cover(t, tail.cover.at, tail.cover.len, area, p);
     write_tables(chained, t, tail, area, gap, q)
+}
+
+// The table of the slots that are left, whose sets stand behind a place for a slot of each of the `classes`: the slots as offsets without the gap, what follows the sets, and the header; the place after it.
+fn finish(
+    chained: bool,
+    t: &[u32],
+    tail: Tail,
+    slots: Slots,
+    classes: usize,
+    area: &mut [u8],
+) -> usize
+    requires { ⌜ Finishes chained (now t) tail slots classes (now area) ⌝ }
+    ensures { λ r. ⌜ Finished chained (tailBlocks chained (now (t .entry)) tail) slots classes (now (area .entry)) (now (area .exit)) r ⌝ }
+{
+    let at = slots_at(chained);
+    let count = slots.count;
+    settle(area, at, count, at + 2 * count);
+    put(area, 0, 2);
+    let end = write_tail(chained, t, tail, area, 2 * (classes - count), slots.end);
+    put(area, at - 2, count);
+    end
 }
