@@ -1,15 +1,26 @@
 // Format 2 of contexts and chained contexts: a coverage, class tables and sets of rules by class; cut in one walk, from the source into the area.
+use area::hand_over;
 use area::put;
 use area::write_classes;
 use area::write_cover;
 use class_slots::Slots;
 use class_slots::settle;
 use class_slots::slots_at;
+use class_slots::write_slots;
+use fold::Map;
+use room::Laid;
+use rule_sets::Maps;
+use tried::Tried;
 ghost use mathlib.Core.List.{[], _∷_};
-ghost use Prim.Native.Nat.{_+_, _*_, _≤_};
+ghost use Prim.Native.Nat.{_+_, _*_, _≤_, _<_};
 ghost use lib.ListN.{length};
 ghost use Rattle.class_contexts.specs.Tail.{tableBlock, tableBlocks, tailBlocks, TableIn, TailIn, Lays, Places};
-ghost use Rattle.class_contexts.specs.Table.{Finishes, Finished};
+ghost use Rattle.class_contexts.specs.Table.{wordsInto, Finishes, Finished};
+ghost use Rattle.class_contexts.specs.Written.{enoughBytes, NoRoom, Writes, leftIn};
+ghost use Rattle.tried.specs.Tries.{Tries};
+
+// The number of bytes of an area that is enough for any source: where they are too few, the layout is over the limit.
+const BYTES: usize = 262144;
 
 // Cells in a row: where the first stands, and how many there are.
 pub struct Noted {
@@ -30,6 +41,14 @@ pub struct Tail {
     pub back: NewTable,
     pub input: NewTable,
     pub ahead: NewTable,
+}
+
+// What the cells hold for the cut: the maps of the rules, the marks of the classes that covered glyphs hold, the number of surviving classes, and what follows the sets.
+pub struct Prepared {
+    pub maps: Maps,
+    pub marks: Map,
+    pub classes: usize,
+    pub tail: Tail,
 }
 
 // A new class table: its offset, less by the gap, at `slot`, and itself at `p`; the place after it. A null table stays null, and where `p` is past the area nothing is written.
@@ -111,4 +130,42 @@ fn finish(
     let end = write_tail(chained, t, tail, area, 2 * (classes - count), slots.end);
     put(area, at - 2, count);
     end
+}
+
+// What is answered where the area has no room: it is too short, or, if it is long enough for any layout that is not over the limit, this one is over.
+fn no_room(area: &[u8]) -> Tried
+    ensures { λ r. ⌜ NoRoom (length (now (area .entry))) r ⌝ }
+{
+    if area.len() < BYTES {
+        return Tried::Short;
+    }
+    Tried::Became(Laid::TooBig)
+}
+
+// What is left of a context, of which the cells hold what is needed, written into the area and handed over if there is room.
+fn write_context(
+    chained: bool,
+    src: &[u8],
+    t: &[u32],
+    prepared: Prepared,
+    area: &mut [u8],
+    out: &mut [u8],
+) -> Tried
+    requires { ⌜ Writes chained (now src) (now t) prepared (now area) ⌝ }
+    ensures { λ r. ⌜ Tries ⊥ (length (now (area .entry)) < enoughBytes) r (now (out .entry)) (now (out .exit)) (wordsInto (now (out .entry)) (leftIn chained (now (src .entry)) (now (t .entry)) prepared)) ⌝ }
+{
+    let classes = prepared.classes;
+    let slots = write_slots(chained, src, t, prepared.maps, prepared.marks, classes, area);
+    if area.len() < slots.end {
+        return no_room(area);
+    }
+    if slots.count == 0 {
+        return Tried::Became(Laid::Nothing);
+    }
+    let end = finish(chained, t, prepared.tail, slots, classes, area);
+    if area.len() < end {
+        return no_room(area);
+    }
+    let at = slots_at(chained);
+    Tried::Became(hand_over(area, at + 2 * slots.count, at + 2 * classes, end, out))
 }
