@@ -12,7 +12,7 @@ use lib.Dec.{eqb}
 use borrow.Author.Tests.{ne-eqb, leb-true}
 use Rattle.meaning.specs.Words.{word, inside, find, bind, push, keys, ascends}
 use Rattle.meaning.specs.Parts.{coverage, coverageSound}
-use Rattle.meaning.specs.Tables.{fieldCount}
+use Rattle.meaning.specs.Tables.{Table, fieldCount}
 use Rattle.meaning.specs.Fault.{faultThrough, coverageFault, pairSetFault, enough, headerFault}
 use Rattle.meaning.specs.Cut.{cut, standIn}
 use Rattle.meaning.specs.Layout.{block, tableWords}
@@ -24,11 +24,12 @@ use Rattle.pair_sets.specs.Formats.{pairSize, placesOf}
 use Rattle.pair_sets.specs.Puts.{Puts}
 use Rattle.pair_sets.specs.declared.Formats.{Formats}
 use Rattle.pair_formats.specs.New.{formatIn, AsksFormats, NewFormats, format-alike}
+use Rattle.tried.specs.Tries.{Tries}
 use Rattle.tried.specs.declared.Tried.{Tried}
 use Rattle.member_sets.specs.Sound.{inside-is, through-sound}
 use Rattle.area.specs.Part.{part, notes, oldAt}
 use Rattle.meaning.specs.Maps.{mapEntries}
-use Rattle.meaning.specs.Subset.{limit}
+use Rattle.meaning.specs.Subset.{limit, written}
 use Rattle.fold.specs.Cells.{Holds, holds-kept}
 use Rattle.fold.specs.Laid.{Laid}
 use Rattle.fold.specs.declared.Map.{Map}
@@ -39,9 +40,10 @@ use Rattle.kept_sets.specs.Sorts.{headerSize, setFaultOf, leftIn, Told, pairs-s
 use Rattle.kept_sets.specs.Kept.{setAt, keptOf, Ready, keptIn}
 use Rattle.kept_sets.specs.declared.Sort.{Sort}
 use Rattle.kept_sets.specs.declared.Sort.the-variants.{Rules, Ligatures, Pairs}
-use Rattle.kept_table.specs.Table.{tableOf}
+use Rattle.kept_table.specs.Table.{areaMost, tableOf}
 use Rattle.by_glyph.specs.Asked.{SoundSets, MapsLaid, keptFrom}
-use Rattle.kept_table.specs.Answers.{Answered, answered-said}
+use Rattle.kept_table.specs.Answers.{Answered, answered-as, answered-said}
+use Rattle.by_glyph.specs.Whole.{cellsMost}
 use Rattle.by_glyph.specs.PairTables.{pairTable, pairFault, pairsOf, oneMap, AnsweredPairs, told-pairs, sound-pairs, pairs-cut}
 
 -- notes name glyphs of the coverage
@@ -245,7 +247,7 @@ map-least : (m : List ℕ) → ascends (keys (mapEntries m)) ≡ true → (k : �
 map-least m good zero h = omega arith
 map-least m good (suc k) h = omega (arith, map-least m good k (omega arith), map-rises m good k (suc k) (omega arith) h)
 
-pub few-entries : (m : List ℕ) → ascends (keys (mapEntries m)) ≡ true → ((i : ℕ) → getD m i 0 < 256) → length m / 4 ≤ 65536
+few-entries : (m : List ℕ) → ascends (keys (mapEntries m)) ≡ true → ((i : ℕ) → getD m i 0 < 256) → length m / 4 ≤ 65536
 few-entries m good bytes = step (decLt 0 (length m / 4))
   where
     step : Dec (0 < length m / 4) → length m / 4 ≤ 65536
@@ -293,3 +295,13 @@ module _ {g t₀ t : List ℕ} {m : Map} (a : Laid g t₀ t 0 m) (z : m .mask �
           before = record { back = e; input = e; ahead = e; lookups = omega (arith, b .place) };
           small = omega (arith, a .few u, b .few v);
         }
+
+-- With few cells behind the maps, the lent ones were few; so what is answered behind the maps is answered of all.
+module _ {g t₀ t : List ℕ} {m : Map} (a : Laid g t₀ t 0 m) (u : ascends (keys (mapEntries g)) ≡ true) (bytes : (i : ℕ) → getD g i 0 < 256)
+    {out₀ : List ℕ} {words : Option (List ℕ)} {n : ℕ} {r : Tried} {out : List ℕ} (left : Option Table) (e : words ≡ block tableWords left) where
+  pub one-answered : Answered (length t ≤ m .mask + 1 + length g / 4) out₀ words n r out → Tries (length t₀ < cellsMost) (n < areaMost) r out₀ out (written out₀ left)
+  one-answered = answered-as (λ h. omega (arith, h, few-entries g u bytes, a .kept .size, a .few u)) left e
+
+  pub two-answered : {l t₂ : List ℕ} {k : Map} → Laid l t t₂ (m .mask + 1) k → ascends (keys (mapEntries l)) ≡ true → Answered (length t₂ ≤ m .mask + k .mask + 2 + length g / 4) out₀ words n r out
+      → Tries (length t₀ < cellsMost) (n < areaMost) r out₀ out (written out₀ left)
+  two-answered b v = answered-as (λ h. omega (arith, h, few-entries g u bytes, a .kept .size, b .kept .size, a .few u, b .few v)) left e

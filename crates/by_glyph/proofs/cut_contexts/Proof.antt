@@ -3,9 +3,8 @@ use native.Mathlib.Omega.{arith}
 use borrow.Author.Needs.{needs}
 use Rattle.by_glyph.specs.Asked.{rules-null, rules-cut}
 use Rattle.by_glyph.specs.PairTables.{told-rules}
-use Rattle.kept_table.specs.Answers.{answered-as}
 use Rattle.by_glyph.specs.Whole.{written-none}
-use Rattle.by_glyph.proofs.Asking.{header-inside, rules-asked, few-entries, no-room, glyphs-stand, two-laid}
+use Rattle.by_glyph.proofs.Asking.{header-inside, rules-asked, no-room, two-answered, glyphs-stand, two-laid}
 use Rattle.by_glyph.proofs.cut_contexts.Statement.{statement}
 use Rattle.by_glyph.proofs.cut_contexts.Tie as tie
 
@@ -47,7 +46,7 @@ returns-4 c =
     let l = c .before .before .before .before .before .before .before .before .before .before .before .before .before .before .before .before .before .before .lay .ensures in
     let n = c .before .before .before .before .before .before .before .before .before .before .before .before .before .lay2 .ensures in
     let g = glyphs-stand l (c .before .before .before .before .before .before .before .before .before .before .before .before .before .before .before .if2 .left) (a .pre .2) n in
-    answered-as (λ h. omega (arith, h, few-entries (a .args .glyphs .now) (a .pre .2) (λ i. omega (arith, c .before .before .before .before .before .before .before .before .before .before .before .before .before .before .before .before .before .before .before .before .before .before .before .before .before .before .shared-slice-known2 .given i)), l .kept .size, n .kept .size, l .few (a .pre .2), n .few (a .pre .3))) _ (rules-cut _ _ _ g _ g g (n .holds (c .before .before .before .before .before .before .before .before .before .before .if3 .left)) (a .args .chained) (λ z. c .before .before .before .before .before .before .before .before .before .before .before .before .before .before .before .before .before .before .before .before .if1 .left (c .before .before .before .before .before .before .before .before .before .before .before .before .before .before .before .before .before .before .before .before .before .word-inside .ensures .0 ∙ z)) (rules-asked _ (a .pre .1) (a .args .chained) (a .pre .0))) (c .before .before .before .before .before .before .cut-sets .ensures)
+    two-answered l (a .pre .2) (λ i. omega (arith, c .before .before .before .before .before .before .before .before .before .before .before .before .before .before .before .before .before .before .before .before .before .before .before .before .before .before .shared-slice-known2 .given i)) _ (rules-cut _ _ _ g _ g g (n .holds (c .before .before .before .before .before .before .before .before .before .before .if3 .left)) (a .args .chained) (λ z. c .before .before .before .before .before .before .before .before .before .before .before .before .before .before .before .before .before .before .before .before .if1 .left (c .before .before .before .before .before .before .before .before .before .before .before .before .before .before .before .before .before .before .before .before .before .word-inside .ensures .0 ∙ z)) (rules-asked _ (a .pre .1) (a .args .chained) (a .pre .0))) n (a .pre .3) (c .before .before .before .before .before .before .cut-sets .ensures)
 
 pub cut-contexts-spec : {M : Type 1} → statement M
 cut-contexts-spec =

@@ -3,9 +3,8 @@ use native.Mathlib.Omega.{arith}
 use borrow.Author.Needs.{needs}
 use Rattle.by_glyph.specs.Asked.{ligatures-null, ligatures-cut}
 use Rattle.by_glyph.specs.PairTables.{told-ligatures}
-use Rattle.kept_table.specs.Answers.{answered-as}
 use Rattle.by_glyph.specs.Whole.{written-none}
-use Rattle.by_glyph.proofs.Asking.{header-inside, ligatures-asked, few-entries, no-room, one-laid}
+use Rattle.by_glyph.proofs.Asking.{header-inside, ligatures-asked, no-room, one-answered, one-laid}
 use Rattle.by_glyph.proofs.cut_ligatures.Statement.{statement}
 use Rattle.by_glyph.proofs.cut_ligatures.Tie as tie
 
@@ -30,7 +29,7 @@ returns-3 : tie.Need-returns-3
 returns-3 c =
     let a = c .before .before .before .before .before .before .before .before .before .before .before .before .before .before .before .before .before .before .before .before .before .before in
     let l = c .before .before .before .before .before .before .before .before .before .before .before .before .before .lay .ensures in
-    answered-as (λ h. omega (arith, h, few-entries (a .args .glyphs .now) (a .pre .2) (λ i. omega (arith, c .before .before .before .before .before .before .before .before .before .before .before .before .before .before .before .before .before .before .before .before .shared-slice-known2 .given i)), l .kept .size, l .few (a .pre .2))) _ (ligatures-cut _ _ _ (l .holds (c .before .before .before .before .before .before .before .before .before .before .if2 .left)) (λ z. c .before .before .before .before .before .before .before .before .before .before .before .before .before .before .before .if1 .left (c .before .before .before .before .before .before .before .before .before .before .before .before .before .before .before .before .word-inside .ensures .0 ∙ z)) (ligatures-asked _ (a .pre .1) (a .pre .0))) (c .before .before .before .before .before .before .cut-sets .ensures)
+    one-answered l (a .pre .2) (λ i. omega (arith, c .before .before .before .before .before .before .before .before .before .before .before .before .before .before .before .before .before .before .before .before .shared-slice-known2 .given i)) _ (ligatures-cut _ _ _ (l .holds (c .before .before .before .before .before .before .before .before .before .before .if2 .left)) (λ z. c .before .before .before .before .before .before .before .before .before .before .before .before .before .before .before .if1 .left (c .before .before .before .before .before .before .before .before .before .before .before .before .before .before .before .before .word-inside .ensures .0 ∙ z)) (ligatures-asked _ (a .pre .1) (a .pre .0))) (c .before .before .before .before .before .before .cut-sets .ensures)
 
 pub cut-ligatures-spec : {M : Type 1} → statement M
 cut-ligatures-spec =

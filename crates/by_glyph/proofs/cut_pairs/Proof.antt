@@ -1,9 +1,8 @@
 use mathlib.Core.Path.{refl, sym, _∙_}
 use native.Mathlib.Omega.{arith}
 use Rattle.by_glyph.specs.PairTables.{pairs-null}
-use Rattle.kept_table.specs.Answers.{answered-as}
 use Rattle.by_glyph.specs.Whole.{written-none}
-use Rattle.by_glyph.proofs.Asking.{header-inside, pairs-asked, few-entries, no-room, one-laid}
+use Rattle.by_glyph.proofs.Asking.{header-inside, pairs-asked, no-room, one-answered, one-laid}
 use borrow.Author.Needs.{needs}
 use Rattle.by_glyph.proofs.cut_pairs.Statement.{statement}
 use Rattle.by_glyph.proofs.cut_pairs.Tie as tie
@@ -29,7 +28,7 @@ returns-3 : tie.Need-returns-3
 returns-3 c =
     let a = c .before .before .before .before .before .before .before .before .before .before .before .before .before .before .before .before .before .before .before .before .before .before in
     let l = c .before .before .before .before .before .before .before .before .before .before .before .before .before .lay .ensures in
-    answered-as (λ h. omega (arith, h, few-entries (a .args .glyphs .now) (a .pre .2) (λ i. omega (arith, c .before .before .before .before .before .before .before .before .before .before .before .before .before .before .before .before .before .before .before .before .shared-slice-known2 .given i)), l .kept .size, l .few (a .pre .2))) _ refl (c .before .before .before .before .before .before .cut-pair-sets .ensures)
+    one-answered l (a .pre .2) (λ i. omega (arith, c .before .before .before .before .before .before .before .before .before .before .before .before .before .before .before .before .before .before .before .before .shared-slice-known2 .given i)) _ refl (c .before .before .before .before .before .before .cut-pair-sets .ensures)
 
 pub cut-pairs-spec : {M : Type 1} → statement M
 cut-pairs-spec =
