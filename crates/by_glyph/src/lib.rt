@@ -34,7 +34,7 @@ ghost use Rattle.by_glyph.specs.Asked.{SoundSets, MapsLaid, keptFrom};
 ghost use Rattle.by_glyph.specs.PairTables.{pairsOf, oneMap, pairFault, pairTable, AnsweredPairs};
 ghost use Rattle.by_glyph.specs.Whole.{cellsMost, Least, glyphContext, ligatureTable};
 
-// What is left of a table under a glyph map, whose cells and those of the lookup map stand before `notes`, for sets that have no value formats: the retained covered glyphs are noted, and the table is written.
+// What is left of a table under a glyph map, whose cells and those of the lookup map stand before `notes`, for sets that have no value formats, and so no places of fields: the retained covered glyphs are noted, and the table is written.
 fn cut_sets(
     sort: Sort,
     src: &[u8],

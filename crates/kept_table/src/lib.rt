@@ -1,4 +1,4 @@
-// The table of the kept sets of format 1: written into the area behind one another, it is put together there and handed over to the buffer.
+// The table of the kept sets of format 1: the sets are written into the area, the table is put together around them, and it is handed over to the buffer.
 use area::hand_over;
 use area::lessen;
 use area::put_three;
