@@ -1,6 +1,5 @@
 // Malformed, over the whole source: the header of each kind and format, and through its offsets every part, retained or not. And records that point past their rule.
 use rules::indexes_below;
-use sets::crowded;
 use view::header;
 use view::subtable_place;
 use wire::Fault;
@@ -9,11 +8,13 @@ use wire::lowest;
 use wire::word_at;
 ghost use mathlib.Core.Path.{_≡_};
 ghost use mathlib.Core.Bool.{true, false};
-ghost use Prim.Native.Nat.{_+_, _*_, _<_};
+ghost use Prim.Native.Nat.{_+_, _*_, _≤_, _<_};
+ghost use Rattle.meaning.specs.Words.{words};
 ghost use Rattle.meaning.specs.Tables.{ruleSet, reaches, classContext, coverContext, context, table};
 ghost use Rattle.meaning.specs.Records.{setsWithin, recordsWithin};
 ghost use Rattle.meaning.specs.Fault.{faultThrough, headerFault, coversFault, contextFault, fault, enough};
 ghost use Rattle.wire.specs.Fault.{faultOf};
+ghost use Rattle.checks.specs.Crowded.{membersAt, crowds};
 ghost use Rattle.checks.specs.Parts.{faultOfPart, byGlyphFault, byClassFault, ligaturesFault, pairFields, pairsFault};
 
 // The sorts of parts that an offset of a header reaches.
@@ -212,6 +213,35 @@ pub fn check(kind: usize, src: &[u8]) -> Fault
         3 => check_ligatures(src),
         _ => check_pairs(src),
     }
+}
+
+// How many members the `n` sets have together whose offsets stand from `slot` on: a set's place has their number.
+fn members(src: &[u8], slot: usize, n: usize) -> usize
+    requires { ⌜ (slot < 65536) × (n < 65536) ⌝ }
+    ensures { λ r. ⌜ (r ≡ membersAt (now (src .entry)) (words (now (src .entry)) slot n)) × (r ≤ 0x1_0000_0000) ⌝ }
+{
+    let mut total = 0;
+    let mut i = 0;
+    while i < n {
+        let at = word_at(src, slot + 2 * i);
+        total += word_at(src, at);
+        i += 1;
+    }
+    total
+}
+
+// Whether these sets have more than one member for each eight bytes of a source of 1,024 to 65,536 bytes, so that they share members or have such as say next to nothing. Then it pays to mark each rule that was asked.
+fn crowded(src: &[u8], slot: usize, n: usize) -> bool
+    requires { ⌜ (slot < 65536) × (n < 65536) ⌝ }
+    ensures { λ r. ⌜ r ≡ crowds (now (src .entry)) slot n ⌝ }
+{
+    if src.len() < 1024 {
+        return false;
+    }
+    if 65536 < src.len() {
+        return false;
+    }
+    src.len() < 8 * members(src, slot, n)
 }
 
 // The places of a source where sets can share rules: `crowded` asks for no more.
