@@ -1,15 +1,16 @@
-/* Times the exported call on job files.
+/* Times the exported calls on job files.
  *
  *   bench MILLISECONDS job...
  *
  * For each job: its kind, the source's bytes, the retained glyphs, the answer
- * with its length, and nanoseconds a call (the fastest batch counts). The
- * buffer is lent anew for each call and not cleared. A file may be longer than
- * a label job: the call itself has no limit but that of the source.
+ * with its length, and nanoseconds a call (the fastest batch counts), with
+ * scratch of its own and with lent scratch. Buffer and scratch are lent anew
+ * for each call and not cleared. A file may be longer than a label job: the
+ * calls have no limit but that of the source.
  *
  * Compiled with WITH_HARFBUZZ, and linked with HarfBuzz's own cut of a subtable
  * behind the functions of hbx.h, it times that too, batch by batch in turn, and
- * prints nanoseconds of it and how many times as long the call takes. */
+ * prints nanoseconds of it and how many times as long the calls take. */
 #include <stdio.h>
 #include <stdlib.h>
 #include <string.h>
@@ -27,7 +28,7 @@ struct job
 {
   unsigned kind;
   struct part source, glyphs, lookups;
-  uint8_t *out;
+  uint8_t *out, *scratch;
 #ifdef WITH_HARFBUZZ
   hbx_t *harfbuzz;
 #endif
@@ -47,6 +48,12 @@ static uint64_t cut_plain (const struct job *j)
 {
   return gillcurtain_subset (j->kind, j->source.at, j->source.len, j->glyphs.at, j->glyphs.len,
                              j->lookups.at, j->lookups.len, j->out, ROOM);
+}
+
+static uint64_t cut_lent (const struct job *j)
+{
+  return gillcurtain_subset_with (j->kind, j->source.at, j->source.len, j->glyphs.at, j->glyphs.len,
+                                  j->lookups.at, j->lookups.len, j->scratch, GILLCURTAIN_SCRATCH, j->out, ROOM);
 }
 
 #ifdef WITH_HARFBUZZ
@@ -132,22 +139,25 @@ static void time_job (struct way *ways, unsigned n, const struct job *j, double 
 int main (int argc, char **argv)
 {
   static uint8_t out[ROOM];
+  uint8_t *scratch = malloc (GILLCURTAIN_SCRATCH);
   struct way ways[] = {
-    { .name = "ns", .cut = cut_plain },
+    { .name = "own", .cut = cut_plain },
+    { .name = "lent", .cut = cut_lent },
 #ifdef WITH_HARFBUZZ
     { .name = "HarfBuzz", .cut = cut_harfbuzz },
 #endif
   };
   const unsigned n = sizeof ways / sizeof *ways;
   if (argc < 3) { fprintf (stderr, "usage: bench MILLISECONDS job...\n"); return 2; }
+  if (!scratch) { perror ("malloc"); return 1; }
   printf ("# job\tkind\tin\tglyphs\tanswer\tlength");
   for (unsigned w = 0; w < n; w++) printf ("\t%s", ways[w].name);
-  for (unsigned w = 0; w + 1 < n; w++) printf ("\t%s / %s", ways[w].name, ways[n - 1].name);
+  for (unsigned w = 0; w < 2 && 2 < n; w++) printf ("\t%s / %s", ways[w].name, ways[2].name);
   printf ("\n");
   for (int a = 2; a < argc; a++)
   {
     const char *slash = strrchr (argv[a], '/'), *name = slash ? slash + 1 : argv[a];
-    struct job job = { .out = out };
+    struct job job = { .out = out, .scratch = scratch };
     size_t len;
     uint8_t *file = read_file (argv[a], &len);
     if (!read_job (file, len, &job)) { printf ("%s\tfaulty\n", name); free (file); continue; }
@@ -155,10 +165,11 @@ int main (int argc, char **argv)
     job.harfbuzz = hbx_new (1);
 #endif
     time_job (ways, n, &job, atof (argv[1]) * 1e6);
+    if (ways[0].result != ways[1].result) { printf ("%s\tthe two calls differ\n", name); return 1; }
     printf ("%s\t%u\t%zu\t%zu\t%u\t%zu", name, job.kind, job.source.len, job.glyphs.len / 4,
             gillcurtain_number (ways[0].result), gillcurtain_length (ways[0].result));
     for (unsigned w = 0; w < n; w++) printf ("\t%.0f", ways[w].best);
-    for (unsigned w = 0; w + 1 < n; w++) printf ("\t%.2f", ways[w].best / ways[n - 1].best);
+    for (unsigned w = 0; w < 2 && 2 < n; w++) printf ("\t%.2f", ways[w].best / ways[2].best);
     printf ("\n");
     fflush (stdout);
 #ifdef WITH_HARFBUZZ
@@ -166,5 +177,6 @@ int main (int argc, char **argv)
 #endif
     free (file);
   }
+  free (scratch);
   return 0;
 }
