@@ -3,8 +3,8 @@
  *   bench MILLISECONDS job...
  *
  * For each job: its kind, the source's bytes, the retained glyphs, the answer
- * with its length, and nanoseconds a call (the fastest batch counts), with
- * scratch of its own and with lent scratch. Buffer and scratch are lent anew
+ * with its length, and nanoseconds of processor time a call (the fastest batch
+ * counts), with scratch of its own and with lent scratch. Buffer and scratch are lent anew
  * for each call and not cleared. A file may be longer than a label job: the
  * calls have no limit but that of the source.
  *
@@ -66,10 +66,11 @@ static uint64_t cut_harfbuzz (const struct job *j)
 }
 #endif
 
+/* Processor time, so that what else the machine does counts little. */
 static double now (void)
 {
   struct timespec t;
-  clock_gettime (CLOCK_MONOTONIC, &t);
+  clock_gettime (CLOCK_PROCESS_CPUTIME_ID, &t);
   return t.tv_sec * 1e9 + t.tv_nsec;
 }
 
