@@ -4,9 +4,9 @@
  *
  * For each job: its kind, the source's bytes, the retained glyphs, the answer
  * with its length, and nanoseconds of processor time a call (the fastest batch
- * counts), with scratch of its own and with lent scratch. Buffer and scratch are lent anew
- * for each call and not cleared. A file may be longer than a label job: the
- * calls have no limit but that of the source.
+ * counts), with scratch of its own and with lent scratch. Buffer and scratch
+ * are lent anew for each call and not cleared. A file may be longer than a
+ * label job: the calls have no limit but that of the source.
  *
  * Compiled with WITH_HARFBUZZ, and linked with HarfBuzz's own cut of a subtable
  * behind the functions of hbx.h, it times that too, batch by batch in turn, and
