@@ -1,8 +1,8 @@
 -- From the cells of the maps to what is left of the context.
-use Prim.Native.Nat.{ℕ, _+_, _*_, _/_, _%_, _≤_, _<_}
+use Prim.Native.Nat.{ℕ, _+_, _/_, _%_, _≤_, _<_}
 use mathlib.Core.Path.{_≡_, refl, sym, ap, _∙_, subst}
 use mathlib.Core.Bool.{Bool, true, false}
-use mathlib.Core.Option.{Option, none, some}
+use mathlib.Core.Option.{Option, some}
 use mathlib.Core.List.{List, _∷_, map}
 use native.Mathlib.Decide.{decLt}
 use native.Mathlib.Omega.{arith}
@@ -11,32 +11,28 @@ use Rattle.meaning.specs.Words.{word, keys}
 use Rattle.meaning.specs.Maps.{mapEntries}
 use Rattle.meaning.specs.Parts.{coverage}
 use Rattle.meaning.specs.Tables.{classContext}
-use Rattle.meaning.specs.Cut.{cut, cutSet, classMap, classMap?, heldBy, newCoverage, retained, slots}
+use Rattle.meaning.specs.Cut.{cut, cutSet, newCoverage, slots}
 use Rattle.meaning.specs.Layout.{block, coverageWords, ruleWords, setWords}
 use Rattle.meaning.specs.Subset.{Outcome, limit, written}
 use Rattle.laws.specs.SoundGood.{coverage-up}
-use Rattle.fold.specs.Cells.{Inside, Holds, Kept, holds-kept, kept-more}
+use Rattle.fold.specs.Cells.{Holds, kept-more}
 use Rattle.fold.specs.declared.Map.{Map}
-use Rattle.area.specs.Part.{part, news, notes}
+use Rattle.area.specs.Part.{news, notes}
 use Rattle.numbers.specs.Alike.{holds-alike, set-alike}
 use Rattle.rule_sets.specs.Left.{mapsIn}
-use Rattle.rule_sets.specs.declared.Maps.{Maps}
-use Rattle.class_lists.specs.Tables.{tableAt, classesAt}
-use Rattle.class_maps.specs.Present.{present}
-use Rattle.class_slots.specs.Slots.{Ready, slotBlocks}
+use Rattle.class_slots.specs.Slots.{slotBlocks}
 use Rattle.tried.specs.Tries.{Tries, tries-less}
 use Rattle.tried.specs.declared.Tried.{Tried}
 use Rattle.tried.specs.declared.Tried.the-variants.{FewCells}
-use Rattle.class_contexts.specs.Tail.{tableBlock, tableBlocks, tailBlocks, TableIn, TailIn}
-use Rattle.class_contexts.specs.Table.{tableLeft, wordsInto}
+use Rattle.class_contexts.specs.Tail.{tableBlock, tableBlocks, tailBlocks}
+use Rattle.class_contexts.specs.Table.{wordsInto}
 use Rattle.class_contexts.specs.Written.{enoughBytes, Writes, leftIn}
 use Rattle.class_contexts.specs.Same.{Same, kept-same, part-alike, inside-same, holds-same, present-same}
-use Rattle.class_contexts.specs.Sides.{newTable, Glyphs, TableFor, Asks, SideIn, Sided, InputIn, InputLaid}
-use Rattle.class_contexts.specs.Meaning.{backAt, inputAt, aheadAt, SoundContext, tailOf, rulesMaps, blocksOf, cut-words, slots-alike}
+use Rattle.class_contexts.specs.Sides.{newTable, TableFor, Asks, SideIn, Sided, InputIn, InputLaid}
+use Rattle.class_contexts.specs.Meaning.{backAt, inputAt, aheadAt, tailOf, rulesMaps, blocksOf, cut-words, slots-alike}
 use Rattle.class_contexts.specs.Cutting.{enoughCells, preparedOf, Cuts, CutsInto}
 use Rattle.class_contexts.specs.declared.NewTable.{NewTable}
 use Rattle.class_contexts.specs.declared.Noted.{Noted}
-use Rattle.class_contexts.specs.declared.Tail.{Tail}
 use Rattle.class_contexts.specs.declared.Side.{Side}
 use Rattle.class_contexts.specs.declared.Input.{Input}
 use Rattle.class_contexts.specs.declared.Prepared.{Prepared}

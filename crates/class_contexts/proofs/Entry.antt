@@ -1,5 +1,5 @@
 -- From the check and the maps' lists to the cells of both maps, and how many cells are enough.
-use Prim.Native.Nat.{ℕ, zero, suc, _+_, _-_, _*_, _/_, _%_, _≤_, _<_}
+use Prim.Native.Nat.{ℕ, zero, suc, _+_, _-_, _*_, _/_, _≤_, _<_}
 use mathlib.Core.Path.{_≡_, refl, sym, ap, _∙_}
 use mathlib.Core.Bool.{Bool, true, false, cond, _&&_}
 use mathlib.Core.Option.{Option, none, some}
@@ -17,14 +17,14 @@ use Rattle.meaning.specs.Parts.{coverage, coverageSound, classesSound}
 use Rattle.meaning.specs.Tables.{Rule, reach, classContext}
 use Rattle.meaning.specs.Fault.{faultThrough, coverageFault, classesFault, ruleFault, setFault, headerFault, contextFault}
 use Rattle.meaning.specs.Cut.{cut, cutSet, heldBy, newCoverage, retained, slots, keepSlot, trim}
-use Rattle.meaning.specs.Layout.{block, coverageWords, ruleWords, setWords}
-use Rattle.meaning.specs.Subset.{Outcome, refused, limit, written}
+use Rattle.meaning.specs.Layout.{block, ruleWords, setWords}
+use Rattle.meaning.specs.Subset.{Outcome, limit, written}
 use Rattle.laws.specs.Runs.{both}
 use Rattle.laws.specs.Left.{entries-length}
 use Rattle.laws.specs.Through.{Opt}
 use Rattle.laws.specs.Ascends.{glyphs-ascend}
 use Rattle.laws.specs.SoundGood.{part-sound, one-good, header-good, coverage-up}
-use Rattle.fold.specs.Cells.{Holds, Kept, holds-kept}
+use Rattle.fold.specs.Cells.{Holds, holds-kept}
 use Rattle.fold.specs.Laid.{Laid}
 use Rattle.fold.specs.declared.Map.{Map}
 use Rattle.area.specs.Part.{part, news}
@@ -33,17 +33,14 @@ use Rattle.meet.specs.Met.{Met, Meets, met-news, met-count, met-few}
 use Rattle.meet.proofs.Entries.{map-rises}
 use Rattle.class_lists.specs.Tables.{classesAt, NullOrSound}
 use Rattle.class_maps.specs.SlotWalk.{trim-blocks}
-use Rattle.class_slots.specs.Sets.{slotsAt, countAt}
 use Rattle.tried.specs.Tries.{Tries, tries-less}
 use Rattle.tried.specs.declared.Tried.{Tried}
 use Rattle.tried.specs.declared.Tried.the-variants.{Became}
 use Rattle.room.specs.declared.Laid.the-variants.{Nothing}
 use Rattle.class_contexts.specs.Table.{tableOf, tableLeft, wordsInto}
 use Rattle.class_contexts.specs.Written.{enoughBytes}
-use Rattle.class_contexts.specs.Sides.{newTable, Glyphs}
-use Rattle.class_contexts.specs.Meaning.{backAt, inputAt, aheadAt, setsOf, SoundContext, tailOf, rulesMaps, cut-words}
+use Rattle.class_contexts.specs.Meaning.{inputAt, setsOf, SoundContext, rulesMaps, cut-words}
 use Rattle.class_contexts.specs.Cutting.{enoughCells, Sound, Begins, Cuts, CutsInto, Least}
-use Rattle.class_contexts.specs.declared.Noted.{Noted}
 
 -- the part that an offset leads to is sound, if the offset is not null
 slot-sound : (P : ℕ → Type 0) (s : List ℕ) (slot : ℕ) → Opt P (reach (λ (at : ℕ). at) s 0 slot) → (word s slot ≡ 0 → ⊥) → P (word s slot)

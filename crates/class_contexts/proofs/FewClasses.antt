@@ -1,8 +1,8 @@
 -- How many classes survive: no more than a class table in a source has words for, and class 0.
-use Prim.Native.Nat.{ℕ, zero, suc, _+_, _*_, _≤_, _<_}
+use Prim.Native.Nat.{ℕ, zero, suc, _+_, _≤_, _<_}
 use mathlib.Core.Path.{_≡_, refl, sym, ap, _∙_}
 use mathlib.Core.Bool.{Bool, true, false, cond, _||_, true≢false}
-use mathlib.Core.Option.{Option, none, some, Option·getD}
+use mathlib.Core.Option.{some, Option·getD}
 use mathlib.Core.List.{List, [], _∷_, _++_, map}
 use native.Mathlib.Decide.{decLt}
 use native.Mathlib.Omega.{arith}

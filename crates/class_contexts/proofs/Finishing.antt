@@ -2,13 +2,12 @@
 use Prim.Native.Nat.{ℕ, _+_, _-_, _*_, _≤_, _<_}
 use mathlib.Core.Path.{_≡_, refl, sym, ap, ap₂, _∙_, subst}
 use mathlib.Core.Bool.{Bool, true, false}
-use mathlib.Core.Option.{Option, some}
+use mathlib.Core.Option.{Option}
 use mathlib.Core.List.{List, [], _∷_, _++_, append-assoc, map}
 use native.Mathlib.Omega.{arith}
 use lib.ListN.{length, length-append, take}
 use lib.Seq.{sets, length-sets, length-take-le}
 use Rattle.meaning.specs.Words.{bytes2, words, flat}
-use Rattle.meaning.specs.Cut.{trim}
 use Rattle.meaning.specs.Layout.{offsets, blocks, setsLayout}
 use Rattle.laws.specs.Stands.{flat-length, flat-append}
 use Rattle.laws.specs.Through.{offsets-length}
@@ -23,7 +22,7 @@ use Rattle.class_slots.specs.Sets.{slotsAt, slots-near}
 use Rattle.class_slots.specs.Slots.{Noted}
 use Rattle.class_slots.specs.declared.Slots.{Slots}
 use Rattle.class_slots.proofs.Offsets.{Placed, noted-settled}
-use Rattle.class_contexts.specs.Tail.{tableBlocks, tailBlocks, Lays, Places}
+use Rattle.class_contexts.specs.Tail.{tailBlocks, Lays, Places}
 use Rattle.class_contexts.specs.Table.{Finishes, Finished}
 use Rattle.class_contexts.specs.declared.Tail.{Tail}
 

@@ -6,7 +6,7 @@ use mathlib.Core.Option.{Option, none, some}
 use mathlib.Core.List.{List, [], _∷_, _++_}
 use native.Mathlib.Decide.{decLt}
 use native.Mathlib.Omega.{arith}
-use lib.ListN.{length, length-append, take}
+use lib.ListN.{length, length-append}
 use lib.Seq.{length-take-le}
 use borrow.Author.Tests.{lt-ltb}
 use Rattle.meaning.specs.Words.{flat}
@@ -26,7 +26,7 @@ use Rattle.tried.specs.declared.Tried.the-variants.{Short, Became}
 use Rattle.room.specs.declared.Laid.the-variants.{TooBig}
 use Rattle.class_contexts.specs.Tail.{tailBlocks}
 use Rattle.class_contexts.specs.Table.{tableOf, tableLeft, wordsInto, Finishes, Finished}
-use Rattle.class_contexts.specs.Written.{enoughBytes, mostClasses, NoRoom, Writes, leftIn}
+use Rattle.class_contexts.specs.Written.{enoughBytes, NoRoom, Writes, leftIn}
 use Rattle.class_contexts.specs.declared.Prepared.{Prepared}
 use Rattle.class_contexts.proofs.Finishing.{tail-many}
 

@@ -1,27 +1,23 @@
 -- A class table that is laid into cells: its class map, and the entries of the new one.
 use Prim.Native.Nat.{ℕ, _+_, _/_, _%_, _≤_, _<_}
 use mathlib.Core.Path.{_≡_, refl, sym, ap, _∙_}
-use mathlib.Core.Bool.{true}
 use mathlib.Core.List.{List, map}
 use native.Mathlib.Omega.{arith}
 use lib.ListN.{length}
-use Rattle.meaning.specs.Words.{keys, ascends}
+use Rattle.meaning.specs.Words.{keys}
 use Rattle.meaning.specs.Maps.{mapEntries}
-use Rattle.meaning.specs.Cut.{heldBy, newCoverage}
-use Rattle.laws.specs.Runs.{Up}
-use Rattle.laws.specs.Ascends.{glyphs-ascend}
+use Rattle.meaning.specs.Cut.{heldBy}
 use Rattle.fold.specs.Cells.{Inside, Kept, kept-more}
 use Rattle.fold.specs.declared.Map.{Map}
-use Rattle.area.specs.Part.{news, notes}
+use Rattle.area.specs.Part.{notes}
 use Rattle.class_lists.specs.Tables.{classesAt}
 use Rattle.class_lists.specs.Elsewhere.{elsewhere-kept}
-use Rattle.class_maps.specs.Present.{present, present-held}
+use Rattle.class_maps.specs.Present.{present-held}
 use Rattle.class_maps.specs.Mapped.{Classes, Mapped, Entries, holds-null, classes-kept, entries-ascend}
 use Rattle.class_maps.specs.Covered.{Coverable, Covered}
 use Rattle.class_maps.specs.declared.ClassMap.{ClassMap}
-use Rattle.class_contexts.specs.Tail.{TableIn}
 use Rattle.class_contexts.specs.Same.{Same, kept-same, after-same, part-alike, holds-same, inside-same, present-same}
-use Rattle.class_contexts.specs.Sides.{Glyphs, TableFor, table-is, Asks, SideIn, Sided, InputIn, InputLaid}
+use Rattle.class_contexts.specs.Sides.{Glyphs, TableFor, table-is, Asks, Sided, InputLaid}
 use Rattle.class_contexts.specs.declared.NewTable.{NewTable}
 use Rattle.class_contexts.specs.declared.Noted.{Noted}
 use Rattle.class_contexts.specs.declared.Input.{Input}
@@ -126,13 +122,10 @@ module _ (noted : Noted) {s : List ℕ} {at : ℕ} {glyphs : List ℕ} {list : �
               side = λ y cov up told. record {
                 holds = holds-same far (c .map) (omega (arith, classes .place)) (omega arith) (classes₂ .holds);
                 held = present-same far (c .map) (omega (arith, classes .place)) (omega arith) ∙ present-held (mapEntries glyphs) (classesAt s at) (classes₂ .direct) (classes₂ .holds);
-                count = c-count;
+                count = classes .count;
                 inside = inside-same far marks (omega (arith, classes .place)) (omega arith) (v .direct .inside);
                 marked = present-same far marks (omega (arith, classes .place)) (omega arith)
                     ∙ v .classes (classesAt s at) cov (classes .lists) up (ap (map (λ x. x % 65536)) (part-alike (kept-same first) (noted .at) (noted .len) (omega arith) (omega arith)) ∙ told);
                 table = entered (a .map) classes₂ e;
               };
             }
-          where
-            c-count : c .count ≡ length (heldBy (classesAt s at) (keys (mapEntries glyphs)))
-            c-count = classes .count

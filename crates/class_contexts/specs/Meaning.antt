@@ -13,7 +13,7 @@ use Rattle.meaning.specs.Tables.{Table, Rule, reach, reaches, ruleSet, classCon
 use Rattle.meaning.specs.Fault.{ruleFault, setFault}
 use Rattle.meaning.specs.Cut.{RuleMaps, cut, cutSet, heldBy, classMap, classMap?, newClasses?, newCoverage, retained, slots, trim, keptByClass}
 use Rattle.meaning.specs.Layout.{block, coverageWords, classWords, ruleWords, setWords, tableWords, layout}
-use Rattle.meaning.specs.Subset.{Outcome, refused, limit, laidInto, written}
+use Rattle.meaning.specs.Subset.{refused, limit, written}
 use Rattle.class_lists.specs.Tables.{tableAt, classesAt, NullOrSound, table-there}
 use Rattle.class_maps.specs.SlotWalk.{trim-blocks}
 use Rattle.class_slots.specs.Sets.{slotsAt, countAt}

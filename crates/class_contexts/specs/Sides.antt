@@ -2,14 +2,14 @@
 use Prim.Native.Nat.{ℕ, _+_, _/_, _≤_, _<_}
 use mathlib.Core.Path.{_≡_, refl, sym, ap, _∙_}
 use mathlib.Core.Bool.{Bool, true, false}
-use mathlib.Core.Option.{Option, none, some}
+use mathlib.Core.Option.{Option, some}
 use mathlib.Core.List.{List}
 use lib.ListN.{length}
 use lib.Dec.{eqb}
 use borrow.Author.Tests.{eqb-true, eqb-false}
 use Rattle.meaning.specs.Words.{keys}
 use Rattle.meaning.specs.Maps.{mapEntries, goodGlyphs}
-use Rattle.meaning.specs.Parts.{classes, listed}
+use Rattle.meaning.specs.Parts.{classes}
 use Rattle.meaning.specs.Cut.{heldBy, classMap, classMap?, newClasses, newClasses?, newCoverage, retained}
 use Rattle.meaning.specs.Layout.{block, classWords}
 use Rattle.laws.specs.Runs.{Up}

@@ -13,7 +13,7 @@ use Rattle.area.specs.Part.{part}
 use Rattle.class_slots.specs.Sets.{slotsAt}
 use Rattle.class_slots.specs.Slots.{Noted}
 use Rattle.class_slots.specs.declared.Slots.{Slots}
-use Rattle.class_contexts.specs.Tail.{tailBlocks, TailIn}
+use Rattle.class_contexts.specs.Tail.{TailIn}
 use Rattle.class_contexts.specs.declared.Tail.{Tail}
 
 -- the words of the table of these slots, with what follows them; none if no slot is left

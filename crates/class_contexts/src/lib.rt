@@ -126,14 +126,7 @@ fn write_tables(
 }
 
 // The coverage and the class tables: their offsets, less by the gap, from 2 on, and themselves from `p` on; the place after them.
-fn write_tail(
-    chained: bool,
-    t: &[u32],
-    tail: Tail,
-    area: &mut [u8],
-    gap: usize,
-    p: usize,
-) -> usize
+fn write_tail(chained: bool, t: &[u32], tail: Tail, area: &mut [u8], gap: usize, p: usize) -> usize
     requires { ⌜ TailIn (now t) tail × Places (now area) 2 4 gap p × (p ≤ length (now area)) ⌝ }
     ensures { λ r. ⌜ Lays (now (area .entry)) 2 gap p (tailBlocks chained (now (t .entry)) tail) (now (area .exit)) r ⌝ }
 {
@@ -186,7 +179,15 @@ fn write_context(
     ensures { λ r. ⌜ Tries ⊥ (length (now (area .entry)) < enoughBytes) r (now (out .entry)) (now (out .exit)) (wordsInto (now (out .entry)) (leftIn chained (now (src .entry)) (now (t .entry)) prepared)) ⌝ }
 {
     let classes = prepared.classes;
-    let slots = write_slots(chained, src, t, prepared.maps, prepared.marks, classes, area);
+    let slots = write_slots(
+        chained,
+        src,
+        t,
+        prepared.maps,
+        prepared.marks,
+        classes,
+        area,
+    );
     if area.len() < slots.end {
         return no_room(area);
     }
