@@ -248,10 +248,14 @@ fn crowded(src: &[u8], slot: usize, n: usize) -> bool
 const PLACES: usize = 65536;
 
 // Whether no record of the rules of `n` sets, whose offsets stand from `slot` on, points past its rule, where the sets share rules: each rule is asked once.
-fn shared_within(chained: bool, src: &[u8], slot: usize, n: usize) -> bool
+// It calls itself, so that the compiler keeps its marks out of its caller's frame: small tables would pay for probing their pages. How often it does, `rounds`, is 0, since slots stand at even places.
+fn shared_within(chained: bool, src: &[u8], slot: usize, n: usize, rounds: usize) -> bool
     requires { ⌜ (slot < 65536) × (n < 65536) ⌝ }
     ensures { λ r. ⌜ r ≡ setsWithin (reaches (ruleSet chained (now (src .entry))) (now (src .entry)) 0 slot n) ⌝ }
 {
+    if rounds != 0 {
+        return shared_within(chained, src, slot, n, rounds - 1);
+    }
     let mut marks = [0u8; PLACES];
     gsubgpos::sets_within(chained, src, slot, n, &mut marks)
 }
@@ -262,7 +266,7 @@ fn sets_within(chained: bool, src: &[u8], slot: usize, n: usize) -> bool
     ensures { λ r. ⌜ r ≡ setsWithin (reaches (ruleSet chained (now (src .entry))) (now (src .entry)) 0 slot n) ⌝ }
 {
     if crowded(src, slot, n) {
-        return shared_within(chained, src, slot, n);
+        return shared_within(chained, src, slot, n, slot % 2);
     }
     let mut no_marks = [0u8; 1];
     gsubgpos::sets_within(chained, src, slot, n, &mut no_marks)
