@@ -16,7 +16,7 @@ use Rattle.laws.specs.SoundGood.{reaches-length}
 use Rattle.gsubgpos.specs.Within.{Marked}
 
 -- what is read of zeros
-zeros-read : (n j : ℕ) → _≡_ {A = ℕ} (getD (replicate n 0) j 0) 0
+pub zeros-read : (n j : ℕ) → _≡_ {A = ℕ} (getD (replicate n 0) j 0) 0
 zeros-read n j = step (decLt j n)
   where
     step : Dec (j < n) → _≡_ {A = ℕ} (getD (replicate n 0) j 0) 0
