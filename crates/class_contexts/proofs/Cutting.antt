@@ -24,18 +24,18 @@ use Rattle.class_slots.specs.Slots.{slotBlocks}
 use Rattle.tried.specs.Tries.{Tries, tries-less}
 use Rattle.tried.specs.declared.Tried.{Tried}
 use Rattle.tried.specs.declared.Tried.the-variants.{FewCells}
-use Rattle.class_contexts.specs.Tail.{tableBlock, tableBlocks, tailBlocks}
-use Rattle.class_contexts.specs.Table.{wordsInto}
-use Rattle.class_contexts.specs.Written.{enoughBytes, Writes, leftIn}
+use Rattle.class_layouts.specs.Tail.{tableBlock, tableBlocks, tailBlocks}
+use Rattle.class_layouts.specs.Table.{wordsInto}
+use Rattle.class_layouts.specs.Written.{enoughBytes, Writes, leftIn}
 use Rattle.class_contexts.specs.Same.{Same, kept-same, part-alike, inside-same, holds-same, present-same}
 use Rattle.class_contexts.specs.Sides.{newTable, TableFor, Asks, SideIn, Sided, InputIn, InputLaid}
 use Rattle.class_contexts.specs.Meaning.{backAt, inputAt, aheadAt, tailOf, rulesMaps, blocksOf, cut-words, slots-alike}
 use Rattle.class_contexts.specs.Cutting.{enoughCells, preparedOf, Cuts, CutsInto}
-use Rattle.class_contexts.specs.declared.NewTable.{NewTable}
-use Rattle.class_contexts.specs.declared.Noted.{Noted}
+use Rattle.class_layouts.specs.declared.NewTable.{NewTable}
+use Rattle.class_layouts.specs.declared.Noted.{Noted}
 use Rattle.class_contexts.specs.declared.Side.{Side}
 use Rattle.class_contexts.specs.declared.Input.{Input}
-use Rattle.class_contexts.specs.declared.Prepared.{Prepared}
+use Rattle.class_layouts.specs.declared.Prepared.{Prepared}
 use Rattle.class_contexts.proofs.FewClasses.{classes-few}
 
 -- What stands in cells stays where only cells behind it change.

@@ -37,8 +37,8 @@ use Rattle.tried.specs.Tries.{Tries, tries-less}
 use Rattle.tried.specs.declared.Tried.{Tried}
 use Rattle.tried.specs.declared.Tried.the-variants.{Became}
 use Rattle.room.specs.declared.Laid.the-variants.{Nothing}
-use Rattle.class_contexts.specs.Table.{tableOf, tableLeft, wordsInto}
-use Rattle.class_contexts.specs.Written.{enoughBytes}
+use Rattle.class_layouts.specs.Table.{tableOf, tableLeft, wordsInto}
+use Rattle.class_layouts.specs.Written.{enoughBytes}
 use Rattle.class_contexts.specs.Meaning.{inputAt, setsOf, SoundContext, rulesMaps, cut-words}
 use Rattle.class_contexts.specs.Cutting.{enoughCells, Sound, Begins, Cuts, CutsInto, Least}
 

@@ -17,13 +17,13 @@ use Rattle.fold.specs.declared.Map.{Map}
 use Rattle.area.specs.Part.{news}
 use Rattle.tried.specs.Tries.{Tries}
 use Rattle.tried.specs.declared.Tried.{Tried}
-use Rattle.class_contexts.specs.Written.{enoughBytes}
+use Rattle.class_layouts.specs.Written.{enoughBytes}
 use Rattle.class_contexts.specs.Sides.{Glyphs}
 use Rattle.class_contexts.specs.Meaning.{inputAt, SoundContext}
-use Rattle.class_contexts.specs.declared.Noted.{Noted}
+use Rattle.class_layouts.specs.declared.Noted.{Noted}
 use Rattle.class_contexts.specs.declared.Side.{Side}
 use Rattle.class_contexts.specs.declared.Input.{Input}
-use Rattle.class_contexts.specs.declared.Prepared.{Prepared}
+use Rattle.class_layouts.specs.declared.Prepared.{Prepared}
 
 -- cells that are enough for any source: two maps and a note for each glyph; three class maps, each with a class for each glyph; and marks
 abbrev pub enoughCells : ℕ

@@ -1,6 +1,3 @@
-pub mod Tail
-pub mod Table
-pub mod Written
 pub mod Same
 pub mod Sides
 pub mod Meaning

@@ -17,7 +17,7 @@ use Rattle.meaning.specs.Subset.{refused, limit, written}
 use Rattle.class_lists.specs.Tables.{tableAt, classesAt, NullOrSound, table-there}
 use Rattle.class_maps.specs.SlotWalk.{trim-blocks}
 use Rattle.class_slots.specs.Sets.{slotsAt, countAt}
-use Rattle.class_contexts.specs.Table.{tableOf, tableLeft, wordsInto}
+use Rattle.class_layouts.specs.Table.{tableOf, tableLeft, wordsInto}
 use Rattle.class_contexts.specs.Sides.{newTable}
 
 -- where the class tables of backtrack, input and lookahead stand; 0 is none

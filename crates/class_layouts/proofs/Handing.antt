@@ -24,11 +24,11 @@ use Rattle.tried.specs.Tries.{Tries}
 use Rattle.tried.specs.declared.Tried.{Tried}
 use Rattle.tried.specs.declared.Tried.the-variants.{Short, Became}
 use Rattle.room.specs.declared.Laid.the-variants.{TooBig}
-use Rattle.class_contexts.specs.Tail.{tailBlocks}
-use Rattle.class_contexts.specs.Table.{tableOf, tableLeft, wordsInto, Finishes, Finished}
-use Rattle.class_contexts.specs.Written.{enoughBytes, NoRoom, Writes, leftIn}
-use Rattle.class_contexts.specs.declared.Prepared.{Prepared}
-use Rattle.class_contexts.proofs.Finishing.{tail-many}
+use Rattle.class_layouts.specs.Tail.{tailBlocks}
+use Rattle.class_layouts.specs.Table.{tableOf, tableLeft, wordsInto, Finishes, Finished}
+use Rattle.class_layouts.specs.Written.{enoughBytes, NoRoom, Writes, leftIn}
+use Rattle.class_layouts.specs.declared.Prepared.{Prepared}
+use Rattle.class_layouts.proofs.Finishing.{tail-many}
 
 -- no room
 pub too-short : {n : ℕ} → n < 262144 → NoRoom n Short

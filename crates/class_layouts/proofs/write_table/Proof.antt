@@ -1,7 +1,7 @@
-use Rattle.class_contexts.proofs.Laying.{lays-over, table-null, table-there}
+use Rattle.class_layouts.proofs.Laying.{lays-over, table-null, table-there}
 use borrow.Author.Needs.{needs}
-use Rattle.class_contexts.proofs.write_table.Statement.{statement}
-use Rattle.class_contexts.proofs.write_table.Tie as tie
+use Rattle.class_layouts.proofs.write_table.Statement.{statement}
+use Rattle.class_layouts.proofs.write_table.Tie as tie
 
 returns : tie.Need-returns
 returns c = lays-over _ (c .if1 .taken)

@@ -1,8 +1,8 @@
-use Rattle.class_contexts.proofs.Laying.{lays-one, places-next, tail-laid}
+use Rattle.class_layouts.proofs.Laying.{lays-one, places-next, tail-laid}
 use native.Mathlib.Omega.{arith}
 use borrow.Author.Needs.{needs}
-use Rattle.class_contexts.proofs.write_tail.Statement.{statement}
-use Rattle.class_contexts.proofs.write_tail.Tie as tie
+use Rattle.class_layouts.proofs.write_tail.Statement.{statement}
+use Rattle.class_layouts.proofs.write_tail.Tie as tie
 
 write-tables-requires : tie.Need-write-tables-requires
 write-tables-requires c κs = (c .before .before .before .before .before .before .before .before .before .before .before .pre .0, places-next 4 3 (c .before .before .before .before .before .before .before .before .before .before .before .pre .1) (lays-one _ (c .before .before .before .before .before .before .before .put .ensures .1) (c .before .before .before .write-cover .ensures)) (omega arith))

@@ -13,8 +13,8 @@ use Rattle.area.specs.Part.{part}
 use Rattle.class_slots.specs.Sets.{slotsAt}
 use Rattle.class_slots.specs.Slots.{Noted}
 use Rattle.class_slots.specs.declared.Slots.{Slots}
-use Rattle.class_contexts.specs.Tail.{TailIn}
-use Rattle.class_contexts.specs.declared.Tail.{Tail}
+use Rattle.class_layouts.specs.Tail.{TailIn}
+use Rattle.class_layouts.specs.declared.Tail.{Tail}
 
 -- the words of the table of these slots, with what follows them; none if no slot is left
 unfoldable pub tableOf : List (Option (List ℕ)) → List (Option (List ℕ)) → Option (List ℕ)

@@ -1,9 +1,9 @@
 use Rattle.class_slots.specs.Sets.{slots-near}
-use Rattle.class_contexts.proofs.Finishing.{tail-places, finish-table}
+use Rattle.class_layouts.proofs.Finishing.{tail-places, finish-table}
 use native.Mathlib.Omega.{arith}
 use borrow.Author.Needs.{needs}
-use Rattle.class_contexts.proofs.finish.Statement.{statement}
-use Rattle.class_contexts.proofs.finish.Tie as tie
+use Rattle.class_layouts.proofs.finish.Statement.{statement}
+use Rattle.class_layouts.proofs.finish.Tie as tie
 
 settle-requires : tie.Need-settle-requires
 settle-requires c κs = let p = c .before .before .before .before .pre in

@@ -9,9 +9,9 @@ use Rattle.meaning.specs.Subset.{Outcome, refused}
 use Rattle.class_slots.specs.Slots.{Ready, slotBlocks}
 use Rattle.tried.specs.Tries.{Tries}
 use Rattle.tried.specs.declared.Tried.{Tried}
-use Rattle.class_contexts.specs.Tail.{tailBlocks, TailIn}
-use Rattle.class_contexts.specs.Table.{tableLeft}
-use Rattle.class_contexts.specs.declared.Prepared.{Prepared}
+use Rattle.class_layouts.specs.Tail.{tailBlocks, TailIn}
+use Rattle.class_layouts.specs.Table.{tableLeft}
+use Rattle.class_layouts.specs.declared.Prepared.{Prepared}
 
 -- bytes that are enough for any source: where they are too few, the layout is over the limit
 abbrev pub enoughBytes : ℕ

@@ -1,9 +1,9 @@
-use Rattle.class_contexts.proofs.Laying.{places-next, tables-plain, tables-chained}
+use Rattle.class_layouts.proofs.Laying.{places-next, tables-plain, tables-chained}
 use borrow.Author.Tests.{not-true, not-false}
 use native.Mathlib.Omega.{arith}
 use borrow.Author.Needs.{needs}
-use Rattle.class_contexts.proofs.write_tables.Statement.{statement}
-use Rattle.class_contexts.proofs.write_tables.Tie as tie
+use Rattle.class_layouts.proofs.write_tables.Statement.{statement}
+use Rattle.class_layouts.proofs.write_tables.Tie as tie
 
 returns : tie.Need-returns
 returns c = tables-plain (c .before .before .before .before .before .before .before .args .t .now) (c .before .before .before .before .before .before .before .args .tail) (c .before .before .before .before .before .before .before .pre .1) (c .before .before .write-table .ensures) (c .before .before .before .before .before .before .before .args .chained) (not-true _ (c .before .before .before .before .if1 .taken))

@@ -22,9 +22,9 @@ use Rattle.class_slots.specs.Sets.{slotsAt, slots-near}
 use Rattle.class_slots.specs.Slots.{Noted}
 use Rattle.class_slots.specs.declared.Slots.{Slots}
 use Rattle.class_slots.proofs.Offsets.{Placed, noted-settled}
-use Rattle.class_contexts.specs.Tail.{tailBlocks, Lays, Places}
-use Rattle.class_contexts.specs.Table.{Finishes, Finished}
-use Rattle.class_contexts.specs.declared.Tail.{Tail}
+use Rattle.class_layouts.specs.Tail.{tailBlocks, Lays, Places}
+use Rattle.class_layouts.specs.Table.{Finishes, Finished}
+use Rattle.class_layouts.specs.declared.Tail.{Tail}
 
 -- the slots follow the format, what the header says of the coverage and the class tables, and the count
 pub tail-many : (chained : Bool) (t : List ℕ) (tail : Tail) → slotsAt chained ≡ 4 + 2 * length (tailBlocks chained t tail)

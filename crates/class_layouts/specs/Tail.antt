@@ -12,8 +12,8 @@ use Rattle.meaning.specs.Words.{flat, keys, ascends}
 use Rattle.meaning.specs.Layout.{offsets, blocks, coverageWords, classWords}
 use Rattle.area.specs.Extends.{Extends}
 use Rattle.area.specs.Part.{news, notes}
-use Rattle.class_contexts.specs.declared.NewTable.{NewTable}
-use Rattle.class_contexts.specs.declared.Tail.{Tail}
+use Rattle.class_layouts.specs.declared.NewTable.{NewTable}
+use Rattle.class_layouts.specs.declared.Tail.{Tail}
 
 -- the block of a new class table, whose entries are noted in cells; null if the old one is
 unfoldable pub tableBlock : List ℕ → NewTable → Option (List ℕ)

@@ -16,9 +16,9 @@ use Rattle.laws.specs.Written.{sets-flat, flat-one}
 use Rattle.area.specs.Extends.{Extends, Tried, extends-none, extends-more, extends-said}
 use Rattle.area.specs.Part.{news, notes}
 use Rattle.area.specs.Stored.{extends-store}
-use Rattle.class_contexts.specs.Tail.{tableBlock, tableBlocks, tailBlocks, block-null, block-there, Lays, Places}
-use Rattle.class_contexts.specs.declared.NewTable.{NewTable}
-use Rattle.class_contexts.specs.declared.Tail.{Tail}
+use Rattle.class_layouts.specs.Tail.{tableBlock, tableBlocks, tailBlocks, block-null, block-there, Lays, Places}
+use Rattle.class_layouts.specs.declared.NewTable.{NewTable}
+use Rattle.class_layouts.specs.declared.Tail.{Tail}
 
 module _ {before : List ℕ} {slot gap p : ℕ} where
   -- past the area nothing is written

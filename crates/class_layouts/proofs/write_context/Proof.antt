@@ -1,10 +1,10 @@
 use Rattle.class_slots.specs.Sets.{slots-near}
-use Rattle.class_contexts.proofs.Handing.{room-told, short-slots, none-left, may-finish, short-table, first-near, table-laid}
+use Rattle.class_layouts.proofs.Handing.{room-told, short-slots, none-left, may-finish, short-table, first-near, table-laid}
 use mathlib.Core.Path.{_∙_}
 use native.Mathlib.Omega.{arith}
 use borrow.Author.Needs.{needs}
-use Rattle.class_contexts.proofs.write_context.Statement.{statement}
-use Rattle.class_contexts.proofs.write_context.Tie as tie
+use Rattle.class_layouts.proofs.write_context.Statement.{statement}
+use Rattle.class_layouts.proofs.write_context.Tie as tie
 
 returns : tie.Need-returns
 returns c = room-told (c .no-room .ensures) (c .before .before .before .before .before .before .write-slots .ensures .same) (short-slots (c .before .before .before .before .before .before .before .before .before .before .before .before .pre) (c .before .before .before .before .before .before .write-slots .ensures) (c .before .before .before .before .before .before .before .before .before .before .before .before .args .out .now) (c .before .before .if1 .taken))
