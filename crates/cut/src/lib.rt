@@ -216,6 +216,14 @@ fn in_size(
     }
 }
 
+// Whether a source of this kind is a context by coverages.
+fn by_covers(kind: usize, src: &[u8]) -> bool {
+    if 2 < kind {
+        return false;
+    }
+    word_at(src, 0) == 3
+}
+
 // How many cells the cut is likely to use; no more than a guess, which saves the clearing of scratch.
 fn likely_cells(kind: usize, src: &[u8], glyphs: &[u8], lookups: &[u8]) -> usize {
     let n = glyphs.len() / 4;
@@ -226,8 +234,11 @@ fn likely_cells(kind: usize, src: &[u8], glyphs: &[u8], lookups: &[u8]) -> usize
     in_maps
 }
 
-// How many bytes of area it is likely to use: not much more than the source has, and not more than some for each glyph.
-fn likely_bytes(src: &[u8], glyphs: &[u8]) -> usize {
+// How many bytes of area it is likely to use: not much more than the source has, and not more than some for each glyph, few where all that it holds of glyphs is coverages.
+fn likely_bytes(kind: usize, src: &[u8], glyphs: &[u8]) -> usize {
+    if by_covers(kind, src) {
+        return 2 * (glyphs.len() / 4) + 512;
+    }
     if glyphs.len() < src.len() / 32 {
         return 32 * glyphs.len();
     }
@@ -245,7 +256,7 @@ fn within(cells: usize, bytes: usize, most_cells: usize, most_bytes: usize) -> b
 // The size to begin with, as `in_size` has them, or 3 for the largest.
 fn likely_size(kind: usize, src: &[u8], glyphs: &[u8], lookups: &[u8]) -> usize {
     let cells = likely_cells(kind, src, glyphs, lookups);
-    let bytes = likely_bytes(src, glyphs);
+    let bytes = likely_bytes(kind, src, glyphs);
     if within(cells, bytes, LITTLE_CELLS, LITTLE_BYTES) {
         return 0;
     }
