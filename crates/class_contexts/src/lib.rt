@@ -4,7 +4,7 @@ use class_layouts::NewTable;
 use class_layouts::Noted;
 use class_layouts::Prepared;
 use class_layouts::Tail;
-use class_layouts::write_context;
+use class_layouts::write_left;
 use class_maps::class_map;
 use class_maps::mark_covered;
 use class_maps::new_entries;
@@ -201,7 +201,7 @@ fn cut_noted(
         return Tried::FewCells;
     }
     let prepared = prepare(l, noted, input, back, ahead);
-    write_context(chained, src, t, prepared, area, out)
+    write_left(chained, src, t, prepared, glyphs.len() % 4, area, out)
 }
 
 // What is left of a sound context, with both maps in cells, handed over if there is room.

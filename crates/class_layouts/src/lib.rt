@@ -8,12 +8,17 @@ use class_slots::settle;
 use class_slots::slots_at;
 use class_slots::write_slots;
 use fold::Map;
+use member_sets::crowded;
+use room::LIMIT;
 use room::Laid;
 use rule_sets::Maps;
 use tried::Tried;
+use wire::word_at;
 ghost use mathlib.Core.List.{[], _∷_};
 ghost use Prim.Native.Nat.{_+_, _*_, _≤_, _<_};
 ghost use lib.ListN.{length};
+ghost use Rattle.member_sets.specs.Dead.{Dead};
+ghost use Rattle.rule_sets.specs.Left.{mapsIn, ruleLeft};
 ghost use Rattle.tried.specs.Tries.{Tries};
 ghost use Rattle.class_layouts.specs.Tail.{tableBlock, tableBlocks, tailBlocks, TableIn, TailIn, Lays, Places};
 ghost use Rattle.class_layouts.specs.Table.{wordsInto, Finishes, Finished};
@@ -135,16 +140,17 @@ fn no_room(area: &[u8]) -> Tried
     Tried::Became(Laid::TooBig)
 }
 
-// What is left of a context, of which the cells hold what is needed, written into the area and handed over if there is room.
-pub fn write_context(
+// What is left of a context, of which the cells hold what is needed, written into the area and handed over if there is room. `dead` has marks at the places of rules that are known to go.
+fn write_context(
     chained: bool,
     src: &[u8],
     t: &[u32],
     prepared: Prepared,
+    dead: &mut [u8],
     area: &mut [u8],
     out: &mut [u8],
 ) -> Tried
-    requires { ⌜ Writes chained (now src) (now t) prepared (now area) ⌝ }
+    requires { ⌜ Writes chained (now src) (now t) prepared (now area) × Dead (ruleLeft chained (mapsIn (now t) (prepared .maps)) (now src)) (now dead) ⌝ }
     ensures { λ r. ⌜ Tries ⊥ (length (now (area .entry)) < enoughBytes) r (now (out .entry)) (now (out .exit)) (wordsInto (now (out .entry)) (leftIn chained (now (src .entry)) (now (t .entry)) prepared)) ⌝ }
 {
     let classes = prepared.classes;
@@ -155,6 +161,7 @@ pub fn write_context(
         prepared.maps,
         prepared.marks,
         classes,
+        dead,
         area,
     );
     if area.len() < slots.end {
@@ -169,4 +176,46 @@ pub fn write_context(
     }
     let at = slots_at(chained);
     Tried::Became(hand_over(area, at + 2 * slots.count, at + 2 * classes, end, out))
+}
+
+// The same where the sets share rules, with a place for a mark at each byte that a source can have.
+// It calls itself, so that the compiler keeps its large array out of its caller's frame: the small job would pay for it, and docs/SPEED.md says how much. How often it does, `rounds`, is 0 for a map of whole entries.
+fn write_crowded(
+    chained: bool,
+    src: &[u8],
+    t: &[u32],
+    prepared: Prepared,
+    rounds: usize,
+    area: &mut [u8],
+    out: &mut [u8],
+) -> Tried
+    requires { ⌜ Writes chained (now src) (now t) prepared (now area) ⌝ }
+    ensures { λ r. ⌜ Tries ⊥ (length (now (area .entry)) < enoughBytes) r (now (out .entry)) (now (out .exit)) (wordsInto (now (out .entry)) (leftIn chained (now (src .entry)) (now (t .entry)) prepared)) ⌝ }
+{
+    if rounds != 0 {
+        return write_crowded(chained, src, t, prepared, rounds - 1, area, out);
+    }
+    let mut dead = [0u8; LIMIT];
+    write_context(chained, src, t, prepared, &mut dead, area, out)
+}
+
+// The same with a memory of the rules that go, if the sets share rules, and else with none to speak of.
+pub fn write_left(
+    chained: bool,
+    src: &[u8],
+    t: &[u32],
+    prepared: Prepared,
+    rounds: usize,
+    area: &mut [u8],
+    out: &mut [u8],
+) -> Tried
+    requires { ⌜ Writes chained (now src) (now t) prepared (now area) ⌝ }
+    ensures { λ r. ⌜ Tries ⊥ (length (now (area .entry)) < enoughBytes) r (now (out .entry)) (now (out .exit)) (wordsInto (now (out .entry)) (leftIn chained (now (src .entry)) (now (t .entry)) prepared)) ⌝ }
+{
+    let slots = slots_at(chained);
+    if crowded(src, slots, word_at(src, slots - 2)) {
+        return write_crowded(chained, src, t, prepared, rounds, area, out);
+    }
+    let mut dead = [0u8; 1];
+    write_context(chained, src, t, prepared, &mut dead, area, out)
 }
