@@ -1,11 +1,11 @@
 -- The sorts of sets: what is left of one, and what stands around them.
 use Prim.Native.Nat.{ℕ, zero, suc, _+_, _*_, _<_, _≤_}
 use mathlib.Core.Path.{_≡_, refl, ap}
-use mathlib.Core.Bool.{Bool}
+use mathlib.Core.Bool.{Bool, true, false, true≢false}
 use mathlib.Core.Option.{Option, none, some}
 use mathlib.Core.List.{List, [], _∷_}
 use native.Mathlib.Omega.{arith}
-use lib.ListN.{length}
+use lib.ListN.{length, replicate}
 use Rattle.meaning.specs.Words.{word, inside, mapSome, upFrom}
 use Rattle.meaning.specs.Tables.{fieldCount, ruleSet, ligatureSet}
 use Rattle.meaning.specs.Fault.{ruleFault, ligatureFault, setFault, pairSetFault}
@@ -20,10 +20,12 @@ use Rattle.numbers.specs.Entries.{entryIn, entriesIn}
 use Rattle.numbers.specs.Leaves.{Leaves, leaves-said}
 use Rattle.member_sets.specs.Sets.{setMost}
 use Rattle.member_sets.specs.Sound.{inside-is}
+use Rattle.member_sets.specs.Dead.{Dead, dead-none}
+use Rattle.ligatures.specs.Left.{ligatureLeft}
 use Rattle.pair_sets.specs.Pairs.{Places, pairsLeft, pairsMost}
 use Rattle.pair_sets.specs.Formats.{pairSize, placesOf, places-inside}
 use Rattle.pair_sets.specs.declared.Formats.{Formats}
-use Rattle.rule_sets.specs.Left.{AllInside, mapsIn}
+use Rattle.rule_sets.specs.Left.{AllInside, mapsIn, ruleLeft}
 use Rattle.rule_sets.specs.declared.Maps.{Maps}
 use Rattle.kept_sets.specs.declared.Sort.{Sort}
 use Rattle.kept_sets.specs.declared.Sort.the-variants.{Rules, Ligatures, Pairs}
@@ -50,10 +52,20 @@ setLeft (Rules chained) m s at = block (setWords (ruleWords chained)) (cutSet ch
 setLeft Ligatures m s at = block (setWords ligatureWords) (cutLigatures (m .input) (ligatureSet s at))
 setLeft (Pairs f) m s at = pairsLeft (m .input) s (pairSize (f .f1) (f .f2)) (placesOf (f .f1) (f .f2) (f .n1) (f .n2)) at
 
--- What the writer of pair sets is told besides: how long a pair record is, and the places of the fields that stay.
-pub record Told (sort : Sort) (places : List ℕ) : Type 0 where
-  pub size : {f : Formats} → sort ≡ Pairs f → f .size ≡ pairSize (f .f1) (f .f2)
-  pub fields : {f : Formats} → sort ≡ Pairs f → places ≡ placesOf (f .f1) (f .f2) (f .n1) (f .n2)
+-- What the writer of sets is told besides, in bytes: of rules and of ligatures, which are known to go; of pairs the places of the fields that stay, and their formats say how long a record is.
+unfoldable pub toldOf : Sort → RuleMaps → List ℕ → List ℕ → Type 0
+toldOf (Rules chained) m s told = Dead (ruleLeft chained m s) told
+toldOf Ligatures m s told = Dead (ligatureLeft (m .input) s) told
+toldOf (Pairs f) m s told = (f .size ≡ pairSize (f .f1) (f .f2)) × (told ≡ placesOf (f .f1) (f .f2) (f .n1) (f .n2))
+
+pub record Told (sort : Sort) (m : RuleMaps) (s told : List ℕ) : Type 0 where
+  pub is : toldOf sort m s told
+
+-- whether a sort has value formats
+abbrev pub isPairs : Sort → Bool
+isPairs (Rules chained) = false
+isPairs Ligatures = false
+isPairs (Pairs f) = true
 
 -- the same under the maps that cells hold
 abbrev pub leftIn : Sort → List ℕ → Maps → List ℕ → ℕ → Option (List ℕ)
@@ -92,9 +104,44 @@ unfolding pairsMost mostOf wordsLeft wordsIn
 pairs-most none places s h l = omega arith
 pairs-most (some ws) places s h l = omega arith
 
--- the places of the fields lie inside a pair record
-pub pairs-places : {sort : Sort} {places : List ℕ} {f : Formats} → Told sort places → sort ≡ Pairs f → Places places (f .size)
-pairs-places {f = f} t e = rw (t .fields e, t .size e) (places-inside (f .f1) (f .f2) (f .n1) (f .n2))
+-- zeros say that no member is known to go
+pub told-none : (sort : Sort) {m : RuleMaps} {s : List ℕ} (n : ℕ) → isPairs sort ≡ false → Told sort m s (replicate n 0)
+unfolding toldOf
+told-none (Rules chained) n e = record { is = dead-none n }
+told-none Ligatures n e = record { is = dead-none n }
+told-none (Pairs f) n e = absurd (true≢false e)
+
+pub told-pairs : {f : Formats} {m : RuleMaps} {s told : List ℕ} → f .size ≡ pairSize (f .f1) (f .f2) → told ≡ placesOf (f .f1) (f .f2) (f .n1) (f .n2) → Told (Pairs f) m s told
+unfolding toldOf
+told-pairs e p = record { is = (e, p) }
+
+-- The code asks for the sort: what the writer of its sets is told.
+module _ {sort : Sort} {m : RuleMaps} {s told : List ℕ} where
+  pub rules-known : {chained : Bool} → sort ≡ Rules chained → Told sort m s told → Dead (ruleLeft chained m s) told
+  unfolding toldOf
+  rules-known e h = rw e at (h .is)
+
+  pub rules-told : {chained : Bool} → sort ≡ Rules chained → Dead (ruleLeft chained m s) told → Told sort m s told
+  unfolding toldOf
+  rules-told e h = record { is = rw e h }
+
+  pub ligatures-known : sort ≡ Ligatures → Told sort m s told → Dead (ligatureLeft (m .input) s) told
+  unfolding toldOf
+  ligatures-known e h = rw e at (h .is)
+
+  pub ligatures-told : sort ≡ Ligatures → Dead (ligatureLeft (m .input) s) told → Told sort m s told
+  unfolding toldOf
+  ligatures-told e h = record { is = rw e h }
+
+  pub pairs-known : {f : Formats} → sort ≡ Pairs f → Told sort m s told → (f .size ≡ pairSize (f .f1) (f .f2)) × (told ≡ placesOf (f .f1) (f .f2) (f .n1) (f .n2))
+  unfolding toldOf
+  pairs-known e h = rw e at (h .is)
+
+  -- the places of the fields lie inside a pair record
+  pub pairs-places : {f : Formats} → sort ≡ Pairs f → Told sort m s told → Places told (f .size)
+  pairs-places {f} e h =
+      let t = pairs-known e h in
+      rw (t .1, t .0) (places-inside (f .f1) (f .f2) (f .n1) (f .n2))
 
 -- The code asks for the sort: what the check says of a set of each sort, and what its writer leaves.
 module _ {sort : Sort} (s : List ℕ) (at : ℕ) where
@@ -156,3 +203,10 @@ module _ {at : ℕ} {t₀ t : List ℕ} (k : Kept at t₀ t) where
 
   pub inside-kept : {m : Maps} → AllInside t₀ m → AllInside t m
   inside-kept i = record { back = inside-as (i .back); input = inside-as (i .input); ahead = inside-as (i .ahead); lookups = inside-as (i .lookups) }
+
+  -- and so does what the writer of sets is told
+  pub told-kept : (sort : Sort) {m : Maps} → AllBefore m at → {s told : List ℕ} → Told sort (mapsIn t m) s told → Told sort (mapsIn t₀ m) s told
+  told-kept sort {m} b h = rw (entries-kept (m .back) (b .back), entries-kept (m .input) (b .input), entries-kept (m .ahead) (b .ahead), entries-kept (m .lookups) (b .lookups)) at h
+
+  pub told-still : (sort : Sort) {m : Maps} → AllBefore m at → {s told : List ℕ} → Told sort (mapsIn t₀ m) s told → Told sort (mapsIn t m) s told
+  told-still sort {m} b h = rw (entries-kept (m .back) (b .back), entries-kept (m .input) (b .input), entries-kept (m .ahead) (b .ahead), entries-kept (m .lookups) (b .lookups)) h

@@ -13,7 +13,7 @@ ghost use Prim.Native.Nat.{_≤_};
 ghost use lib.ListN.{length};
 ghost use Rattle.meaning.specs.Subset.{limit};
 ghost use Rattle.numbers.specs.Leaves.{Leaves};
-ghost use Rattle.rule_sets.specs.Left.{AllInside};
+ghost use Rattle.rule_sets.specs.Left.{AllInside, mapsIn};
 ghost use Rattle.kept_sets.specs.Sorts.{setFaultOf, headerSize, leftIn, mostOf, Told};
 ghost use Rattle.kept_sets.specs.Kept.{Ready, WroteKept};
 
@@ -41,39 +41,39 @@ pub fn header_size(sort: Sort) -> usize
     }
 }
 
-// What is left of the set at `at`, from `pos` on. Ligatures and pairs go through the map of the input alone; `places` says where the fields that stay stand in a pair record.
+// What is left of the set at `at`, from `pos` on. Ligatures and pairs go through the map of the input alone. `told` says where the fields that stay stand in a pair record; for other sorts it has marks at the places of members that are known to go.
 fn write_set(
     sort: Sort,
     src: &[u8],
     at: usize,
-    places: &[u8],
+    told: &mut [u8],
     t: &[u32],
     maps: Maps,
     area: &mut [u8],
     pos: usize,
 ) -> usize
-    requires { ⌜ (setFaultOf sort (now src) at ≡ none) × (length (now src) ≤ limit) × AllInside (now t) maps × (pos ≤ length (now area)) × (headerSize sort ≤ length (now src)) × Told sort (now places) ⌝ }
-    ensures { λ r. ⌜ Leaves (now (area .entry)) pos (leftIn sort (now (t .entry)) maps (now (src .entry)) at) (mostOf (leftIn sort (now (t .entry)) maps (now (src .entry)) at) (now (src .entry))) (now (area .exit)) r ⌝ }
+    requires { ⌜ (setFaultOf sort (now src) at ≡ none) × (length (now src) ≤ limit) × AllInside (now t) maps × (pos ≤ length (now area)) × (headerSize sort ≤ length (now src)) × Told sort (mapsIn (now t) maps) (now src) (now told) ⌝ }
+    ensures { λ r. ⌜ Leaves (now (area .entry)) pos (leftIn sort (now (t .entry)) maps (now (src .entry)) at) (mostOf (leftIn sort (now (t .entry)) maps (now (src .entry)) at) (now (src .entry))) (now (area .exit)) r × Told sort (mapsIn (now (t .entry)) maps) (now (src .entry)) (now (told .exit)) ⌝ }
 {
     match sort {
-        Sort::Rules(chained) => write_rules(chained, src, at, t, maps, area, pos),
-        Sort::Ligatures => write_ligatures(src, at, t, maps.input, area, pos),
-        Sort::Pairs(f) => write_pairs(src, at, f.size, places, t, maps.input, area, pos),
+        Sort::Rules(chained) => write_rules(chained, src, at, t, maps, told, area, pos),
+        Sort::Ligatures => write_ligatures(src, at, t, maps.input, told, area, pos),
+        Sort::Pairs(f) => write_pairs(src, at, f.size, told, t, maps.input, area, pos),
     }
 }
 
-// What is left of the sets that the `m` notes from `notes` on name by their coverage index, written after the place for the header and an offset for each note. A note stays, and its set's place is written as its offset, if something of the set is left. `places` says where the fields that stay stand in a pair record.
+// What is left of the sets that the `m` notes from `notes` on name by their coverage index, written after the place for the header and an offset for each note. A note stays, and its set's place is written as its offset, if something of the set is left. `told` is as above.
 pub fn write_kept(
     sort: Sort,
     src: &[u8],
-    places: &[u8],
+    told: &mut [u8],
     t: &mut [u32],
     notes: usize,
     m: usize,
     maps: Maps,
     area: &mut [u8],
 ) -> Sets
-    requires { ⌜ Ready sort (now src) (now t) maps notes m × Told sort (now places) ⌝ }
+    requires { ⌜ Ready sort (now src) (now t) maps notes m × Told sort (mapsIn (now t) maps) (now src) (now told) ⌝ }
     ensures { λ r. ⌜ WroteKept sort (now (src .entry)) (now (t .entry)) maps notes m (now (area .entry)) (now (t .exit)) (now (area .exit)) r ⌝ }
 {
     let slots = header_size(sort);
@@ -94,7 +94,7 @@ pub fn write_kept(
         if at == 0 {
             continue;
         }
-        let q = write_set(sort, src, at, places, t, maps, area, p);
+        let q = write_set(sort, src, at, told, t, maps, area, p);
         if area.len() < q {
             return Sets { count: 0, end: q };
         }
