@@ -14,6 +14,7 @@ ghost use mathlib.Core.List.{[], _∷_, _++_};
 ghost use Prim.Native.Nat.{_≤_};
 ghost use lib.ListN.{length};
 ghost use Rattle.laws.specs.Written.{Wrote};
+ghost use Rattle.rule_sets.specs.Left.{mapsIn};
 ghost use Rattle.kept_sets.specs.Sorts.{moreOf, headerSize, Told};
 ghost use Rattle.kept_sets.specs.Kept.{Ready, keptIn};
 ghost use Rattle.kept_table.specs.Table.{areaMost, Finishes, Finished, tableOf};
@@ -74,22 +75,22 @@ fn no_room(area: &[u8]) -> Tried
     Tried::Became(Laid::TooBig)
 }
 
-// What is left of a table, whose retained covered glyphs are noted, laid into the buffer if it is not over the limit and the buffer is not shorter. `places` says where the fields that stay stand in a pair record.
+// What is left of a table, whose retained covered glyphs are noted, laid into the buffer if it is not over the limit and the buffer is not shorter. `told` says where the fields that stay stand in a pair record; for other sorts it has marks at the places of members that are known to go.
 pub fn write_table(
     sort: Sort,
     src: &[u8],
-    places: &[u8],
+    told: &mut [u8],
     t: &mut [u32],
     notes: Notes,
     maps: Maps,
     area: &mut [u8],
     out: &mut [u8],
 ) -> Tried
-    requires { ⌜ Ready sort (now src) (now t) maps (notes .at) (notes .count) × (length (now area) ≤ areaMost) × Told sort (now places) ⌝ }
+    requires { ⌜ Ready sort (now src) (now t) maps (notes .at) (notes .count) × (length (now area) ≤ areaMost) × Told sort (mapsIn (now t) maps) (now src) (now told) ⌝ }
     ensures { λ r. ⌜ Answered ⊥ (now (out .entry)) (tableOf sort (keptIn sort (now (src .entry)) (now (t .entry)) maps (notes .at) (notes .count))) (length (now (area .entry))) r (now (out .exit)) ⌝ }
 {
     let m = notes.count;
-    let sets = write_kept(sort, src, places, t, notes.at, m, maps, area);
+    let sets = write_kept(sort, src, told, t, notes.at, m, maps, area);
     let p = sets.end;
     let k = sets.count;
     if area.len() < p {
