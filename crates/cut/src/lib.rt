@@ -38,6 +38,10 @@ const SOME_CELLS: usize = 4608;
 
 const SOME_BYTES: usize = 8192;
 
+const MORE_CELLS: usize = 12288;
+
+const MORE_BYTES: usize = 24576;
+
 const MUCH_CELLS: usize = 40960;
 
 const MUCH_BYTES: usize = 65536;
@@ -113,6 +117,26 @@ fn in_some(
     }
     let mut t = [0u32; SOME_CELLS];
     let mut area = [0u8; SOME_BYTES];
+    cut_in(kind, src, glyphs, lookups, &mut t, &mut area, out)
+}
+
+// The same with more scratch.
+fn in_more(
+    kind: usize,
+    src: &[u8],
+    glyphs: &[u8],
+    lookups: &[u8],
+    rounds: usize,
+    out: &mut [u8],
+) -> Tried
+    requires { ⌜ Sound kind (now src) (now glyphs) (now lookups) ⌝ }
+    ensures { λ r. ⌜ UnlessShort r (now (out .entry)) (now (out .exit)) (written (now (out .entry)) (cut (mapEntries (now (glyphs .entry))) (mapEntries (now (lookups .entry))) (table kind (now (src .entry))))) ⌝ }
+{
+    if rounds != 0 {
+        return in_more(kind, src, glyphs, lookups, rounds - 1, out);
+    }
+    let mut t = [0u32; MORE_CELLS];
+    let mut area = [0u8; MORE_BYTES];
     cut_in(kind, src, glyphs, lookups, &mut t, &mut area, out)
 }
 
@@ -197,7 +221,7 @@ fn in_most(kind: usize, src: &[u8], glyphs: &[u8], lookups: &[u8], out: &mut [u8
     in_all_but_classes(kind, src, glyphs, lookups, glyphs.len() % 4, out)
 }
 
-// With one of the sizes that are not enough for any source: 0 is little scratch, 1 some, and any other much.
+// With one of the sizes that are not enough for any source: 0 is little scratch, 1 some, 2 more, and any other much.
 fn in_size(
     size: usize,
     kind: usize,
@@ -212,16 +236,9 @@ fn in_size(
     match size {
         0 => in_little(kind, src, glyphs, lookups, out),
         1 => in_some(kind, src, glyphs, lookups, glyphs.len() % 4, out),
+        2 => in_more(kind, src, glyphs, lookups, glyphs.len() % 4, out),
         _ => in_much(kind, src, glyphs, lookups, glyphs.len() % 4, out),
     }
-}
-
-// Whether a source of this kind is a context by coverages.
-fn by_covers(kind: usize, src: &[u8]) -> bool {
-    if 2 < kind {
-        return false;
-    }
-    word_at(src, 0) == 3
 }
 
 // How many cells the cut is likely to use; no more than a guess, which saves the clearing of scratch.
@@ -234,9 +251,9 @@ fn likely_cells(kind: usize, src: &[u8], glyphs: &[u8], lookups: &[u8]) -> usize
     in_maps
 }
 
-// How many bytes of area it is likely to use: not much more than the source has, and not more than some for each glyph, few where all that it holds of glyphs is coverages.
+// How many bytes of area it is likely to use: not much more than the source has, and not more than some for each glyph, few for a context by coverages.
 fn likely_bytes(kind: usize, src: &[u8], glyphs: &[u8]) -> usize {
-    if by_covers(kind, src) {
+    if kind <= 2 && word_at(src, 0) == 3 {
         return 2 * (glyphs.len() / 4) + 512;
     }
     if glyphs.len() < src.len() / 32 {
@@ -245,25 +262,17 @@ fn likely_bytes(kind: usize, src: &[u8], glyphs: &[u8]) -> usize {
     src.len() / 2 * 3
 }
 
-// Whether these cells and bytes are not more than those.
-fn within(cells: usize, bytes: usize, most_cells: usize, most_bytes: usize) -> bool {
-    if most_cells < cells {
-        return false;
-    }
-    bytes <= most_bytes
-}
-
-// The size to begin with, as `in_size` has them, or 3 for the largest.
+// The size to begin with, as `in_size` has them: the first that is likely to do, and never the largest, since its clearing takes long.
 fn likely_size(kind: usize, src: &[u8], glyphs: &[u8], lookups: &[u8]) -> usize {
     let cells = likely_cells(kind, src, glyphs, lookups);
     let bytes = likely_bytes(kind, src, glyphs);
-    if within(cells, bytes, LITTLE_CELLS, LITTLE_BYTES) {
+    if cells <= LITTLE_CELLS && bytes <= LITTLE_BYTES {
         return 0;
     }
-    if within(cells, bytes, SOME_CELLS, SOME_BYTES) {
+    if cells <= SOME_CELLS && bytes <= SOME_BYTES {
         return 1;
     }
-    if within(cells, bytes, MUCH_CELLS, MUCH_BYTES) {
+    if cells <= MORE_CELLS && bytes <= MORE_BYTES {
         return 2;
     }
     3
@@ -275,7 +284,7 @@ pub fn cut_own(kind: usize, src: &[u8], glyphs: &[u8], lookups: &[u8], out: &mut
     ensures { λ r. ⌜ outcomeOf r (now (out .exit)) ≡ written (now (out .entry)) (cut (mapEntries (now (glyphs .entry))) (mapEntries (now (lookups .entry))) (table kind (now (src .entry)))) ⌝ }
 {
     let mut size = likely_size(kind, src, glyphs, lookups);
-    while size < 3 {
+    while size < 4 {
         if let Tried::Became(laid) = in_size(size, kind, src, glyphs, lookups, out) {
             return laid;
         }

@@ -15,7 +15,7 @@ abbrev Inv-loop : tie.InvT-loop
 Inv-loop kind src glyphs lookups out₀ size₀ out size = out ≡ out₀
 
 abbrev μ-loop : tie.MeasureT-loop
-μ-loop kind src glyphs lookups out₀ size₀ out size = 3 - size
+μ-loop kind src glyphs lookups out₀ size₀ out size = 4 - size
 
 returns : tie.Need-returns Inv-loop μ-loop
 returns c =
