@@ -58,16 +58,16 @@ enum gillcurtain_answer {
   GILLCURTAIN_PAST_RULE = 12    /* a record's sequence index is not below its rule's input count */
 };
 
-/* The stack, in bytes, that a call may use at most: 2.75 MiB. hosts/c/limits.c
+/* The stack, in bytes, that a call may use at most: 3 MiB. hosts/c/limits.c
  * holds calls that go deep to it. */
-#define GILLCURTAIN_STACK (11u << 18)
+#define GILLCURTAIN_STACK (12u << 18)
 
 /* The same where GILLCURTAIN_SCRATCH bytes of scratch are lent. */
 #define GILLCURTAIN_LITTLE_STACK (1u << 18)
 
 /* The scratch that is enough for any call: so many cells of 32 bits, so many
  * bytes of area, and both in one piece. */
-#define GILLCURTAIN_CELLS 589825u
+#define GILLCURTAIN_CELLS 655360u
 #define GILLCURTAIN_AREA 262144u
 #define GILLCURTAIN_SCRATCH (4u * GILLCURTAIN_CELLS + GILLCURTAIN_AREA)
 
