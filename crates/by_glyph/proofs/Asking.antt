@@ -14,7 +14,7 @@ use Rattle.meaning.specs.Words.{word, inside, find, bind, push, keys, ascends}
 use Rattle.meaning.specs.Parts.{coverage, coverageSound}
 use Rattle.meaning.specs.Tables.{Table, fieldCount}
 use Rattle.meaning.specs.Fault.{faultThrough, coverageFault, pairSetFault, enough, headerFault}
-use Rattle.meaning.specs.Cut.{cut, standIn}
+use Rattle.meaning.specs.Cut.{RuleMaps, cut, standIn}
 use Rattle.meaning.specs.Layout.{block, tableWords}
 use Rattle.laws.specs.Stands.{All}
 use Rattle.laws.specs.Runs.{both}
@@ -36,7 +36,7 @@ use Rattle.fold.specs.declared.Map.{Map}
 use Rattle.rule_sets.specs.declared.Maps.{Maps}
 use Rattle.meet.specs.Met.{met, Met, Meets, met-count}
 use Rattle.meet.proofs.Entries.{map-rises}
-use Rattle.kept_sets.specs.Sorts.{headerSize, setFaultOf, leftIn, Told, pairs-sound, left-kept, inside-kept}
+use Rattle.kept_sets.specs.Sorts.{headerSize, setFaultOf, leftIn, Told, told-pairs, pairs-sound, left-kept, inside-kept}
 use Rattle.kept_sets.specs.Kept.{setAt, keptOf, Ready, keptIn}
 use Rattle.kept_sets.specs.declared.Sort.{Sort}
 use Rattle.kept_sets.specs.declared.Sort.the-variants.{Rules, Ligatures, Pairs}
@@ -44,7 +44,7 @@ use Rattle.kept_table.specs.Table.{areaMost, tableOf}
 use Rattle.by_glyph.specs.Asked.{SoundSets, MapsLaid, keptFrom}
 use Rattle.kept_table.specs.Answers.{Answered, answered-as, answered-said}
 use Rattle.by_glyph.specs.Whole.{cellsMost}
-use Rattle.by_glyph.specs.PairTables.{pairTable, pairFault, pairsOf, oneMap, AnsweredPairs, told-pairs, sound-pairs, pairs-cut}
+use Rattle.by_glyph.specs.PairTables.{pairTable, pairFault, pairsOf, oneMap, AnsweredPairs, sound-pairs, pairs-cut}
 
 -- notes name glyphs of the coverage
 module _ (f : ℕ → Option ℕ) where
@@ -198,13 +198,9 @@ module _ {s t : List ℕ} {g : Map} {at m : ℕ} (a : Ready (pairsOf s) s t (one
   }
 
 -- an empty front
-pub take-none : (l : List ℕ) → take 0 l ≡ []
+take-none : (l : List ℕ) → take 0 l ≡ []
 take-none [] = refl
 take-none (x ∷ l) = refl
-
-pub told-none : {sort : Sort} (l : List ℕ) → Told sort [] → Told sort (take 0 l)
-told-none [] h = h
-told-none (x ∷ l) h = h
 
 -- numbers that are put into an empty front
 puts-front : {before ns after : List ℕ} {r : ℕ} → Puts before 0 ns after r → take r after ≡ ns
@@ -214,8 +210,8 @@ pub puts-length : {before ns after : List ℕ} {r : ℕ} → Puts before 0 ns af
 puts-length p = omega (arith, p .place, ap length (puts-front p))
 
 -- the writer of pair sets is told the places of the fields that stay
-pub told-new : {g : List (ℕ × ℕ)} {s : List ℕ} {ns : List (ℕ × ℕ)} {f : Formats} {before after : List ℕ} {r : ℕ} → NewFormats g s ns f → Puts before 0 (placesOf (f .f1) (f .f2) (f .n1) (f .n2)) after r → Told (Pairs f) (take r after)
-told-new {f = f} n p = told-pairs f (n .size ∙ sym (ap₂ pairSize (n .f1) (n .f2))) (puts-front p)
+pub told-new : {g : List (ℕ × ℕ)} {s : List ℕ} {ns : List (ℕ × ℕ)} {f : Formats} {m : RuleMaps} {before after : List ℕ} {r : ℕ} → NewFormats g s ns f → Puts before 0 (placesOf (f .f1) (f .f2) (f .n1) (f .n2)) after r → Told (Pairs f) m s (take r after)
+told-new n p = told-pairs (n .size ∙ sym (ap₂ pairSize (n .f1) (n .f2))) (puts-front p)
 
 -- formats that the same map and the same notes give
 formats-same : {g h : List (ℕ × ℕ)} {s : List ℕ} {ns ms : List (ℕ × ℕ)} {f : Formats} → Alike g h → ns ≡ ms → NewFormats g s ns f → NewFormats h s ms f

@@ -25,7 +25,7 @@ use Rattle.meet.specs.Met.{met}
 use Rattle.pair_sets.specs.Formats.{pairSize, placesOf, pairs-left}
 use Rattle.pair_sets.specs.declared.Formats.{Formats}
 use Rattle.pair_formats.specs.New.{NewFormats, first-format, second-format}
-use Rattle.kept_sets.specs.Sorts.{setFaultOf, setLeft, leftIn, Told}
+use Rattle.kept_sets.specs.Sorts.{setFaultOf, setLeft, leftIn}
 use Rattle.kept_sets.specs.Kept.{wordsOf, Ready, keptIn}
 use Rattle.kept_sets.specs.declared.Sort.{Sort}
 use Rattle.kept_sets.specs.declared.Sort.the-variants.{Rules, Ligatures, Pairs}
@@ -55,35 +55,6 @@ pub record AnsweredPairs (s t : List ℕ) (g : Map) (at m : ℕ) (out₀ : List 
   pub formats : Formats
   pub new : NewFormats (entriesIn t g) s (notes t at m) formats
   pub answered : Answered (⊥) out₀ (tableOf (Pairs formats) (keptIn (Pairs formats) s t (oneMap g) at m)) a r out
-
--- Sets that have no value formats are told nothing; pairs are told the places.
-abbrev isPairs : Sort → Bool
-isPairs (Rules chained) = false
-isPairs Ligatures = false
-isPairs (Pairs f) = true
-
-module _ {places : List ℕ} where
-  told-other : (sort : Sort) → isPairs sort ≡ false → Told sort places
-  told-other sort n = record { size = λ e. absurd (true≢false (sym (ap isPairs e) ∙ n)); fields = λ e. absurd (true≢false (sym (ap isPairs e) ∙ n)) }
-
-  pub told-rules : (chained : Bool) → Told (Rules chained) places
-  told-rules chained = told-other (Rules chained) refl
-
-  pub told-ligatures : Told Ligatures places
-  told-ligatures = told-other Ligatures refl
-
-  pub told-pairs : (f : Formats) → f .size ≡ pairSize (f .f1) (f .f2) → places ≡ placesOf (f .f1) (f .f2) (f .n1) (f .n2) → Told (Pairs f) places
-  told-pairs f z p = record { size = λ e. same-size e; fields = λ e. same-places e }
-    where
-      same-size : {h : Formats} → Pairs f ≡ Pairs h → h .size ≡ pairSize (h .f1) (h .f2)
-      same-size {h} e =
-          let q : f ≡ h = cc in
-          rw q at z
-
-      same-places : {h : Formats} → Pairs f ≡ Pairs h → places ≡ placesOf (h .f1) (h .f2) (h .n1) (h .n2)
-      same-places {h} e =
-          let q : f ≡ h = cc in
-          rw q at p
 
 -- What the source's formats say is said of any with the same: the sets are sound.
 module _ (s : List ℕ) (f : Formats) (e : f .f1 ≡ word s 4) (h : f .f2 ≡ word s 6) where

@@ -6,14 +6,16 @@ use kept_table::AREA;
 use kept_table::Notes;
 use kept_table::write_table;
 use meet::meet;
+use member_sets::crowded;
 use pair_formats::new_formats;
 use pair_sets::kept_places;
+use room::LIMIT;
 use room::Laid;
 use rule_sets::Maps;
 use tried::Tried;
 use wire::word_inside;
 ghost use mathlib.Core.Path.{_≡_};
-ghost use mathlib.Core.Bool.{true};
+ghost use mathlib.Core.Bool.{true, false};
 ghost use mathlib.Core.Option.{none};
 ghost use mathlib.Core.List.{[]};
 ghost use Prim.Native.Nat.{_+_, _/_, _≤_, _<_};
@@ -24,8 +26,8 @@ ghost use Rattle.meaning.specs.Fault.{headerFault, enough};
 ghost use Rattle.meaning.specs.Cut.{cut};
 ghost use Rattle.meaning.specs.Layout.{block, tableWords};
 ghost use Rattle.meaning.specs.Subset.{limit, written};
-ghost use Rattle.kept_sets.specs.Sorts.{setFaultOf, Told};
-ghost use Rattle.kept_sets.specs.Kept.{Ready};
+ghost use Rattle.kept_sets.specs.Sorts.{setFaultOf, isPairs};
+ghost use Rattle.kept_sets.specs.Kept.{Ready, keptIn};
 ghost use Rattle.kept_sets.specs.declared.Sort.the-variants.{Rules, Ligatures};
 ghost use Rattle.tried.specs.Tries.{Tries};
 ghost use Rattle.kept_table.specs.Table.{areaMost, tableOf};
@@ -34,7 +36,29 @@ ghost use Rattle.by_glyph.specs.Asked.{SoundSets, MapsLaid, keptFrom};
 ghost use Rattle.by_glyph.specs.PairTables.{pairsOf, oneMap, pairFault, pairTable, AnsweredPairs};
 ghost use Rattle.by_glyph.specs.Whole.{cellsMost, Least, glyphContext, ligatureTable};
 
-// What is left of a table under a glyph map, whose cells and those of the lookup map stand before `notes`, for sets that have no value formats, and so no places of fields: the retained covered glyphs are noted, and the table is written.
+// What is left of a table whose sets share members and whose retained covered glyphs are noted, for sets that have no value formats. It is remembered which members go, so that each of these is walked once.
+// It calls itself, so that the compiler keeps its large array out of its caller's frame: the small job would pay for it, and docs/SPEED.md says how much. How often it does, `rounds`, is 0 for a map of whole entries.
+fn write_shared(
+    sort: Sort,
+    src: &[u8],
+    t: &mut [u32],
+    notes: Notes,
+    maps: Maps,
+    rounds: usize,
+    area: &mut [u8],
+    out: &mut [u8],
+) -> Tried
+    requires { ⌜ Ready sort (now src) (now t) maps (notes .at) (notes .count) × (length (now area) ≤ areaMost) × (isPairs sort ≡ false) ⌝ }
+    ensures { λ r. ⌜ Answered ⊥ (now (out .entry)) (tableOf sort (keptIn sort (now (src .entry)) (now (t .entry)) maps (notes .at) (notes .count))) (length (now (area .entry))) r (now (out .exit)) ⌝ }
+{
+    if rounds != 0 {
+        return write_shared(sort, src, t, notes, maps, rounds - 1, area, out);
+    }
+    let mut dead = [0u8; LIMIT];
+    write_table(sort, src, &mut dead, t, notes, maps, area, out)
+}
+
+// What is left of a table under a glyph map, whose cells and those of the lookup map stand before `notes`, for sets that have no value formats: the retained covered glyphs are noted, and the table is written.
 fn cut_sets(
     sort: Sort,
     src: &[u8],
@@ -45,7 +69,7 @@ fn cut_sets(
     area: &mut [u8],
     out: &mut [u8],
 ) -> Tried
-    requires { ⌜ SoundSets sort (now src) × MapsLaid (now glyphs) (now t) maps notes × (length (now area) ≤ areaMost) × (word (now src) 2 ≡ 0 → ⊥) × Told sort [] ⌝ }
+    requires { ⌜ SoundSets sort (now src) × MapsLaid (now glyphs) (now t) maps notes × (length (now area) ≤ areaMost) × (word (now src) 2 ≡ 0 → ⊥) × (isPairs sort ≡ false) ⌝ }
     ensures { λ r. ⌜ Answered (length (now (t .entry)) ≤ notes + length (now (glyphs .entry)) / 4) (now (out .entry)) (tableOf sort (keptFrom sort (now (src .entry)) (now (glyphs .entry)) (now (t .entry)) maps)) (length (now (area .entry))) r (now (out .exit)) ⌝ }
 {
     if t.len() < notes + glyphs.len() / 4 + 1 {
@@ -57,7 +81,11 @@ fn cut_sets(
         at: notes,
         count: m,
     };
-    write_table(sort, src, &src[..0], t, found, maps, area, out)
+    if crowded(src, 6, word_inside(src, 4)) {
+        return write_shared(sort, src, t, found, maps, glyphs.len() % 4, area, out);
+    }
+    let mut no_marks = [0u8; 1];
+    write_table(sort, src, &mut no_marks, t, found, maps, area, out)
 }
 
 // The same from the source and the map's list on, for ligatures.
@@ -147,7 +175,16 @@ fn write_pair_table(
         ahead: g,
         lookups: g,
     };
-    write_table(Sort::Pairs(f), src, &places[..k], t, notes, maps, area, out)
+    write_table(
+        Sort::Pairs(f),
+        src,
+        &mut places[..k],
+        t,
+        notes,
+        maps,
+        area,
+        out,
+    )
 }
 
 // The same from the glyph map on, whose cells stand before `notes`.

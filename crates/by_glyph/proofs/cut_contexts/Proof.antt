@@ -2,7 +2,6 @@ use mathlib.Core.Path.{refl, sym, _∙_}
 use native.Mathlib.Omega.{arith}
 use borrow.Author.Needs.{needs}
 use Rattle.by_glyph.specs.Asked.{rules-null, rules-cut}
-use Rattle.by_glyph.specs.PairTables.{told-rules}
 use Rattle.by_glyph.specs.Whole.{written-none}
 use Rattle.by_glyph.proofs.Asking.{header-inside, rules-asked, no-room, two-answered, glyphs-stand, two-laid}
 use Rattle.by_glyph.proofs.cut_contexts.Statement.{statement}
@@ -38,7 +37,7 @@ add-cut-sets-2 c = omega (arith, c .before .before .before .before .before .befo
 cut-sets-requires : tie.Need-cut-sets-requires
 cut-sets-requires c κs =
     let a = c .before .before .before .before .before .before .before .before .before .before .before .before .before .before .before .before .before .before .before .before .before in
-    (rules-asked _ (a .pre .1) (a .args .chained) (a .pre .0), two-laid (c .before .before .before .before .before .before .before .before .before .before .before .lay .ensures) (c .before .before .before .before .before .before .before .before .if2 .left) (a .pre .2) (c .before .before .before .before .before .before .lay2 .ensures) (c .before .before .before .if3 .left) (a .pre .3), a .pre .4, λ z. c .before .before .before .before .before .before .before .before .before .before .before .before .before .if1 .left (c .before .before .before .before .before .before .before .before .before .before .before .before .before .before .word-inside .ensures .0 ∙ z), told-rules _)
+    (rules-asked _ (a .pre .1) (a .args .chained) (a .pre .0), two-laid (c .before .before .before .before .before .before .before .before .before .before .before .lay .ensures) (c .before .before .before .before .before .before .before .before .if2 .left) (a .pre .2) (c .before .before .before .before .before .before .lay2 .ensures) (c .before .before .before .if3 .left) (a .pre .3), a .pre .4, λ z. c .before .before .before .before .before .before .before .before .before .before .before .before .before .if1 .left (c .before .before .before .before .before .before .before .before .before .before .before .before .before .before .word-inside .ensures .0 ∙ z), refl)
 
 returns-4 : tie.Need-returns-4
 returns-4 c =

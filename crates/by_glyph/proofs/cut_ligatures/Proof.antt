@@ -2,7 +2,6 @@ use mathlib.Core.Path.{refl, sym, _∙_}
 use native.Mathlib.Omega.{arith}
 use borrow.Author.Needs.{needs}
 use Rattle.by_glyph.specs.Asked.{ligatures-null, ligatures-cut}
-use Rattle.by_glyph.specs.PairTables.{told-ligatures}
 use Rattle.by_glyph.specs.Whole.{written-none}
 use Rattle.by_glyph.proofs.Asking.{header-inside, ligatures-asked, no-room, one-answered, one-laid}
 use Rattle.by_glyph.proofs.cut_ligatures.Statement.{statement}
@@ -23,7 +22,7 @@ add-cut-sets c = omega (arith, c .before .before .before .before .lay .ensures .
 cut-sets-requires : tie.Need-cut-sets-requires
 cut-sets-requires c κs =
     let a = c .before .before .before .before .before .before .before .before .before .before .before .before .before .before .before in
-    (ligatures-asked _ (a .pre .1) (a .pre .0), one-laid (c .before .before .before .before .before .before .lay .ensures) (c .before .before .before .if2 .left) (a .pre .2), a .pre .3, λ z. c .before .before .before .before .before .before .before .before .if1 .left (c .before .before .before .before .before .before .before .before .before .word-inside .ensures .0 ∙ z), told-ligatures)
+    (ligatures-asked _ (a .pre .1) (a .pre .0), one-laid (c .before .before .before .before .before .before .lay .ensures) (c .before .before .before .if2 .left) (a .pre .2), a .pre .3, λ z. c .before .before .before .before .before .before .before .before .if1 .left (c .before .before .before .before .before .before .before .before .before .word-inside .ensures .0 ∙ z), refl)
 
 returns-3 : tie.Need-returns-3
 returns-3 c =

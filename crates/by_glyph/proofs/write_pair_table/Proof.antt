@@ -18,8 +18,8 @@ write-table-requires c κs =
 
 returns : tie.Need-returns
 returns c =
-    let n = c .before .before .before .before .before .before .before .before .before .before .before .before .before .before in
-    record { formats = n .new-formats .result; new = n .new-formats .ensures; answered = c .before .before .before .before .before .before .write-table .ensures }
+    let n = c .before .before .before .before .before .before .before .before .before .before .before .before .before .before .before in
+    record { formats = n .new-formats .result; new = n .new-formats .ensures; answered = c .before .before .before .before .before .before .before .write-table .ensures }
 
 pub write-pair-table-spec : {M : Type 1} → statement M
 write-pair-table-spec =
