@@ -1,7 +1,7 @@
 -- Tables of pairs: what is asked of a source, and what is left of it.
 use Prim.Native.Nat.{ℕ, _/_}
 use mathlib.Core.Path.{_≡_, refl, sym, ap, _∙_}
-use mathlib.Core.Bool.{Bool, true, false, _&&_, true≢false}
+use mathlib.Core.Bool.{_&&_}
 use mathlib.Core.Option.{Option, none, some}
 use mathlib.Core.List.{List, [], _∷_, map}
 use native.Mathlib.Nat.{zero-add}
@@ -22,13 +22,13 @@ use Rattle.numbers.specs.Entries.{entriesIn}
 use Rattle.numbers.specs.Alike.{holds-alike, pairs-alike}
 use Rattle.rule_sets.specs.declared.Maps.{Maps}
 use Rattle.meet.specs.Met.{met}
-use Rattle.pair_sets.specs.Formats.{pairSize, placesOf, pairs-left}
+use Rattle.pair_sets.specs.Formats.{pairs-left}
 use Rattle.pair_sets.specs.declared.Formats.{Formats}
 use Rattle.pair_formats.specs.New.{NewFormats, first-format, second-format}
 use Rattle.kept_sets.specs.Sorts.{setFaultOf, setLeft, leftIn}
 use Rattle.kept_sets.specs.Kept.{wordsOf, Ready, keptIn}
 use Rattle.kept_sets.specs.declared.Sort.{Sort}
-use Rattle.kept_sets.specs.declared.Sort.the-variants.{Rules, Ligatures, Pairs}
+use Rattle.kept_sets.specs.declared.Sort.the-variants.{Pairs}
 use Rattle.tried.specs.declared.Tried.{Tried}
 use Rattle.kept_table.specs.Table.{tableOf}
 use Rattle.kept_table.specs.Answers.{Answered}

@@ -22,10 +22,6 @@ module _ {left : ℕ → Option (List ℕ)} {dead : List ℕ} where
       step p true q m = rw (eqb-true p at q) h
       step p false q m = d .gone p (λ z. m (getD-set-other dead at p 1 0 (eqb-false p at q) ∙ z))
 
-  -- the same, where as much is left
-  pub dead-said : {other : ℕ → Option (List ℕ)} → Dead left dead → ((p : ℕ) → other p ≡ left p) → Dead other dead
-  dead-said d e = record { gone = λ p m. e p ∙ d .gone p m }
-
 -- where there are no marks, none is known to go
 none-marked : (n p : ℕ) → _≡_ {A = ℕ} (getD (replicate n 0) p 0) 0
 none-marked zero p = refl
