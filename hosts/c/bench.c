@@ -1,65 +1,183 @@
-/* Times the exported call on job files.
+/* Times the exported calls on job files.
  *
  *   bench MILLISECONDS job...
  *
  * For each job: its kind, the source's bytes, the retained glyphs, the answer
- * with its length, and nanoseconds a call (the fastest batch counts). The
- * buffer is lent anew for each call and not cleared. */
+ * with its length, and nanoseconds of processor time a call (the fastest batch
+ * counts), with scratch of its own and with lent scratch. Buffer and scratch
+ * are lent anew for each call and not cleared. A file may be longer than a
+ * label job: the calls have no limit but that of the source.
+ *
+ * Compiled with WITH_HARFBUZZ, and linked with HarfBuzz's own cut of a subtable
+ * behind the functions of hbx.h, it times that too, batch by batch in turn, and
+ * prints nanoseconds of it and how many times as long the calls take. */
 #include <stdio.h>
 #include <stdlib.h>
 #include <string.h>
 #include <time.h>
 #include "gillcurtain.h"
+#ifdef WITH_HARFBUZZ
+#include "hbx.h"
+#endif
 
+enum { TRAILER = 30, ROOM = 65536 };
+
+/* A job's parts, and what each way of cutting needs beside them. */
+struct part { const uint8_t *at; size_t len; };
+struct job
+{
+  unsigned kind;
+  struct part source, glyphs, lookups;
+  uint8_t *out, *scratch;
+#ifdef WITH_HARFBUZZ
+  hbx_t *harfbuzz;
+#endif
+};
+
+/* A way of cutting: its name, what cuts once, and what was measured of it. */
+struct way
+{
+  const char *name;
+  uint64_t (*cut) (const struct job *);
+  uint64_t result;
+  unsigned batch;
+  double best;
+};
+
+static uint64_t cut_plain (const struct job *j)
+{
+  return gillcurtain_subset (j->kind, j->source.at, j->source.len, j->glyphs.at, j->glyphs.len,
+                             j->lookups.at, j->lookups.len, j->out, ROOM);
+}
+
+static uint64_t cut_lent (const struct job *j)
+{
+  return gillcurtain_subset_with (j->kind, j->source.at, j->source.len, j->glyphs.at, j->glyphs.len,
+                                  j->lookups.at, j->lookups.len, j->scratch, GILLCURTAIN_SCRATCH, j->out, ROOM);
+}
+
+#ifdef WITH_HARFBUZZ
+/* What the call does: both maps, the check and the cut. */
+static uint64_t cut_harfbuzz (const struct job *j)
+{
+  unsigned length;
+  hbx_maps (j->harfbuzz, j->glyphs.at, j->glyphs.len, j->lookups.at, j->lookups.len);
+  return hbx_subset (j->harfbuzz, j->kind, j->source.at, j->source.len, 1, j->out, ROOM, &length);
+}
+#endif
+
+/* Processor time, so that what else the machine does counts little. */
 static double now (void)
 {
   struct timespec t;
-  clock_gettime (CLOCK_MONOTONIC, &t);
+  clock_gettime (CLOCK_PROCESS_CPUTIME_ID, &t);
   return t.tv_sec * 1e9 + t.tv_nsec;
 }
 
 static size_t u32 (const uint8_t *p) { return (size_t) p[0] << 24 | p[1] << 16 | p[2] << 8 | p[3]; }
 
-struct part { const uint8_t *at; size_t len; };
-
-static struct part part_at (const uint8_t *file, const uint8_t *field)
+/* The part of the file that a field of the trailer names; whether it lies inside. */
+static int part_at (const uint8_t *file, size_t len, const uint8_t *field, struct part *part)
 {
-  struct part p = { file + u32 (field), u32 (field + 4) };
-  return p;
+  size_t at = u32 (field);
+  part->len = u32 (field + 4);
+  if (at > len || part->len > len - at) return 0;
+  part->at = file + at;
+  return 1;
+}
+
+/* The whole file, and its length; the program ends where it cannot be read. */
+static uint8_t *read_file (const char *name, size_t *len)
+{
+  FILE *f = fopen (name, "rb");
+  size_t room = 0;
+  uint8_t *bytes = NULL;
+  *len = 0;
+  if (!f) { perror (name); exit (1); }
+  do
+  {
+    room = 2 * room + ROOM;
+    bytes = realloc (bytes, room);
+    if (!bytes) { perror (name); exit (1); }
+    *len += fread (bytes + *len, 1, room - *len, f);
+  } while (*len == room);
+  fclose (f);
+  return bytes;
+}
+
+/* The job that a file holds; whether it is one. */
+static int read_job (const uint8_t *file, size_t len, struct job *j)
+{
+  if (len < TRAILER || memcmp (file + len - 4, "LSJ1", 4)) return 0;
+  const uint8_t *t = file + len - TRAILER;
+  j->kind = t[0] << 8 | t[1];
+  return part_at (file, len - TRAILER, t + 2, &j->source) && part_at (file, len - TRAILER, t + 10, &j->glyphs)
+         && part_at (file, len - TRAILER, t + 18, &j->lookups);
+}
+
+/* One batch; a batch that was short makes the next one longer. */
+static void time_batch (struct way *w, const struct job *j)
+{
+  double from = now ();
+  for (unsigned i = 0; i < w->batch; i++)
+    w->result = w->cut (j);
+  double took = now () - from;
+  if (took / w->batch < w->best) w->best = took / w->batch;
+  if (took < 2e6) w->batch *= 2;
+}
+
+/* Batches of each way in turn, for so many nanoseconds each. */
+static void time_job (struct way *ways, unsigned n, const struct job *j, double budget)
+{
+  double start = now ();
+  for (unsigned w = 0; w < n; w++) { ways[w].batch = 1; ways[w].best = 1e18; }
+  do
+    for (unsigned w = 0; w < n; w++)
+      time_batch (&ways[w], j);
+  while (now () - start < n * budget);
 }
 
 int main (int argc, char **argv)
 {
-  static uint8_t file[65536 + 1], out[65536];
+  static uint8_t out[ROOM];
+  uint8_t *scratch = malloc (GILLCURTAIN_SCRATCH);
+  struct way ways[] = {
+    { .name = "own", .cut = cut_plain },
+    { .name = "lent", .cut = cut_lent },
+#ifdef WITH_HARFBUZZ
+    { .name = "HarfBuzz", .cut = cut_harfbuzz },
+#endif
+  };
+  const unsigned n = sizeof ways / sizeof *ways;
   if (argc < 3) { fprintf (stderr, "usage: bench MILLISECONDS job...\n"); return 2; }
-  double budget = atof (argv[1]) * 1e6;
-  printf ("# job\tkind\tin\tglyphs\tanswer\tlength\tns\n");
+  if (!scratch) { perror ("malloc"); return 1; }
+  printf ("# job\tkind\tin\tglyphs\tanswer\tlength");
+  for (unsigned w = 0; w < n; w++) printf ("\t%s", ways[w].name);
+  for (unsigned w = 0; w < 2 && 2 < n; w++) printf ("\t%s / %s", ways[w].name, ways[2].name);
+  printf ("\n");
   for (int a = 2; a < argc; a++)
   {
-    FILE *f = fopen (argv[a], "rb");
-    if (!f) { perror (argv[a]); return 1; }
-    size_t n = fread (file, 1, sizeof file, f);
-    fclose (f);
-    if (n < 30 || n > 65536 || memcmp (file + n - 4, "LSJ1", 4)) { printf ("%s\tfaulty\n", argv[a]); continue; }
-    const uint8_t *t = file + n - 30;
-    unsigned kind = t[0] << 8 | t[1];
-    struct part s = part_at (file, t + 2), g = part_at (file, t + 10), l = part_at (file, t + 18);
-    uint64_t r = 0;
-    double best = 1e18, start = now ();
-    unsigned batch = 1;
-    do
-    {
-      double from = now ();
-      for (unsigned i = 0; i < batch; i++)
-        r = gillcurtain_subset (kind, s.at, s.len, g.at, g.len, l.at, l.len, out, sizeof out);
-      double took = now () - from;
-      if (took / batch < best) best = took / batch;
-      if (took < 2e6) batch *= 2;
-    } while (now () - start < budget);
-    const char *name = strrchr (argv[a], '/');
-    printf ("%s\t%u\t%zu\t%zu\t%u\t%zu\t%.0f\n", name ? name + 1 : argv[a], kind, s.len, g.len / 4,
-            gillcurtain_number (r), gillcurtain_length (r), best);
+    const char *slash = strrchr (argv[a], '/'), *name = slash ? slash + 1 : argv[a];
+    struct job job = { .out = out, .scratch = scratch };
+    size_t len;
+    uint8_t *file = read_file (argv[a], &len);
+    if (!read_job (file, len, &job)) { printf ("%s\tfaulty\n", name); free (file); continue; }
+#ifdef WITH_HARFBUZZ
+    job.harfbuzz = hbx_new (1);
+#endif
+    time_job (ways, n, &job, atof (argv[1]) * 1e6);
+    if (ways[0].result != ways[1].result) { printf ("%s\tthe two calls differ\n", name); return 1; }
+    printf ("%s\t%u\t%zu\t%zu\t%u\t%zu", name, job.kind, job.source.len, job.glyphs.len / 4,
+            gillcurtain_number (ways[0].result), gillcurtain_length (ways[0].result));
+    for (unsigned w = 0; w < n; w++) printf ("\t%.0f", ways[w].best);
+    for (unsigned w = 0; w < 2 && 2 < n; w++) printf ("\t%.2f", ways[w].best / ways[2].best);
+    printf ("\n");
     fflush (stdout);
+#ifdef WITH_HARFBUZZ
+    hbx_free (job.harfbuzz);
+#endif
+    free (file);
   }
+  free (scratch);
   return 0;
 }

@@ -1,6 +1,7 @@
 /* Cuts the first worked example, P1, and says in words what came back: a
  * context by glyph with three rules, of which the maps leave two. */
 #include <stdio.h>
+#include <stdlib.h>
 #include "gillcurtain.h"
 
 static const uint8_t source[] = {
@@ -30,18 +31,41 @@ static const char *const meaning[] = {
   [GILLCURTAIN_NO_ROOM] = "the buffer is too short"
 };
 
-/* Cuts the first so many bytes of P1 into so many bytes of `out`, and says what came back. */
-static uint64_t cut (size_t length, uint8_t *out, size_t room)
+/* Says what came back for the first so many bytes of P1 and a buffer of `room` bytes. */
+static void say (size_t length, size_t room, const char *how, uint64_t result)
 {
-  uint64_t result = gillcurtain_subset (GILLCURTAIN_CONTEXT, source, length, glyphs, sizeof glyphs,
-                                        lookups, sizeof lookups, out, room);
   unsigned number = gillcurtain_number (result);
-  printf ("%zu bytes of P1 into %zu: answer %u, %s", length, room, number, meaning[number]);
+  printf ("%zu bytes of P1 into %zu%s: answer %u, %s", length, room, how, number, meaning[number]);
   if (number == GILLCURTAIN_KEPT) printf (": %zu bytes", gillcurtain_length (result));
   if (number == GILLCURTAIN_NO_ROOM) printf (": it takes %zu", gillcurtain_length (result));
   if (number == GILLCURTAIN_MALFORMED) printf (", in the part at 0x%04zx", gillcurtain_length (result));
   printf ("\n");
+}
+
+/* Cuts the first so many bytes of P1 into so many bytes of `out`. */
+static uint64_t cut (size_t length, uint8_t *out, size_t room)
+{
+  uint64_t result = gillcurtain_subset (GILLCURTAIN_CONTEXT, source, length, glyphs, sizeof glyphs,
+                                        lookups, sizeof lookups, out, room);
+  say (length, room, "", result);
   return result;
+}
+
+/* Cuts P1 with scratch that is asked for once and serves any number of calls. */
+static uint64_t cut_with_scratch (uint8_t *out, size_t room)
+{
+  void *scratch = malloc (GILLCURTAIN_SCRATCH);
+  if (!scratch) return 0;
+  uint64_t result = gillcurtain_subset_with (GILLCURTAIN_CONTEXT, source, sizeof source, glyphs, sizeof glyphs,
+                                             lookups, sizeof lookups, scratch, GILLCURTAIN_SCRATCH, out, room);
+  say (sizeof source, room, " with lent scratch", result);
+  free (scratch);
+  return result;
+}
+
+static void print (const uint8_t *bytes, size_t n)
+{
+  for (size_t i = 0; i < n; i++) printf ("%02x%s", bytes[i], i % 16 == 15 || i + 1 == n ? "\n" : "");
 }
 
 int main (void)
@@ -53,7 +77,9 @@ int main (void)
   if (sizeof out < needed) return 1;
   uint64_t result = cut (sizeof source, out, needed);
   if (gillcurtain_number (result) != GILLCURTAIN_KEPT) return 1;
-  size_t n = gillcurtain_length (result);
-  for (size_t i = 0; i < n; i++) printf ("%02x%s", out[i], i % 16 == 15 || i + 1 == n ? "\n" : "");
+  print (out, gillcurtain_length (result));
+  result = cut_with_scratch (out, sizeof out);
+  if (gillcurtain_number (result) != GILLCURTAIN_KEPT) return 1;
+  print (out, gillcurtain_length (result));
   return 0;
 }

@@ -3,14 +3,20 @@
  * One call cuts one subtable down to the glyphs and lookups that are kept, or
  * refuses by number. It asks the system for nothing, keeps nothing between
  * calls and takes no lock: any number of threads may call it at once.
+ * gillcurtain_subset makes its scratch on the stack. gillcurtain_subset_with
+ * takes it from the caller: it answers the same, is somewhat faster, and needs
+ * little stack.
  *
  * What a caller owes:
  * - each pointer and its length are bytes that can be read, and those of `out`
- *   can be written too; `out` overlaps none of the other three, which may
- *   overlap each other;
+ *   and of the scratch can be written too; these two overlap none of the
+ *   others, nor each other; source and maps may overlap each other;
  * - a part of length 0 may have any pointer, null too;
- * - no other thread writes to these bytes, or reads `out`, during the call;
- * - GILLCURTAIN_STACK bytes of stack. With less, the call may end the process.
+ * - no other thread writes to these bytes, or reads `out` or the scratch,
+ *   during the call: a thread needs scratch of its own;
+ * - GILLCURTAIN_STACK bytes of stack; with GILLCURTAIN_SCRATCH bytes of scratch
+ *   GILLCURTAIN_LITTLE_STACK are enough. With less, the call may end the
+ *   process.
  * Nothing is asked of what the bytes are: any content gets its answer. */
 #ifndef GILLCURTAIN_H
 #define GILLCURTAIN_H
@@ -52,9 +58,18 @@ enum gillcurtain_answer {
   GILLCURTAIN_PAST_RULE = 12    /* a record's sequence index is not below its rule's input count */
 };
 
-/* The stack, in bytes, that a call may use at most: 2.75 MiB. hosts/c/limits.c
- * holds the call that goes deepest to it. */
-#define GILLCURTAIN_STACK (11u << 18)
+/* The stack, in bytes, that a call may use at most: 3 MiB. hosts/c/limits.c
+ * holds calls that go deep to it. */
+#define GILLCURTAIN_STACK (12u << 18)
+
+/* The same where GILLCURTAIN_SCRATCH bytes of scratch are lent. */
+#define GILLCURTAIN_LITTLE_STACK (1u << 18)
+
+/* The scratch that is enough for any call: so many cells of 32 bits, so many
+ * bytes of area, and both in one piece. */
+#define GILLCURTAIN_CELLS 655360u
+#define GILLCURTAIN_AREA 262144u
+#define GILLCURTAIN_SCRATCH (4u * GILLCURTAIN_CELLS + GILLCURTAIN_AREA)
 
 /* Cuts `source`, a subtable of this kind. `glyphs` and `lookups` are maps:
  * entries of four bytes, the old number and the new one, both big-endian, with
@@ -74,6 +89,37 @@ uint64_t gillcurtain_subset (uint64_t kind,
                              const uint8_t *glyphs, size_t glyphs_len,
                              const uint8_t *lookups, size_t lookups_len,
                              uint8_t *out, size_t out_len);
+
+/* The same with lent scratch in its two parts, of any lengths and whatever they
+ * hold. A call for which they are too short makes scratch of its own on the
+ * stack, as gillcurtain_subset does. What they hold afterwards says nothing. */
+uint64_t gillcurtain_subset_in (uint64_t kind,
+                                const uint8_t *source, size_t source_len,
+                                const uint8_t *glyphs, size_t glyphs_len,
+                                const uint8_t *lookups, size_t lookups_len,
+                                uint32_t *cells, size_t cells_len,
+                                uint8_t *area, size_t area_len,
+                                uint8_t *out, size_t out_len);
+
+/* The same with one piece of scratch, of any length and alignment. Of a piece
+ * that is shorter than GILLCURTAIN_SCRATCH half is area, as long as that is no
+ * more than GILLCURTAIN_AREA. */
+static inline uint64_t gillcurtain_subset_with (uint64_t kind,
+                                                const uint8_t *source, size_t source_len,
+                                                const uint8_t *glyphs, size_t glyphs_len,
+                                                const uint8_t *lookups, size_t lookups_len,
+                                                void *scratch, size_t scratch_len,
+                                                uint8_t *out, size_t out_len)
+{
+  size_t skipped = (size_t) (-(uintptr_t) scratch & 3u);
+  if (scratch_len < skipped) skipped = scratch_len;
+  size_t left = scratch_len - skipped;
+  size_t area_len = left / 2 < GILLCURTAIN_AREA ? left / 2 : GILLCURTAIN_AREA;
+  size_t cells_len = (left - area_len) / 4;
+  uint8_t *start = (uint8_t *) scratch + skipped;
+  return gillcurtain_subset_in (kind, source, source_len, glyphs, glyphs_len, lookups, lookups_len,
+                                (uint32_t *) (void *) start, cells_len, start + 4 * cells_len, area_len, out, out_len);
+}
 
 static inline unsigned gillcurtain_number (uint64_t result) { return (unsigned) (result >> 32); }
 static inline size_t gillcurtain_length (uint64_t result) { return (size_t) (result & 0xFFFFFFFFu); }

@@ -1,12 +1,15 @@
-/* Holds the call to what gillcurtain.h says of pointers and of the stack.
+/* Holds the calls to what gillcurtain.h says of pointers and of the stack.
  *
- * Each part in turn is empty and its pointer null. Then the call that goes
- * deepest, a chained context by class whose classes share their rules, under
- * long maps, runs on a stack of GILLCURTAIN_STACK bytes above pages that nobody
- * may touch, which was filled before, and what it used of it is printed. */
+ * Each part in turn is empty and its pointer null. Then tables of each kind,
+ * among them a chained context by class whose classes share their rules, are
+ * cut under the longest map, with scratch of the call's own, with lent scratch
+ * and with too little of it. Each call runs on as much stack as the header
+ * says, above pages that nobody may touch, which was filled before; the most
+ * that was used of it is printed. */
 #define _GNU_SOURCE
 #include <pthread.h>
 #include <stdio.h>
+#include <stdlib.h>
 #include <string.h>
 #include <sys/mman.h>
 #include "gillcurtain.h"
@@ -69,38 +72,95 @@ static void empty_parts (void)
           GILLCURTAIN_NO_ROOM, KEPT);
 }
 
-static uint8_t *stack;
+/* Tables that say little, for calls that go deep since the map is long. */
+static const uint8_t by_glyph[] = { 0, 1, 0, 16, 0, 1, 0, 8, 0, 1, 0, 4, 0, 1, 0, 0, 0, 1, 0, 1, 0, 1 };
+static const uint8_t by_cover[] = { 0, 3, 0, 1, 0, 0, 0, 8, 0, 1, 0, 1, 0, 1 };
+static const uint8_t ligatures[] = { 0, 1, 0, 16, 0, 1, 0, 8, 0, 1, 0, 4, 0, 2, 0, 1, 0, 1, 0, 1, 0, 1 };
+static const uint8_t pairs[] = { 0, 1, 0, 18, 0, 4, 0, 0, 0, 1, 0, 12, 0, 1, 0, 1, 0, 9, 0, 1, 0, 1, 0, 1 };
 
-/* The call on what is left of the stack here, cut down to GILLCURTAIN_STACK bytes and the rest of a page. */
-static void *deepest (void *used)
+static const struct { const char *name; unsigned kind; const uint8_t *at; size_t len, kept; } deep[] = {
+  { "chained by class", GILLCURTAIN_CHAINED, shared, sizeof shared, KEPT },
+  { "by glyph", GILLCURTAIN_CONTEXT, by_glyph, sizeof by_glyph, sizeof by_glyph },
+  { "by cover", GILLCURTAIN_CONTEXT, by_cover, sizeof by_cover, sizeof by_cover },
+  { "ligatures", GILLCURTAIN_LIGATURE, ligatures, sizeof ligatures, sizeof ligatures },
+  { "pairs", GILLCURTAIN_PAIR, pairs, sizeof pairs, sizeof pairs }
+};
+enum { DEEP = sizeof deep / sizeof *deep };
+
+/* A way of calling: with so much lent scratch, or none of it, and on so much stack. */
+struct way { const char *name; uint8_t *scratch; size_t scratch_len, most; };
+
+/* A call on a stack that begins at `stack`, and what it used of it. */
+struct run { const struct way *way; unsigned which; uint8_t *stack; size_t used; };
+
+static uint64_t call (const struct way *way, unsigned which, uint8_t *out)
 {
+  if (!way->scratch)
+    return gillcurtain_subset (deep[which].kind, deep[which].at, deep[which].len, glyphs, sizeof glyphs,
+                               lookups, sizeof lookups, out, KEPT);
+  return gillcurtain_subset_with (deep[which].kind, deep[which].at, deep[which].len, glyphs, sizeof glyphs,
+                                  lookups, sizeof lookups, way->scratch, way->scratch_len, out, KEPT);
+}
+
+/* The call on what is left of the stack here, cut down to what it may use and the rest of a page. */
+static void *on_stack (void *given)
+{
+  struct run *run = given;
   uint8_t out[KEPT];
   uint8_t *here = out;
-  size_t below = (size_t) (here - stack - GILLCURTAIN_STACK) / PAGE * PAGE;
-  uint8_t *low = stack + below;
-  if (mprotect (stack, below, PROT_NONE)) { perror ("mprotect"); faults++; return NULL; }
-  expect ("deepest", gillcurtain_subset (GILLCURTAIN_CHAINED, shared, sizeof shared, glyphs, sizeof glyphs, lookups, sizeof lookups, out, KEPT),
-          GILLCURTAIN_KEPT, KEPT);
+  size_t below = (size_t) (here - run->stack - run->way->most) / PAGE * PAGE;
+  uint8_t *low = run->stack + below;
+  if (mprotect (run->stack, below, PROT_NONE)) { perror ("mprotect"); faults++; return NULL; }
+  expect (deep[run->which].name, call (run->way, run->which, out), GILLCURTAIN_KEPT, deep[run->which].kept);
   while (*low == FILL) low++;
-  *(size_t *) used = (size_t) (here - low);
+  run->used = (size_t) (here - low);
   return NULL;
+}
+
+/* How much stack the call used, in a thread whose stack was filled before. */
+static size_t stack_used (const struct way *way, unsigned which)
+{
+  size_t size = way->most + MORE;
+  struct run run = { way, which, mmap (NULL, size, PROT_READ | PROT_WRITE, MAP_PRIVATE | MAP_ANONYMOUS, -1, 0), 0 };
+  pthread_t thread;
+  pthread_attr_t attr;
+  if (run.stack == MAP_FAILED) { perror ("mmap"); exit (1); }
+  memset (run.stack, FILL, size);
+  if (pthread_attr_init (&attr) || pthread_attr_setstack (&attr, run.stack, size)
+      || pthread_create (&thread, &attr, on_stack, &run) || pthread_join (thread, NULL))
+  { printf ("no thread\n"); exit (1); }
+  pthread_attr_destroy (&attr);
+  munmap (run.stack, size);
+  return run.used;
+}
+
+/* The most stack that these calls used; whether it is no more than they may. */
+static int holds (const struct way *way)
+{
+  size_t most = 0;
+  for (unsigned which = 0; which < DEEP; which++)
+  {
+    size_t used = stack_used (way, which);
+    if (most < used) most = used;
+  }
+  printf ("%s: %zu of %zu bytes of stack used\n", way->name, most, way->most);
+  return most <= way->most;
 }
 
 int main (void)
 {
-  size_t size = GILLCURTAIN_STACK + MORE, used = 0;
-  pthread_t thread;
-  pthread_attr_t attr;
+  static uint8_t scratch[GILLCURTAIN_SCRATCH + 4];
+  const struct way ways[] = {
+    { "own scratch", NULL, 0, GILLCURTAIN_STACK },
+    { "lent scratch", scratch, sizeof scratch, GILLCURTAIN_LITTLE_STACK },
+    { "too little scratch", scratch, 64, GILLCURTAIN_STACK }
+  };
+  int good = 1;
   for (unsigned i = 0; i < GLYPHS; i++)
     glyphs[4 * i] = glyphs[4 * i + 2] = i >> 8, glyphs[4 * i + 1] = glyphs[4 * i + 3] = i & 255;
   empty_parts ();
   share ();
-  stack = mmap (NULL, size, PROT_READ | PROT_WRITE, MAP_PRIVATE | MAP_ANONYMOUS, -1, 0);
-  if (stack == MAP_FAILED) { perror ("mmap"); return 1; }
-  memset (stack, FILL, size);
-  if (pthread_attr_init (&attr) || pthread_attr_setstack (&attr, stack, size)
-      || pthread_create (&thread, &attr, deepest, &used) || pthread_join (thread, NULL))
-  { printf ("no thread\n"); return 1; }
-  printf ("%zu of %u bytes of stack used\n", used, GILLCURTAIN_STACK);
-  return faults || used > GILLCURTAIN_STACK;
+  for (unsigned w = 0; w < sizeof ways / sizeof *ways; w++)
+    good &= holds (&ways[w]);
+  return faults || !good;
 }

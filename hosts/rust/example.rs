@@ -1,7 +1,7 @@
 //! Cuts the first worked example, P1, and says in words what came back: a context by glyph with
 //! three rules, of which the maps leave two.
 
-use gillcurtain::{subset, Answer, CONTEXT};
+use gillcurtain::{subset, Answer, Subsetter, CONTEXT};
 
 const SOURCE: [u16; 28] = [
     1, 48, 2, 10, 36, // format 1, coverage, two sets
@@ -20,13 +20,29 @@ fn bytes(words: &[u16]) -> Vec<u8> {
     words.iter().flat_map(|word| word.to_be_bytes()).collect()
 }
 
-/// Cuts the first so many words of P1 into `out`, and says what came back.
+/// Says what came back for so many bytes of P1 and a buffer of `room` bytes.
+fn say(length: usize, room: usize, how: &str, answer: Answer) -> Answer {
+    println!("{length} bytes of P1 into {room}{how}: answer {}, {answer}", answer.number());
+    answer
+}
+
+/// Cuts the first so many words of P1 into `out`.
 fn cut(words: usize, out: &mut [u8]) -> Answer {
     let source = bytes(&SOURCE[..words]);
     let answer = subset(CONTEXT, &source, &bytes(&GLYPHS), &bytes(&LOOKUPS), out);
-    let (length, room) = (source.len(), out.len());
-    println!("{length} bytes of P1 into {room}: answer {}, {answer}", answer.number());
-    answer
+    say(source.len(), out.len(), "", answer)
+}
+
+/// Cuts P1 into `out` with lent scratch, which serves any number of calls.
+fn cut_with(subsetter: &mut Subsetter, out: &mut [u8]) -> Answer {
+    subsetter.subset(CONTEXT, &bytes(&SOURCE), &bytes(&GLYPHS), &bytes(&LOOKUPS), out)
+}
+
+/// Prints bytes in lines of 16.
+fn print(bytes: &[u8]) {
+    for line in bytes.chunks(16) {
+        println!("{}", line.iter().map(|byte| format!("{byte:02x}")).collect::<String>());
+    }
 }
 
 fn main() {
@@ -41,7 +57,17 @@ fn main() {
     let Answer::Kept(n) = cut(SOURCE.len(), &mut out) else {
         std::process::exit(1);
     };
-    for line in out[..n].chunks(16) {
-        println!("{}", line.iter().map(|byte| format!("{byte:02x}")).collect::<String>());
+    print(&out[..n]);
+    let mut room = [0; 56];
+    let answer = cut_with(&mut Subsetter::new(), &mut room);
+    let Answer::Kept(n) = say(2 * SOURCE.len(), room.len(), " with lent scratch", answer) else {
+        std::process::exit(1);
+    };
+    print(&room[..n]);
+    // However little scratch is lent, the answer is the same.
+    for bytes in [0, 1, 7, 8, 100, 1000, 10_000, 100_000] {
+        let mut other = [0; 56];
+        assert_eq!(cut_with(&mut Subsetter::with_bytes(bytes), &mut other), answer);
+        assert_eq!(other, room);
     }
 }

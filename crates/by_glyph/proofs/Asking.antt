@@ -1,35 +1,50 @@
 -- What the check of a header says to the cut, and what the parts of the whole answer.
 use Prim.Native.Nat.{ℕ, zero, suc, _+_, _-_, _*_, _/_, _%_, _≤_, _<_}
-use mathlib.Core.Path.{_≡_, refl, ap, _∙_}
+use mathlib.Core.Path.{_≡_, refl, sym, ap, ap₂, _∙_}
 use mathlib.Core.Bool.{Bool, true, cond, _&&_}
 use mathlib.Core.Option.{Option, none, some}
-use mathlib.Core.List.{List, [], _∷_, map}
+use mathlib.Core.List.{List, [], _∷_, _++_}
 use native.Mathlib.Decide.{decLt}
 use native.Mathlib.Nat.{zero-add}
 use native.Mathlib.Omega.{arith}
-use lib.ListN.{length, getD}
+use lib.ListN.{length, getD, take}
 use lib.Dec.{eqb}
 use borrow.Author.Tests.{ne-eqb, leb-true}
 use Rattle.meaning.specs.Words.{word, inside, find, bind, push, keys, ascends}
 use Rattle.meaning.specs.Parts.{coverage, coverageSound}
-use Rattle.meaning.specs.Fault.{faultThrough, coverageFault, enough, headerFault}
+use Rattle.meaning.specs.Tables.{Table, fieldCount}
+use Rattle.meaning.specs.Fault.{faultThrough, coverageFault, pairSetFault, enough, headerFault}
+use Rattle.meaning.specs.Cut.{RuleMaps, cut, standIn}
+use Rattle.meaning.specs.Layout.{block, tableWords}
 use Rattle.laws.specs.Stands.{All}
 use Rattle.laws.specs.Runs.{both}
 use Rattle.laws.specs.SoundGood.{part-sound, lowest-none, header-good}
+use Rattle.numbers.specs.Alike.{Alike, holds-alike}
+use Rattle.pair_sets.specs.Formats.{pairSize, placesOf}
+use Rattle.pair_sets.specs.Puts.{Puts}
+use Rattle.pair_sets.specs.declared.Formats.{Formats}
+use Rattle.pair_formats.specs.New.{formatIn, AsksFormats, NewFormats, format-alike}
+use Rattle.tried.specs.Tries.{Tries}
+use Rattle.tried.specs.declared.Tried.{Tried}
 use Rattle.member_sets.specs.Sound.{inside-is, through-sound}
 use Rattle.area.specs.Part.{part, notes, oldAt}
 use Rattle.meaning.specs.Maps.{mapEntries}
-use Rattle.meaning.specs.Subset.{limit}
+use Rattle.meaning.specs.Subset.{limit, written}
 use Rattle.fold.specs.Cells.{Holds, holds-kept}
 use Rattle.fold.specs.Laid.{Laid}
 use Rattle.fold.specs.declared.Map.{Map}
 use Rattle.rule_sets.specs.declared.Maps.{Maps}
 use Rattle.meet.specs.Met.{met, Met, Meets, met-count}
-use Rattle.kept_sets.specs.Sorts.{headerSize, setFaultOf, leftIn, left-kept, inside-kept}
+use Rattle.meet.proofs.Entries.{map-rises}
+use Rattle.kept_sets.specs.Sorts.{headerSize, setFaultOf, leftIn, Told, told-pairs, pairs-sound, left-kept, inside-kept}
 use Rattle.kept_sets.specs.Kept.{setAt, keptOf, Ready, keptIn}
 use Rattle.kept_sets.specs.declared.Sort.{Sort}
-use Rattle.kept_sets.specs.declared.Sort.the-variants.{Rules, Ligatures}
+use Rattle.kept_sets.specs.declared.Sort.the-variants.{Rules, Ligatures, Pairs}
+use Rattle.kept_table.specs.Table.{areaMost, tableOf}
 use Rattle.by_glyph.specs.Asked.{SoundSets, MapsLaid, keptFrom}
+use Rattle.kept_table.specs.Answers.{Answered, answered-as, answered-said}
+use Rattle.by_glyph.specs.Whole.{cellsMost}
+use Rattle.by_glyph.specs.PairTables.{pairTable, pairFault, pairsOf, oneMap, AnsweredPairs, sound-pairs, pairs-cut}
 
 -- notes name glyphs of the coverage
 module _ (f : ℕ → Option ℕ) where
@@ -102,21 +117,37 @@ module _ (good : Bool) (slot : ℕ) (faultAt : ℕ → Option ℕ) (s : List ℕ
       rw e (leb-true (length (coverage s (word s 2))) (word s slot) (rw (ne-eqb (word s 2) 0 (λ w. z (e ∙ w)), c) at (g (header-good s good 0 slot faultAt h .0))))
 
 -- so the source is sound
-pub header-sound : (sort : Sort) (s : List ℕ) → headerFault (enough s (word s 4)) 0 4 (setFaultOf sort s) s ≡ none → length s ≤ limit → SoundSets sort s
-header-sound (Rules chained) s h l = record {
-  short = l;
-  header = header-inside (enough s (word s 4)) 4 (setFaultOf (Rules chained) s) s h;
-  cover = λ z. cover-sound (enough s (word s 4)) 4 (setFaultOf (Rules chained) s) s h refl z;
-  enough = λ z. sets-enough (enough s (word s 4)) 4 (setFaultOf (Rules chained) s) s h (λ e. e) refl z;
-  sets = reached-sound (enough s (word s 4)) 4 (setFaultOf (Rules chained) s) s h;
-}
-header-sound Ligatures s h l = record {
-  short = l;
-  header = header-inside (enough s (word s 4)) 4 (setFaultOf Ligatures s) s h;
-  cover = λ z. cover-sound (enough s (word s 4)) 4 (setFaultOf Ligatures s) s h refl z;
-  enough = λ z. sets-enough (enough s (word s 4)) 4 (setFaultOf Ligatures s) s h (λ e. e) refl z;
-  sets = reached-sound (enough s (word s 4)) 4 (setFaultOf Ligatures s) s h;
-}
+module _ (s : List ℕ) (l : length s ≤ limit) where
+  pub rules-asked : (chained : Bool) → headerFault (enough s (word s 4)) 0 4 (setFaultOf (Rules chained) s) s ≡ none → SoundSets (Rules chained) s
+  rules-asked chained h = record {
+    short = l;
+    header = header-inside (enough s (word s 4)) 4 (setFaultOf (Rules chained) s) s h;
+    cover = λ z. cover-sound (enough s (word s 4)) 4 (setFaultOf (Rules chained) s) s h refl z;
+    enough = λ z. sets-enough (enough s (word s 4)) 4 (setFaultOf (Rules chained) s) s h (λ e. e) refl z;
+    sets = reached-sound (enough s (word s 4)) 4 (setFaultOf (Rules chained) s) s h;
+  }
+
+  pub ligatures-asked : headerFault (enough s (word s 4)) 0 4 (setFaultOf Ligatures s) s ≡ none → SoundSets Ligatures s
+  ligatures-asked h = record {
+    short = l;
+    header = header-inside (enough s (word s 4)) 4 (setFaultOf Ligatures s) s h;
+    cover = λ z. cover-sound (enough s (word s 4)) 4 (setFaultOf Ligatures s) s h refl z;
+    enough = λ z. sets-enough (enough s (word s 4)) 4 (setFaultOf Ligatures s) s h (λ e. e) refl z;
+    sets = reached-sound (enough s (word s 4)) 4 (setFaultOf Ligatures s) s h;
+  }
+
+  pub pairs-asked : pairFault s ≡ none → SoundSets (pairsOf s) s
+  unfolding setFaultOf
+  pairs-asked h =
+      let good = eqb (word s 4 / 256) 0 && (eqb (word s 6 / 256) 0 && enough s (word s 8)) in
+      let faultAt = pairSetFault (fieldCount (word s 4)) (fieldCount (word s 6)) s in
+      record {
+        short = l;
+        header = header-inside good 8 faultAt s h;
+        cover = λ z. cover-sound good 8 faultAt s h refl z;
+        enough = λ z. sets-enough good 8 faultAt s h (λ e. both (eqb (word s 6 / 256) 0) (enough s (word s 8)) (both (eqb (word s 4 / 256) 0) _ e .1) .1) refl z;
+        sets = reached-sound good 8 faultAt s h;
+      }
 
 -- kept sets, under what leaves the same
 kept-same : (left other : ℕ → Option (List ℕ)) → ((p : ℕ) → left p ≡ other p) → (s : List ℕ) (slots : ℕ) (ns : List (ℕ × ℕ)) → keptOf left s slots ns ≡ keptOf other s slots ns
@@ -152,6 +183,73 @@ module _ {sort : Sort} {s glyphs t₀ : List ℕ} {maps : Maps} {notes : ℕ} (a
         kept-same (leftIn sort t maps s) (leftIn sort t₀ maps s) (left-kept (h .kept) sort (l .before) s) s (headerSize sort) _
         ∙ ap (keptOf (leftIn sort t₀ maps s) s (headerSize sort)) (h .noted ∙ ap (λ (i : ℕ). met (find (mapEntries glyphs)) 0 (coverage s i)) e)
 
+-- The new formats of a table of pairs: what is asked, and what the notes say of the kept sets.
+module _ {s t : List ℕ} {g : Map} {at m : ℕ} (a : Ready (pairsOf s) s t (oneMap g) at m) where
+  pub asks-formats : AsksFormats s t g at m
+  unfolding setFaultOf
+  asks-formats = record {
+    header = omega (arith, a .few);
+    names = record {
+      fits = a .fits;
+      offset = λ i l. a .reaches i l .inside;
+      inside = λ i l z. pairs-sound s (word s (10 + 2 * oldAt t (at + i))) {f = record { f1 = word s 4; f2 = word s 6; n1 = 0; n2 = 0; size = pairSize (word s 4) (word s 6) }} refl refl (a .reaches i l .sound z);
+    };
+    inside = a .inside .input;
+  }
+
+-- an empty front
+take-none : (l : List ℕ) → take 0 l ≡ []
+take-none [] = refl
+take-none (x ∷ l) = refl
+
+-- numbers that are put into an empty front
+puts-front : {before ns after : List ℕ} {r : ℕ} → Puts before 0 ns after r → take r after ≡ ns
+puts-front {before} {ns} p = p .front ∙ ap (λ (l : List ℕ). l ++ ns) (take-none before)
+
+pub puts-length : {before ns after : List ℕ} {r : ℕ} → Puts before 0 ns after r → r ≡ length (take r after)
+puts-length p = omega (arith, p .place, ap length (puts-front p))
+
+-- the writer of pair sets is told the places of the fields that stay
+pub told-new : {g : List (ℕ × ℕ)} {s : List ℕ} {ns : List (ℕ × ℕ)} {f : Formats} {m : RuleMaps} {before after : List ℕ} {r : ℕ} → NewFormats g s ns f → Puts before 0 (placesOf (f .f1) (f .f2) (f .n1) (f .n2)) after r → Told (Pairs f) m s (take r after)
+told-new n p = told-pairs (n .size ∙ sym (ap₂ pairSize (n .f1) (n .f2))) (puts-front p)
+
+-- formats that the same map and the same notes give
+formats-same : {g h : List (ℕ × ℕ)} {s : List ℕ} {ns ms : List (ℕ × ℕ)} {f : Formats} → Alike g h → ns ≡ ms → NewFormats g s ns f → NewFormats h s ms f
+formats-same {g} {h} {s} {ns} {ms} {f} e n w = record {
+  f1 = w .f1;
+  f2 = w .f2;
+  size = w .size;
+  n1 = w .n1 ∙ format-alike e s (pairSize (word s 4) (word s 6)) 2 (word s 4) ns ∙ ap (formatIn h s (pairSize (word s 4) (word s 6)) 2 (word s 4)) n;
+  n2 = w .n2 ∙ ap (standIn (word s 6)) (format-alike e s (pairSize (word s 4) (word s 6)) (2 + 2 * fieldCount (word s 4)) (word s 6) ns ∙ ap (formatIn h s (pairSize (word s 4) (word s 6)) (2 + 2 * fieldCount (word s 4)) (word s 6)) n);
+}
+
+-- what is answered of a table of pairs is answered of what is left of it
+module _ {s glyphs t₀ : List ℕ} {g : Map} {notes : ℕ} (a : SoundSets (pairsOf s) s) (l : MapsLaid glyphs t₀ (oneMap g) notes) (z : word s 2 ≡ 0 → ⊥) {cover : ℕ} (e : cover ≡ word s 2)
+    {t : List ℕ} {m : ℕ} (h : Met (find (mapEntries glyphs)) (coverage s cover) t₀ notes t m) where
+  pub pairs-answered : {few : Type 0} {out₀ : List ℕ} {n : ℕ} {r : Tried} {out : List ℕ} → AnsweredPairs s t g notes m out₀ n r out
+      → Answered few out₀ (block tableWords (cut (mapEntries glyphs) [] (pairTable s))) n r out
+  pairs-answered w =
+      let f = w .formats in
+      let new = formats-same (holds-alike (holds-kept (h .kept) (l .before .input) (l .holds))) (h .noted ∙ ap (λ (i : ℕ). met (find (mapEntries glyphs)) 0 (coverage s i)) e) (w .new) in
+      let sound = sound-pairs s f (new .f1) (new .f2) a in
+      answered-said (λ x. absurd x) (ap (tableOf (Pairs f)) (kept-said sound l z e h) ∙ pairs-cut glyphs s (oneMap g) (l .holds) f new z sound) (w .answered)
+
+-- A map whose old numbers ascend has 65,536 entries at most.
+word-small : (m : List ℕ) → ((i : ℕ) → getD m i 0 < 256) → (at : ℕ) → word m at < 65536
+unfolding word
+word-small m h at = omega (arith, h at, h (at + 1))
+
+map-least : (m : List ℕ) → ascends (keys (mapEntries m)) ≡ true → (k : ℕ) → k < length m / 4 → k ≤ word m (4 * k)
+map-least m good zero h = omega arith
+map-least m good (suc k) h = omega (arith, map-least m good k (omega arith), map-rises m good k (suc k) (omega arith) h)
+
+few-entries : (m : List ℕ) → ascends (keys (mapEntries m)) ≡ true → ((i : ℕ) → getD m i 0 < 256) → length m / 4 ≤ 65536
+few-entries m good bytes = step (decLt 0 (length m / 4))
+  where
+    step : Dec (0 < length m / 4) → length m / 4 ≤ 65536
+    step (yes h) = omega (arith, map-least m good (length m / 4 - 1) (omega arith), word-small m bytes (4 * (length m / 4 - 1)))
+    step (no h) = omega arith
+
 -- a map that has no room
 pub no-room : {list t₀ t : List ℕ} {at : ℕ} {m : Map} → Laid list t₀ t at m → ascends (keys (mapEntries list)) ≡ true → m .mask ≡ 0 → length t₀ < at + 65536
 no-room {t₀ = t₀} {at = at} l a z = step (decLt (length t₀) (at + 65536))
@@ -166,7 +264,7 @@ module _ {g t₀ t : List ℕ} {m : Map} (a : Laid g t₀ t 0 m) (z : m .mask �
   ends : m .at + m .mask < m .mask + 1
   ends = omega (arith, a .place)
 
-  pub one-laid : MapsLaid g t (record { back = m; input = m; ahead = m; lookups = m }) (m .mask + 1)
+  pub one-laid : MapsLaid g t (oneMap m) (m .mask + 1)
   one-laid =
       let h = a .holds z in
       record {
@@ -193,3 +291,13 @@ module _ {g t₀ t : List ℕ} {m : Map} (a : Laid g t₀ t 0 m) (z : m .mask �
           before = record { back = e; input = e; ahead = e; lookups = omega (arith, b .place) };
           small = omega (arith, a .few u, b .few v);
         }
+
+-- With few cells behind the maps, the lent ones were few; so what is answered behind the maps is answered of all.
+module _ {g t₀ t : List ℕ} {m : Map} (a : Laid g t₀ t 0 m) (u : ascends (keys (mapEntries g)) ≡ true) (bytes : (i : ℕ) → getD g i 0 < 256)
+    {out₀ : List ℕ} {words : Option (List ℕ)} {n : ℕ} {r : Tried} {out : List ℕ} (left : Option Table) (e : words ≡ block tableWords left) where
+  pub one-answered : Answered (length t ≤ m .mask + 1 + length g / 4) out₀ words n r out → Tries (length t₀ < cellsMost) (n < areaMost) r out₀ out (written out₀ left)
+  one-answered = answered-as (λ h. omega (arith, h, few-entries g u bytes, a .kept .size, a .few u)) left e
+
+  pub two-answered : {l t₂ : List ℕ} {k : Map} → Laid l t t₂ (m .mask + 1) k → ascends (keys (mapEntries l)) ≡ true → Answered (length t₂ ≤ m .mask + k .mask + 2 + length g / 4) out₀ words n r out
+      → Tries (length t₀ < cellsMost) (n < areaMost) r out₀ out (written out₀ left)
+  two-answered b v = answered-as (λ h. omega (arith, h, few-entries g u bytes, a .kept .size, b .kept .size, a .few u, b .few v)) left e

@@ -23,7 +23,7 @@ use Rattle.kept_sets.specs.Sorts.{headerSize, setFaultOf, setLeft, leftIn, AllB
 use Rattle.kept_sets.specs.Kept.{keptOf}
 use Rattle.kept_sets.specs.declared.Sort.{Sort}
 use Rattle.kept_sets.specs.declared.Sort.the-variants.{Rules, Ligatures}
-use Rattle.by_glyph.specs.Table.{tableOf}
+use Rattle.kept_table.specs.Table.{tableOf}
 use Rattle.by_glyph.specs.KeptIs.{kept-met, rules-as, ligatures-as}
 use Rattle.by_glyph.specs.Whole.{glyphContext, ligatureTable}
 

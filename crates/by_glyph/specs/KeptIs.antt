@@ -16,7 +16,7 @@ use Rattle.area.specs.Closed.{members}
 use Rattle.meet.specs.Met.{met}
 use Rattle.kept_sets.specs.Kept.{setAt, keptOf, wordsOf}
 use Rattle.kept_sets.specs.declared.Sort.the-variants.{Rules, Ligatures}
-use Rattle.by_glyph.specs.Table.{tableOf}
+use Rattle.kept_table.specs.Table.{tableOf}
 
 -- a kept set as the words of its layout
 abbrev pub asWords : {A : Type 0} → (A → List ℕ) → List (ℕ × A) → List (ℕ × List ℕ)
@@ -53,7 +53,7 @@ module _ {A : Type 0} (read : ℕ → A) (cutOne : A → Option A) (F : A → Li
       step (some x) r = one-is i x _ _ r
 
 -- glyphs and words of kept sets
-glyphs-as : {A : Type 0} (F : A → List ℕ) (ks : List (ℕ × A)) → glyphsOf (asWords F ks) ≡ glyphsOf ks
+pub glyphs-as : {A : Type 0} (F : A → List ℕ) (ks : List (ℕ × A)) → glyphsOf (asWords F ks) ≡ glyphsOf ks
 unfolding glyphsOf
 glyphs-as F [] = refl
 glyphs-as F (k ∷ ks) = ap (λ (l : List ℕ). k .0 ∷ l) (glyphs-as F ks)

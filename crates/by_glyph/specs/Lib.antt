@@ -1,4 +1,4 @@
-pub mod Table
 pub mod Whole
 pub mod KeptIs
 pub mod Asked
+pub mod PairTables

@@ -1,107 +1,64 @@
 // Format 1 of each kind, cut in one walk: the retained covered glyphs are noted in cells, what is left of their sets is written into the area, and the table is handed over to the buffer.
-use area::hand_over;
-use area::lessen;
-use area::put_three;
-use area::write_cover;
+use fold::Map;
 use fold::lay;
 use kept_sets::Sort;
-use kept_sets::header_size;
-use kept_sets::write_kept;
+use kept_table::AREA;
+use kept_table::Notes;
+use kept_table::write_table;
 use meet::meet;
+use member_sets::crowded;
+use pair_formats::new_formats;
+use pair_sets::kept_places;
+use room::LIMIT;
 use room::Laid;
 use rule_sets::Maps;
+use tried::Tried;
 use wire::word_inside;
 ghost use mathlib.Core.Path.{_≡_};
-ghost use mathlib.Core.Bool.{true};
+ghost use mathlib.Core.Bool.{true, false};
 ghost use mathlib.Core.Option.{none};
-ghost use mathlib.Core.List.{[], _∷_, _++_};
-ghost use Prim.Native.Nat.{_+_, _*_, _/_, _≤_, _<_};
+ghost use mathlib.Core.List.{[]};
+ghost use Prim.Native.Nat.{_+_, _/_, _≤_, _<_};
 ghost use lib.ListN.{length};
 ghost use Rattle.meaning.specs.Words.{word, ascends, keys};
 ghost use Rattle.meaning.specs.Maps.{mapEntries};
 ghost use Rattle.meaning.specs.Fault.{headerFault, enough};
 ghost use Rattle.meaning.specs.Cut.{cut};
-ghost use Rattle.meaning.specs.Subset.{limit};
-ghost use Rattle.laws.specs.Written.{Wrote};
-ghost use Rattle.kept_sets.specs.Sorts.{moreOf, headerSize, setFaultOf};
+ghost use Rattle.meaning.specs.Layout.{block, tableWords};
+ghost use Rattle.meaning.specs.Subset.{limit, written};
+ghost use Rattle.kept_sets.specs.Sorts.{setFaultOf, isPairs};
 ghost use Rattle.kept_sets.specs.Kept.{Ready, keptIn};
 ghost use Rattle.kept_sets.specs.declared.Sort.the-variants.{Rules, Ligatures};
-ghost use Rattle.by_glyph.specs.Table.{Finishes, Finished, tableOf};
+ghost use Rattle.tried.specs.Tries.{Tries};
+ghost use Rattle.kept_table.specs.Table.{areaMost, tableOf};
+ghost use Rattle.kept_table.specs.Answers.{Answered};
 ghost use Rattle.by_glyph.specs.Asked.{SoundSets, MapsLaid, keptFrom};
-ghost use Rattle.by_glyph.specs.Whole.{areaMost, cellsNeeded, Answered, CutAs, glyphContext, ligatureTable};
+ghost use Rattle.by_glyph.specs.PairTables.{pairsOf, oneMap, pairFault, pairTable, AnsweredPairs};
+ghost use Rattle.by_glyph.specs.Whole.{cellsMost, Least, glyphContext, ligatureTable};
 
-// What became of a table: the cells are too few for the maps and the notes, the area is too short, or it was cut.
-pub enum Cut {
-    FewCells,
-    Short,
-    Became(Laid),
-}
-
-// The words before the offsets of the sets; the place after them.
-fn write_header(sort: Sort, area: &mut [u8], cover: usize, k: usize) -> usize
-    requires { ⌜ headerSize sort ≤ length (now area) ⌝ }
-    ensures { λ r. ⌜ Wrote (now (area .entry)) 0 (1 ∷ cover ∷ (moreOf sort ++ (k ∷ []))) (now (area .exit)) r ⌝ }
-{
-    match sort {
-        Sort::Rules(_) => put_three(area, 0, 1, cover, k),
-        Sort::Ligatures => put_three(area, 0, 1, cover, k),
-    }
-}
-
-// The table of the `k` kept sets, which stand from `first` up to `p`, with their places written as their offsets: the offsets without the gap before `first`, the coverage behind the sets, and the header; the place after it.
-fn finish(
-    sort: Sort,
-    t: &[u32],
-    notes: usize,
-    k: usize,
-    first: usize,
-    p: usize,
-    area: &mut [u8],
-) -> usize
-    requires { ⌜ Finishes sort (now t) notes k first p (now area) ⌝ }
-    ensures { λ r. ⌜ Finished sort (now (t .entry)) notes k first p (now (area .entry)) (now (area .exit)) r ⌝ }
-{
-    let slots = header_size(sort);
-    let gap = first - (slots + 2 * k);
-    lessen(area, slots, k, gap);
-    let end = write_cover(t, notes, k, area, p);
-    write_header(sort, area, p - gap, k);
-    end
-}
-
-// What is left of a table, of whose retained covered glyphs there are `m` notes from `notes` on, laid into the buffer if it is not over the limit and the buffer is not shorter.
-fn write_table(
+// What is left of a table whose sets share members and whose retained covered glyphs are noted, for sets that have no value formats. It is remembered which members go, so that each of these is walked once.
+// It calls itself, so that the compiler keeps its large array out of its caller's frame: the small job would pay for it, and docs/SPEED.md says how much. How often it does, `rounds`, is 0 for a map of whole entries.
+fn write_shared(
     sort: Sort,
     src: &[u8],
     t: &mut [u32],
-    notes: usize,
-    m: usize,
+    notes: Notes,
     maps: Maps,
+    rounds: usize,
     area: &mut [u8],
     out: &mut [u8],
-) -> Cut
-    requires { ⌜ Ready sort (now src) (now t) maps notes m × (length (now area) ≤ areaMost) ⌝ }
-    ensures { λ r. ⌜ Answered ⊥ (now (out .entry)) (tableOf sort (keptIn sort (now (src .entry)) (now (t .entry)) maps notes m)) (length (now (src .entry))) (length (now (area .entry))) r (now (out .exit)) ⌝ }
+) -> Tried
+    requires { ⌜ Ready sort (now src) (now t) maps (notes .at) (notes .count) × (length (now area) ≤ areaMost) × (isPairs sort ≡ false) ⌝ }
+    ensures { λ r. ⌜ Answered ⊥ (now (out .entry)) (tableOf sort (keptIn sort (now (src .entry)) (now (t .entry)) maps (notes .at) (notes .count))) (length (now (area .entry))) r (now (out .exit)) ⌝ }
 {
-    let sets = write_kept(sort, src, t, notes, m, maps, area);
-    let p = sets.end;
-    let k = sets.count;
-    if area.len() < p {
-        return Cut::Short;
+    if rounds != 0 {
+        return write_shared(sort, src, t, notes, maps, rounds - 1, area, out);
     }
-    if k == 0 {
-        return Cut::Became(Laid::Nothing);
-    }
-    let slots = header_size(sort);
-    let first = slots + 2 * m;
-    let end = finish(sort, t, notes, k, first, p, area);
-    if area.len() < end {
-        return Cut::Short;
-    }
-    Cut::Became(hand_over(area, slots + 2 * k, first, end, out))
+    let mut dead = [0u8; LIMIT];
+    write_table(sort, src, &mut dead, t, notes, maps, area, out)
 }
 
-// The same from the glyph map on, whose cells and those of the lookup map stand before `notes`.
+// What is left of a table under a glyph map, whose cells and those of the lookup map stand before `notes`, for sets that have no value formats: the retained covered glyphs are noted, and the table is written.
 fn cut_sets(
     sort: Sort,
     src: &[u8],
@@ -111,31 +68,38 @@ fn cut_sets(
     notes: usize,
     area: &mut [u8],
     out: &mut [u8],
-) -> Cut
-    requires { ⌜ SoundSets sort (now src) × MapsLaid (now glyphs) (now t) maps notes × (length (now area) ≤ areaMost) × (word (now src) 2 ≡ 0 → ⊥) ⌝ }
-    ensures { λ r. ⌜ Answered (length (now (t .entry)) ≤ notes + length (now (glyphs .entry)) / 4) (now (out .entry)) (tableOf sort (keptFrom sort (now (src .entry)) (now (glyphs .entry)) (now (t .entry)) maps)) (length (now (src .entry))) (length (now (area .entry))) r (now (out .exit)) ⌝ }
+) -> Tried
+    requires { ⌜ SoundSets sort (now src) × MapsLaid (now glyphs) (now t) maps notes × (length (now area) ≤ areaMost) × (word (now src) 2 ≡ 0 → ⊥) × (isPairs sort ≡ false) ⌝ }
+    ensures { λ r. ⌜ Answered (length (now (t .entry)) ≤ notes + length (now (glyphs .entry)) / 4) (now (out .entry)) (tableOf sort (keptFrom sort (now (src .entry)) (now (glyphs .entry)) (now (t .entry)) maps)) (length (now (area .entry))) r (now (out .exit)) ⌝ }
 {
     if t.len() < notes + glyphs.len() / 4 + 1 {
-        return Cut::FewCells;
+        return Tried::FewCells;
     }
     let cover = word_inside(src, 2);
     let m = meet(src, cover, glyphs, maps.input, t, notes);
-    write_table(sort, src, t, notes, m, maps, area, out)
+    let found = Notes {
+        at: notes,
+        count: m,
+    };
+    if crowded(src, 6, word_inside(src, 4)) {
+        return write_shared(sort, src, t, found, maps, glyphs.len() % 4, area, out);
+    }
+    let mut no_marks = [0u8; 1];
+    write_table(sort, src, &mut no_marks, t, found, maps, area, out)
 }
 
-// What is left of a sound table of ligatures under a glyph map, laid into the buffer if it is not over the limit and the buffer is not shorter. `t` and `area` are scratch, whatever they hold.
-// The buffer is untouched where nothing is left, where there is no room, and where the scratch is too short.
-pub fn ligatures(src: &[u8], glyphs: &[u8], t: &mut [u32], area: &mut [u8], out: &mut [u8]) -> Cut
+// The same from the source and the map's list on, for ligatures.
+fn cut_ligatures(src: &[u8], glyphs: &[u8], t: &mut [u32], area: &mut [u8], out: &mut [u8]) -> Tried
     requires { ⌜ (headerFault (enough (now src) (word (now src) 4)) 0 4 (setFaultOf Ligatures (now src)) (now src) ≡ none) × (length (now src) ≤ limit) × (ascends (keys (mapEntries (now glyphs))) ≡ true) × (length (now area) ≤ areaMost) ⌝ }
-    ensures { λ r. ⌜ CutAs (length (now (t .entry)) ≤ cellsNeeded (now (glyphs .entry))) (now (out .entry)) (cut (mapEntries (now (glyphs .entry))) [] (ligatureTable (now (src .entry)))) (length (now (src .entry))) (length (now (area .entry))) r (now (out .exit)) ⌝ }
+    ensures { λ r. ⌜ Tries (length (now (t .entry)) < cellsMost) (length (now (area .entry)) < areaMost) r (now (out .entry)) (now (out .exit)) (written (now (out .entry)) (cut (mapEntries (now (glyphs .entry))) [] (ligatureTable (now (src .entry))))) ⌝ }
 {
     if word_inside(src, 2) == 0 {
-        return Cut::Became(Laid::Nothing);
+        return Tried::Became(Laid::Nothing);
     }
     let g = lay(glyphs, t, 0);
     let mask = g.mask;
     if mask == 0 {
-        return Cut::FewCells;
+        return Tried::FewCells;
     }
     let maps = Maps {
         back: g,
@@ -146,8 +110,8 @@ pub fn ligatures(src: &[u8], glyphs: &[u8], t: &mut [u32], area: &mut [u8], out:
     cut_sets(Sort::Ligatures, src, glyphs, maps, t, mask + 1, area, out)
 }
 
-// The same of a context by glyph, plain or chained, under a glyph map and a lookup map.
-pub fn contexts(
+// The same for contexts by glyph, plain or chained.
+fn cut_contexts(
     chained: bool,
     src: &[u8],
     glyphs: &[u8],
@@ -155,22 +119,22 @@ pub fn contexts(
     t: &mut [u32],
     area: &mut [u8],
     out: &mut [u8],
-) -> Cut
+) -> Tried
     requires { ⌜ (headerFault (enough (now src) (word (now src) 4)) 0 4 (setFaultOf (Rules chained) (now src)) (now src) ≡ none) × (length (now src) ≤ limit) × (ascends (keys (mapEntries (now glyphs))) ≡ true) × (ascends (keys (mapEntries (now lookups))) ≡ true) × (length (now area) ≤ areaMost) ⌝ }
-    ensures { λ r. ⌜ CutAs (length (now (t .entry)) ≤ cellsNeeded (now (glyphs .entry))) (now (out .entry)) (cut (mapEntries (now (glyphs .entry))) (mapEntries (now (lookups .entry))) (glyphContext chained (now (src .entry)))) (length (now (src .entry))) (length (now (area .entry))) r (now (out .exit)) ⌝ }
+    ensures { λ r. ⌜ Tries (length (now (t .entry)) < cellsMost) (length (now (area .entry)) < areaMost) r (now (out .entry)) (now (out .exit)) (written (now (out .entry)) (cut (mapEntries (now (glyphs .entry))) (mapEntries (now (lookups .entry))) (glyphContext chained (now (src .entry))))) ⌝ }
 {
     if word_inside(src, 2) == 0 {
-        return Cut::Became(Laid::Nothing);
+        return Tried::Became(Laid::Nothing);
     }
     let g = lay(glyphs, t, 0);
     let mask = g.mask;
     if mask == 0 {
-        return Cut::FewCells;
+        return Tried::FewCells;
     }
     let l = lay(lookups, t, mask + 1);
     let last = l.mask;
     if last == 0 {
-        return Cut::FewCells;
+        return Tried::FewCells;
     }
     let maps = Maps {
         back: g,
@@ -188,4 +152,124 @@ pub fn contexts(
         area,
         out,
     )
+}
+
+// What is left of a table of pairs, whose retained covered glyphs are noted: its new value formats, and then the table with the fields that stay.
+fn write_pair_table(
+    src: &[u8],
+    g: Map,
+    t: &mut [u32],
+    notes: Notes,
+    area: &mut [u8],
+    out: &mut [u8],
+) -> Tried
+    requires { ⌜ Ready (pairsOf (now src)) (now src) (now t) (oneMap g) (notes .at) (notes .count) × (length (now area) ≤ areaMost) ⌝ }
+    ensures { λ r. ⌜ AnsweredPairs (now (src .entry)) (now (t .entry)) g (notes .at) (notes .count) (now (out .entry)) (length (now (area .entry))) r (now (out .exit)) ⌝ }
+{
+    let f = new_formats(src, t, notes.at, notes.count, g);
+    let mut places = [0u8; 8];
+    let k = kept_places(f.f1, f.f2, f.n1, f.n2, &mut places);
+    let maps = Maps {
+        back: g,
+        input: g,
+        ahead: g,
+        lookups: g,
+    };
+    write_table(
+        Sort::Pairs(f),
+        src,
+        &mut places[..k],
+        t,
+        notes,
+        maps,
+        area,
+        out,
+    )
+}
+
+// The same from the glyph map on, whose cells stand before `notes`.
+fn cut_pair_sets(
+    src: &[u8],
+    glyphs: &[u8],
+    g: Map,
+    t: &mut [u32],
+    notes: usize,
+    area: &mut [u8],
+    out: &mut [u8],
+) -> Tried
+    requires { ⌜ SoundSets (pairsOf (now src)) (now src) × MapsLaid (now glyphs) (now t) (oneMap g) notes × (length (now area) ≤ areaMost) × (word (now src) 2 ≡ 0 → ⊥) ⌝ }
+    ensures { λ r. ⌜ Answered (length (now (t .entry)) ≤ notes + length (now (glyphs .entry)) / 4) (now (out .entry)) (block tableWords (cut (mapEntries (now (glyphs .entry))) [] (pairTable (now (src .entry))))) (length (now (area .entry))) r (now (out .exit)) ⌝ }
+{
+    if t.len() < notes + glyphs.len() / 4 + 1 {
+        return Tried::FewCells;
+    }
+    let cover = word_inside(src, 2);
+    let m = meet(src, cover, glyphs, g, t, notes);
+    let found = Notes {
+        at: notes,
+        count: m,
+    };
+    write_pair_table(src, g, t, found, area, out)
+}
+
+// The same from the source and the map's list on.
+fn cut_pairs(src: &[u8], glyphs: &[u8], t: &mut [u32], area: &mut [u8], out: &mut [u8]) -> Tried
+    requires { ⌜ (pairFault (now src) ≡ none) × (length (now src) ≤ limit) × (ascends (keys (mapEntries (now glyphs))) ≡ true) × (length (now area) ≤ areaMost) ⌝ }
+    ensures { λ r. ⌜ Tries (length (now (t .entry)) < cellsMost) (length (now (area .entry)) < areaMost) r (now (out .entry)) (now (out .exit)) (written (now (out .entry)) (cut (mapEntries (now (glyphs .entry))) [] (pairTable (now (src .entry))))) ⌝ }
+{
+    if word_inside(src, 2) == 0 {
+        return Tried::Became(Laid::Nothing);
+    }
+    let g = lay(glyphs, t, 0);
+    let mask = g.mask;
+    if mask == 0 {
+        return Tried::FewCells;
+    }
+    cut_pair_sets(src, glyphs, g, t, mask + 1, area, out)
+}
+
+// The lesser of two numbers.
+fn least(a: usize, b: usize) -> usize
+    ensures { λ r. ⌜ Least a b r ⌝ }
+{
+    if a < b {
+        return a;
+    }
+    b
+}
+
+// What is left of a sound table of ligatures under a glyph map, laid into the buffer if it is not over the limit and the buffer is not shorter. `t` and `area` are scratch, whatever they hold.
+// The buffer is untouched where nothing is left, where there is no room, and where the scratch is too short.
+pub fn ligatures(src: &[u8], glyphs: &[u8], t: &mut [u32], area: &mut [u8], out: &mut [u8]) -> Tried
+    requires { ⌜ (headerFault (enough (now src) (word (now src) 4)) 0 4 (setFaultOf Ligatures (now src)) (now src) ≡ none) × (length (now src) ≤ limit) × (ascends (keys (mapEntries (now glyphs))) ≡ true) ⌝ }
+    ensures { λ r. ⌜ Tries (length (now (t .entry)) < cellsMost) (length (now (area .entry)) < areaMost) r (now (out .entry)) (now (out .exit)) (written (now (out .entry)) (cut (mapEntries (now (glyphs .entry))) [] (ligatureTable (now (src .entry))))) ⌝ }
+{
+    let bytes = least(area.len(), AREA);
+    cut_ligatures(src, glyphs, t, &mut area[..bytes], out)
+}
+
+// The same of a context by glyph, plain or chained, under a glyph map and a lookup map.
+pub fn contexts(
+    chained: bool,
+    src: &[u8],
+    glyphs: &[u8],
+    lookups: &[u8],
+    t: &mut [u32],
+    area: &mut [u8],
+    out: &mut [u8],
+) -> Tried
+    requires { ⌜ (headerFault (enough (now src) (word (now src) 4)) 0 4 (setFaultOf (Rules chained) (now src)) (now src) ≡ none) × (length (now src) ≤ limit) × (ascends (keys (mapEntries (now glyphs))) ≡ true) × (ascends (keys (mapEntries (now lookups))) ≡ true) ⌝ }
+    ensures { λ r. ⌜ Tries (length (now (t .entry)) < cellsMost) (length (now (area .entry)) < areaMost) r (now (out .entry)) (now (out .exit)) (written (now (out .entry)) (cut (mapEntries (now (glyphs .entry))) (mapEntries (now (lookups .entry))) (glyphContext chained (now (src .entry))))) ⌝ }
+{
+    let bytes = least(area.len(), AREA);
+    cut_contexts(chained, src, glyphs, lookups, t, &mut area[..bytes], out)
+}
+
+// The same of a sound table of pairs by glyph, under a glyph map.
+pub fn pairs(src: &[u8], glyphs: &[u8], t: &mut [u32], area: &mut [u8], out: &mut [u8]) -> Tried
+    requires { ⌜ (pairFault (now src) ≡ none) × (length (now src) ≤ limit) × (ascends (keys (mapEntries (now glyphs))) ≡ true) ⌝ }
+    ensures { λ r. ⌜ Tries (length (now (t .entry)) < cellsMost) (length (now (area .entry)) < areaMost) r (now (out .entry)) (now (out .exit)) (written (now (out .entry)) (cut (mapEntries (now (glyphs .entry))) [] (pairTable (now (src .entry))))) ⌝ }
+{
+    let bytes = least(area.len(), AREA);
+    cut_pairs(src, glyphs, t, &mut area[..bytes], out)
 }

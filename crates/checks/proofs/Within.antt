@@ -1,9 +1,11 @@
 -- The ways through the pass for records past their rule, by the kind and the format.
-use Prim.Native.Nat.{ℕ, _+_, _*_}
+use Prim.Native.Nat.{ℕ, _+_, _*_, _<_}
 use mathlib.Core.Path.{_≡_, refl, sym, _∙_}
 use mathlib.Core.Bool.{Bool, true, false, cond}
 use mathlib.Core.List.{List}
-use lib.ListN.{replicate}
+use native.Mathlib.Decide.{decLt}
+use native.Mathlib.Omega.{arith}
+use lib.ListN.{getD, replicate, length-replicate, getD-replicate, List·getD-eq-default}
 use lib.Dec.{eqb}
 use borrow.Author.Tests.{ne-eqb}
 use Rattle.meaning.specs.Words.{word, entries}
@@ -11,8 +13,15 @@ use Rattle.meaning.specs.Parts.{coverage}
 use Rattle.meaning.specs.Tables.{Table, reach, reaches, ruleSet, ligatureSet, pairSet, fieldCount, classContext, coverContext, context, table}
 use Rattle.meaning.specs.Records.{indexesBelow, setsWithin, recordsWithin}
 use Rattle.laws.specs.SoundGood.{reaches-length}
-use Rattle.maps.specs.Below.{zeros-read}
 use Rattle.gsubgpos.specs.Within.{Marked}
+
+-- what is read of zeros
+pub zeros-read : (n j : ℕ) → _≡_ {A = ℕ} (getD (replicate n 0) j 0) 0
+zeros-read n j = step (decLt j n)
+  where
+    step : Dec (j < n) → _≡_ {A = ℕ} (getD (replicate n 0) j 0) 0
+    step (yes l) = getD-replicate n j 0 0 l
+    step (no l) = List·getD-eq-default (replicate n 0) 0 (omega (arith, length-replicate {A = ℕ} n 0))
 
 -- zeros mark no rule
 pub none-marked : {chained : Bool} {s : List ℕ} (n : ℕ) → Marked chained s (replicate n 0)

@@ -1,20 +1,31 @@
 // Malformed, over the whole source: the header of each kind and format, and through its offsets every part, retained or not. And records that point past their rule.
 use rules::indexes_below;
-use sets::crowded;
 use view::header;
 use view::subtable_place;
 use wire::Fault;
+use wire::byte;
 use wire::inside;
 use wire::lowest;
+use wire::put_byte;
 use wire::word_at;
 ghost use mathlib.Core.Path.{_≡_};
 ghost use mathlib.Core.Bool.{true, false};
-ghost use Prim.Native.Nat.{_+_, _*_, _<_};
+ghost use Prim.Native.Nat.{_+_, _*_, _≤_, _<_};
+ghost use Rattle.meaning.specs.Words.{words};
 ghost use Rattle.meaning.specs.Tables.{ruleSet, reaches, classContext, coverContext, context, table};
 ghost use Rattle.meaning.specs.Records.{setsWithin, recordsWithin};
-ghost use Rattle.meaning.specs.Fault.{faultThrough, headerFault, coversFault, contextFault, fault, enough};
-ghost use Rattle.wire.specs.Fault.{faultOf};
+ghost use Rattle.meaning.specs.Fault.{lowest, faultThrough, headerFault, coversFault, contextFault, fault, enough};
+ghost use Rattle.wire.specs.Fault.{faultOf, placeOf};
+ghost use Rattle.wire.specs.declared.Fault.the-variants.{Sound};
+ghost use Rattle.checks.specs.Seen.{Seen};
+ghost use Rattle.checks.specs.Crowded.{membersAt, crowds};
 ghost use Rattle.checks.specs.Parts.{faultOfPart, byGlyphFault, byClassFault, ligaturesFault, pairFields, pairsFault};
+
+// The places of a source: a mark for each says which parts were visited.
+const PLACES: usize = 65536;
+
+// How many offsets pay for marks: fewer reach 2^26 members at most, which are soon checked.
+const MANY: usize = 2048;
 
 // The sorts of parts that an offset of a header reaches.
 pub enum Part {
@@ -41,9 +52,22 @@ fn check_part(part: Part, src: &[u8], at: usize) -> Fault
     }
 }
 
-// The lowest fault among the parts that `n` offsets from `slot` on reach; a null offset reaches none.
-fn check_through(part: Part, src: &[u8], slot: usize, n: usize) -> Fault
-    requires { ⌜ slot + 2 * n < 0x1_0000_0000_0000 ⌝ }
+// The lower of `low` and the fault of the part at `at`. A part whose place has a mark was counted before; another gets one, where `marks` has room for it.
+fn check_once(part: Part, src: &[u8], at: usize, low: Fault, marks: &mut [u8]) -> Fault
+    requires { ⌜ (at < 65536) × Seen (faultOfPart part (now src)) low (now marks) ⌝ }
+    ensures { λ r. ⌜ (r ≡ faultOf (lowest (placeOf low) (faultOfPart part (now (src .entry)) at))) × Seen (faultOfPart part (now (src .entry))) r (now (marks .exit)) ⌝ }
+{
+    if byte(marks, at) != 0 {
+        return low;
+    }
+    let found = check_part(part, src, at);
+    put_byte(marks, at, 1);
+    lowest(low, found)
+}
+
+// The lowest fault among the parts that `n` offsets from `slot` on reach; a null offset reaches none. Where `marks`, which has no mark yet, is as long as the source, a part is checked once, however many offsets reach it.
+fn check_each(part: Part, src: &[u8], slot: usize, n: usize, marks: &mut [u8]) -> Fault
+    requires { ⌜ (slot + 2 * n < 0x1_0000_0000_0000) × Seen (faultOfPart part (now src)) Sound (now marks) ⌝ }
     ensures { λ r. ⌜ r ≡ faultOf (faultThrough (faultOfPart part (now (src .entry))) (now (src .entry)) 0 slot n) ⌝ }
 {
     let mut low = Fault::Sound;
@@ -54,9 +78,33 @@ fn check_through(part: Part, src: &[u8], slot: usize, n: usize) -> Fault
         if off == 0 {
             continue;
         }
-        low = lowest(low, check_part(part, src, off));
+        low = check_once(part, src, off, low, marks);
     }
     low
+}
+
+// The same with a mark for each place of a source. It calls itself as `shared_within` does.
+fn check_shared(part: Part, src: &[u8], slot: usize, n: usize, rounds: usize) -> Fault
+    requires { ⌜ slot + 2 * n < 0x1_0000_0000_0000 ⌝ }
+    ensures { λ r. ⌜ r ≡ faultOf (faultThrough (faultOfPart part (now (src .entry))) (now (src .entry)) 0 slot n) ⌝ }
+{
+    if rounds != 0 {
+        return check_shared(part, src, slot, n, rounds - 1);
+    }
+    let mut marks = [0u8; PLACES];
+    check_each(part, src, slot, n, &mut marks)
+}
+
+// The same of any offsets. Marks are made only where there are many, since clearing them takes longer than most tables do.
+fn check_through(part: Part, src: &[u8], slot: usize, n: usize) -> Fault
+    requires { ⌜ slot + 2 * n < 0x1_0000_0000_0000 ⌝ }
+    ensures { λ r. ⌜ r ≡ faultOf (faultThrough (faultOfPart part (now (src .entry))) (now (src .entry)) 0 slot n) ⌝ }
+{
+    if MANY <= n {
+        return check_shared(part, src, slot, n, slot % 2);
+    }
+    let mut no_marks = [0u8; 1];
+    check_each(part, src, slot, n, &mut no_marks)
 }
 
 // Whether there is a set for each covered glyph, where there are `n` sets; not judged where the coverage is null or faulty.
@@ -214,14 +262,44 @@ pub fn check(kind: usize, src: &[u8]) -> Fault
     }
 }
 
-// The places of a source where sets can share rules: `crowded` asks for no more.
-const PLACES: usize = 65536;
+// How many members the `n` sets have together whose offsets stand from `slot` on: a set's place has their number.
+fn members(src: &[u8], slot: usize, n: usize) -> usize
+    requires { ⌜ (slot < 65536) × (n < 65536) ⌝ }
+    ensures { λ r. ⌜ (r ≡ membersAt (now (src .entry)) (words (now (src .entry)) slot n)) × (r ≤ 0x1_0000_0000) ⌝ }
+{
+    let mut total = 0;
+    let mut i = 0;
+    while i < n {
+        let at = word_at(src, slot + 2 * i);
+        total += word_at(src, at);
+        i += 1;
+    }
+    total
+}
+
+// Whether these sets have more than one member for each eight bytes of a source of 1,024 to 65,536 bytes, so that they share members or have such as say next to nothing. Then it pays to mark each rule that was asked.
+fn crowded(src: &[u8], slot: usize, n: usize) -> bool
+    requires { ⌜ (slot < 65536) × (n < 65536) ⌝ }
+    ensures { λ r. ⌜ r ≡ crowds (now (src .entry)) slot n ⌝ }
+{
+    if src.len() < 1024 {
+        return false;
+    }
+    if 65536 < src.len() {
+        return false;
+    }
+    src.len() < 8 * members(src, slot, n)
+}
 
 // Whether no record of the rules of `n` sets, whose offsets stand from `slot` on, points past its rule, where the sets share rules: each rule is asked once.
-fn shared_within(chained: bool, src: &[u8], slot: usize, n: usize) -> bool
+// It calls itself, so that the compiler keeps its marks out of its caller's frame: small tables would pay for probing their pages. How often it does, `rounds`, is 0, since slots stand at even places.
+fn shared_within(chained: bool, src: &[u8], slot: usize, n: usize, rounds: usize) -> bool
     requires { ⌜ (slot < 65536) × (n < 65536) ⌝ }
     ensures { λ r. ⌜ r ≡ setsWithin (reaches (ruleSet chained (now (src .entry))) (now (src .entry)) 0 slot n) ⌝ }
 {
+    if rounds != 0 {
+        return shared_within(chained, src, slot, n, rounds - 1);
+    }
     let mut marks = [0u8; PLACES];
     gsubgpos::sets_within(chained, src, slot, n, &mut marks)
 }
@@ -232,7 +310,7 @@ fn sets_within(chained: bool, src: &[u8], slot: usize, n: usize) -> bool
     ensures { λ r. ⌜ r ≡ setsWithin (reaches (ruleSet chained (now (src .entry))) (now (src .entry)) 0 slot n) ⌝ }
 {
     if crowded(src, slot, n) {
-        return shared_within(chained, src, slot, n);
+        return shared_within(chained, src, slot, n, slot % 2);
     }
     let mut no_marks = [0u8; 1];
     gsubgpos::sets_within(chained, src, slot, n, &mut no_marks)

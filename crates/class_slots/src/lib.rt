@@ -13,7 +13,8 @@ ghost use lib.Seq.{sets};
 ghost use Rattle.meaning.specs.Words.{words, flat};
 ghost use Rattle.meaning.specs.Subset.{limit};
 ghost use Rattle.numbers.specs.Leaves.{Leaves};
-ghost use Rattle.rule_sets.specs.Left.{AllInside, mapsIn};
+ghost use Rattle.member_sets.specs.Dead.{Dead};
+ghost use Rattle.rule_sets.specs.Left.{AllInside, mapsIn, ruleLeft};
 ghost use Rattle.class_maps.specs.SlotWalk.{settled};
 ghost use Rattle.class_slots.specs.Sets.{slotsAt, setPlace, setLeft, setMost, SetSound, Asked};
 ghost use Rattle.class_slots.specs.Slots.{Ready, WroteSlots};
@@ -48,27 +49,29 @@ fn set_place(src: &[u8], slots: usize, t: &[u32], marks: Map, class: usize) -> u
     word_inside(src, slots + 2 * class)
 }
 
-// What is left of the set at `at`, from `pos` on; nothing where there is none, at 0.
+// What is left of the set at `at`, from `pos` on; nothing where there is none, at 0. `dead` has marks at the places of rules that are known to go.
 fn write_set(
     chained: bool,
     src: &[u8],
     at: usize,
     t: &[u32],
     maps: Maps,
+    dead: &mut [u8],
     area: &mut [u8],
     pos: usize,
 ) -> usize
-    requires { ⌜ SetSound chained (now src) at × (length (now src) ≤ limit) × AllInside (now t) maps × (pos ≤ length (now area)) ⌝ }
-    ensures { λ r. ⌜ Leaves (now (area .entry)) pos (setLeft chained (mapsIn (now (t .entry)) maps) (now (src .entry)) at) (setMost (setLeft chained (mapsIn (now (t .entry)) maps) (now (src .entry)) at) (now (src .entry))) (now (area .exit)) r ⌝ }
+    requires { ⌜ SetSound chained (now src) at × (length (now src) ≤ limit) × AllInside (now t) maps × (pos ≤ length (now area)) × Dead (ruleLeft chained (mapsIn (now t) maps) (now src)) (now dead) ⌝ }
+    ensures { λ r. ⌜ Leaves (now (area .entry)) pos (setLeft chained (mapsIn (now (t .entry)) maps) (now (src .entry)) at) (setMost (setLeft chained (mapsIn (now (t .entry)) maps) (now (src .entry)) at) (now (src .entry))) (now (area .exit)) r × Dead (ruleLeft chained (mapsIn (now (t .entry)) maps) (now (src .entry))) (now (dead .exit)) ⌝ }
 {
     if at == 0 {
         return 0;
     }
-    write_rules(chained, src, at, t, maps, area, pos)
+    write_rules(chained, src, at, t, maps, dead, area, pos)
 }
 
 // What is left of the sets of the `classes` surviving classes, which are those of the input's map, written after the place for the header and a slot for each class.
 // A slot is noted as one more than half its set's distance from the first set, and as 0 if it is null: so far it is not known where the sets will stand.
+// `dead` has marks at the places of rules that are known to go.
 pub fn write_slots(
     chained: bool,
     src: &[u8],
@@ -76,10 +79,11 @@ pub fn write_slots(
     maps: Maps,
     marks: Map,
     classes: usize,
+    dead: &mut [u8],
     area: &mut [u8],
 ) -> Slots
-    requires { ⌜ Ready chained (now src) (now t) maps marks classes × (length (now area) ≤ 0x1_0000_0000) ⌝ }
-    ensures { λ r. ⌜ WroteSlots chained (now (src .entry)) (now (t .entry)) maps marks (now (area .entry)) (now (area .exit)) r ⌝ }
+    requires { ⌜ Ready chained (now src) (now t) maps marks classes × (length (now area) ≤ 0x1_0000_0000) × Dead (ruleLeft chained (mapsIn (now t) maps) (now src)) (now dead) ⌝ }
+    ensures { λ r. ⌜ WroteSlots chained (now (src .entry)) (now (t .entry)) maps marks (now (area .entry)) (now (area .exit)) r × Dead (ruleLeft chained (mapsIn (now (t .entry)) maps) (now (src .entry))) (now (dead .exit)) ⌝ }
 {
     let slots = slots_at(chained);
     let first = slots + 2 * classes;
@@ -100,7 +104,7 @@ pub fn write_slots(
             continue;
         }
         let at = set_place(src, slots, t, marks, here);
-        let q = write_set(chained, src, at, t, maps, area, p);
+        let q = write_set(chained, src, at, t, maps, dead, area, p);
         if area.len() < q {
             return Slots { count: 0, end: q };
         }

@@ -1,4 +1,1 @@
 pub mod Formats
-pub mod Stretches
-pub mod Filled
-pub mod Marks

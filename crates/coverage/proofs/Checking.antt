@@ -8,7 +8,7 @@ use lib.ListN.{length}
 use lib.Dec.{leb, eqb}
 use borrow.Author.Tests.{leb-true, ne-eqb}
 use Rattle.meaning.specs.Words.{word, triples, inside, ascends}
-use Rattle.meaning.specs.Parts.{rangesAscend, rangesCount, coverage, coverageSound}
+use Rattle.meaning.specs.Parts.{rangesAscend, rangesCount, coverageSound}
 use Rattle.meaning.specs.Fault.{partFault, coverageFault}
 use Rattle.wire.specs.Fault.{faultOf}
 use Rattle.wire.specs.declared.Fault.the-variants.{At, Sound}

@@ -1,24 +1,17 @@
-// Coverage tables: the covered glyphs in order, listed one by one (format 1) or in ranges (format 2). Checked, read and written.
+// Coverage tables: the covered glyphs in order, listed one by one (format 1) or in ranges (format 2). Checked and counted.
 use wire::Fault;
 use wire::ascending;
 use wire::inside;
-use wire::put;
-use wire::put_entry;
-use wire::put_record;
 use wire::word_at;
 ghost use mathlib.Core.Path.{_≡_};
 ghost use mathlib.Core.Bool.{true, _&&_};
-ghost use Prim.Native.Nat.{_+_, _*_, _/_, _<_};
-ghost use lib.ListN.{length};
+ghost use Prim.Native.Nat.{_+_, _*_, _<_};
 ghost use lib.Dec.{leb, eqb};
-ghost use Rattle.meaning.specs.Words.{triples, threes};
+ghost use Rattle.meaning.specs.Words.{triples};
 ghost use Rattle.meaning.specs.Parts.{rangeGlyphs, rangesAscend, rangesCount, coverage, coverageSound};
 ghost use Rattle.meaning.specs.Fault.{coverageFault};
-ghost use Rattle.meaning.specs.Layout.{indexed, coverageWords};
-ghost use Rattle.laws.specs.Written.{Wrote};
 ghost use Rattle.wire.specs.Fault.{faultOf};
-ghost use Rattle.coverage.specs.Glyphs.{glyphsOf, onward, glyphRuns, CountsRuns};
-ghost use Rattle.coverage.specs.Answers.{Counts, Gives, SoundRanges};
+ghost use Rattle.coverage.specs.Answers.{Counts, SoundRanges};
 
 // Whether the range from `first` to `last` may stand where `low` is the lowest glyph that is left, and its index is the number of glyphs before it.
 fn range_fits(low: usize, before: usize, first: usize, last: usize, index: usize) -> bool
@@ -106,131 +99,4 @@ pub fn count(src: &[u8], at: usize) -> usize
         return n;
     }
     ranges_count(src, at + 4, n)
-}
-
-// The glyph that has index `i` among those that the `n` ranges from `at` on cover: by halving, the last range whose own index is at most `i` holds it.
-fn range_glyph(src: &[u8], at: usize, n: usize, i: usize) -> usize
-    requires { ⌜ SoundRanges (now src) at n × (i < length (rangeGlyphs (triples (now src) at n))) ⌝ }
-    ensures { λ r. ⌜ Gives (rangeGlyphs (triples (now (src .entry)) at n)) i r ⌝ }
-{
-    let mut lo = 0;
-    let mut hi = n;
-    while lo + 1 < hi {
-        let mid = lo + (hi - lo) / 2;
-        if word_at(src, at + 6 * mid + 4) <= i {
-            lo = mid;
-        } else {
-            hi = mid;
-        }
-    }
-    let index = word_at(src, at + 6 * lo + 4);
-    word_at(src, at + 6 * lo) + (i - index)
-}
-
-// The glyph that has the coverage index `i` in the coverage at `at`.
-pub fn glyph_at(src: &[u8], at: usize, i: usize) -> usize
-    requires { ⌜ (coverageSound (now src) at ≡ true) × (i < length (coverage (now src) at)) ⌝ }
-    ensures { λ r. ⌜ Gives (coverage (now (src .entry)) at) i r ⌝ }
-{
-    let n = word_at(src, at + 2);
-    if word_at(src, at) == 1 {
-        return word_at(src, at + 4 + 2 * i);
-    }
-    range_glyph(src, at + 4, n, i)
-}
-
-// Whether the run that holds the `i`-th of the glyphs goes on with the next one.
-fn goes_on(glyphs: &[u8], i: usize) -> bool
-    requires { ⌜ i < length (now glyphs) / 2 ⌝ }
-    ensures { λ r. ⌜ r ≡ onward (now (glyphs .entry)) i ⌝ }
-{
-    if glyphs.len() / 2 <= i + 1 {
-        return false;
-    }
-    word_at(glyphs, 2 * i) + 1 == word_at(glyphs, 2 * (i + 1))
-}
-
-// How many longest runs of neighbours the glyphs make.
-fn count_runs(glyphs: &[u8]) -> usize
-    ensures { λ r. ⌜ CountsRuns (now (glyphs .entry)) r ⌝ }
-{
-    let mut runs = 0;
-    let mut i = 0;
-    while i < glyphs.len() / 2 {
-        if !goes_on(glyphs, i) {
-            runs += 1;
-        }
-        i += 1;
-    }
-    runs
-}
-
-// Whether format 1 takes no more bytes than format 2: two for each glyph against six for each run.
-fn listed(n: usize, runs: usize) -> bool
-    requires { ⌜ runs < 0x4000_0000_0000_0000 ⌝ }
-    ensures { λ r. ⌜ r ≡ leb (4 + 2 * n) (4 + 6 * runs) ⌝ }
-{
-    n <= 3 * runs
-}
-
-// How many bytes the smaller format takes for these glyphs, which are lent as words.
-pub fn size(glyphs: &[u8]) -> usize
-    ensures { λ r. ⌜ r ≡ 2 * length (coverageWords (glyphsOf (now (glyphs .entry)))) ⌝ }
-{
-    let n = glyphs.len() / 2;
-    let runs = count_runs(glyphs);
-    if listed(n, runs) {
-        return 4 + 2 * n;
-    }
-    4 + 6 * runs
-}
-
-// The glyphs one by one, from `at` on; the place after them.
-fn put_glyphs(glyphs: &[u8], out: &mut [u8], at: usize) -> usize
-    requires { ⌜ at + length (now glyphs) < 0x1_0000_0000_0000 ⌝ }
-    ensures { λ r. ⌜ Wrote (now (out .entry)) at (glyphsOf (now (glyphs .entry))) (now (out .exit)) r ⌝ }
-{
-    let mut p = at;
-    let mut i = 0;
-    while i < glyphs.len() / 2 {
-        p = put(out, p, word_at(glyphs, 2 * i));
-        i += 1;
-    }
-    p
-}
-
-// A range for each longest run of the glyphs, from `at` on, with the number of glyphs before it; the place after them.
-fn put_ranges(glyphs: &[u8], out: &mut [u8], at: usize) -> usize
-    requires { ⌜ at + 3 * length (now glyphs) < 0x1_0000_0000_0000 ⌝ }
-    ensures { λ r. ⌜ Wrote (now (out .entry)) at (threes (indexed 0 (glyphRuns (glyphsOf (now (glyphs .entry)))))) (now (out .exit)) r ⌝ }
-{
-    let mut p = at;
-    let mut first = 0;
-    let mut i = 0;
-    while i < glyphs.len() / 2 {
-        let next = i + 1;
-        if !goes_on(glyphs, i) {
-            let start = word_at(glyphs, 2 * first);
-            let end = word_at(glyphs, 2 * i);
-            p = put_record(out, p, start, end, first);
-            first = next;
-        }
-        i = next;
-    }
-    p
-}
-
-// The coverage of these glyphs, which are lent as words, in the smaller format, from `at` on, where there is room; the place after it.
-pub fn write(glyphs: &[u8], out: &mut [u8], at: usize) -> usize
-    requires { ⌜ at + 3 * length (now glyphs) < 0x8000_0000_0000 ⌝ }
-    ensures { λ r. ⌜ Wrote (now (out .entry)) at (coverageWords (glyphsOf (now (glyphs .entry)))) (now (out .exit)) r ⌝ }
-{
-    let n = glyphs.len() / 2;
-    let runs = count_runs(glyphs);
-    if listed(n, runs) {
-        let p = put_entry(out, at, 1, n);
-        return put_glyphs(glyphs, out, p);
-    }
-    let p = put_entry(out, at, 2, runs);
-    put_ranges(glyphs, out, p)
 }

@@ -19,13 +19,14 @@ use Rattle.laws.specs.Written.{flat-one}
 use Rattle.fold.specs.Cells.{Kept, holds-kept, kept-all}
 use Rattle.fold.specs.declared.Map.{Map}
 use Rattle.area.specs.Extends.{Extends}
-use Rattle.records.specs.Written.{Writes, WritesCounted}
-use Rattle.covers.specs.Rows.{blocksLeft, rowLeft, Lays, LaysLeft, SoundRow, WritesRow}
-use Rattle.covers.specs.Context.{recordsAt, Plain, Chained, contextLeft, Settles, Asks}
-use Rattle.covers.specs.Context as context
-use Rattle.covers.specs.declared.Row.{Row}
-use Rattle.covers.specs.declared.CoverParts.{CoverParts}
-use Rattle.covers.proofs.Lays.{some-none, some-same, laid-zero, laid-least}
+use Rattle.numbers.specs.Entries.{entriesIn}
+use Rattle.numbers.specs.Leaves.{Leaves, leaves-room}
+use Rattle.cover_rows.specs.Rows.{blocksLeft, rowLeft, Lays, LaysLeft, SoundRow, WritesRow}
+use Rattle.cover_rows.specs.Parts.{recordsAt, Plain, Chained}
+use Rattle.covers.specs.Context.{contextLeft, Settles, Asks, Writes}
+use Rattle.cover_rows.specs.declared.Row.{Row}
+use Rattle.cover_rows.specs.declared.CoverParts.{CoverParts}
+use Rattle.cover_rows.proofs.Lays.{some-none, some-same, laid-zero, laid-least}
 use Rattle.covers.proofs.Grows.{grows-start, grows-words, grows-row, grows-counted, grows-end, head-length, row-length}
 
 -- What is left, where it is known.
@@ -76,13 +77,18 @@ chained-words b i a rs x y z k nb ni na =
     ∙ ap (λ (w : List ℕ). x ++ (ni ∷ (y ++ (na ∷ (z ++ (k ∷ w)))))) (append-assoc (rs ++ b) i a ∙ append-assoc rs b (i ++ a)))
 
 -- the same, by its definition
-chained-layout : (b i a : List (Option (List ℕ))) (rs : List (ℕ × ℕ)) (nb ni na x y z : ℕ) → length b ≡ nb → length i ≡ ni → length a ≡ na
+chained-layout : (b i a : List (Option (List ℕ))) (rs : List (ℕ × ℕ)) (ps : List ℕ) (nb ni na x y z : ℕ) → ps ≡ length rs ∷ twos rs → length b ≡ nb → length i ≡ ni → length a ≡ na
     → x ≡ 10 + 2 * length b + 2 * length i + 2 * length a + 4 * length rs → y ≡ 10 + 2 * length b + 2 * length i + 2 * length a + 4 * length rs + 2 * length (blocks b)
     → z ≡ 10 + 2 * length b + 2 * length i + 2 * length a + 4 * length rs + 2 * length (blocks b) + 2 * length (blocks i)
-    → ((((3 ∷ []) ++ (nb ∷ offsets x b)) ++ (ni ∷ offsets y i)) ++ (na ∷ offsets z a)) ++ ((((length rs ∷ twos rs) ++ blocks b) ++ blocks i) ++ blocks a) ≡ coversLayout true b i a rs
+    → ((((3 ∷ []) ++ (nb ∷ offsets x b)) ++ (ni ∷ offsets y i)) ++ (na ∷ offsets z a)) ++ (((ps ++ blocks b) ++ blocks i) ++ blocks a) ≡ coversLayout true b i a rs
 unfolding coversLayout
-chained-layout b i a rs nb ni na x y z eb ei ea ex ey ez =
-    chained-words (blocks b) (blocks i) (blocks a) (twos rs) (offsets x b) (offsets y i) (offsets z a) (length rs) nb ni na ∙ rw (ex, ey, ez, ← eb, ← ei, ← ea)
+chained-layout b i a rs ps nb ni na x y z ep eb ei ea ex ey ez =
+    rw ep (chained-words (blocks b) (blocks i) (blocks a) (twos rs) (offsets x b) (offsets y i) (offsets z a) (length rs) nb ni na ∙ rw (ex, ey, ez, ← eb, ← ei, ← ea))
+
+-- words from the area's start on, said otherwise
+said-otherwise : {area after : List ℕ} {end : ℕ} (ws vs : List ℕ) → ws ≡ vs → (end ≤ length area → Extends area 0 ws after end) × (length area < end → length area < 2 * length ws)
+    → (end ≤ length area → Extends area 0 vs after end) × (length area < end → length area < 2 * length vs)
+said-otherwise ws vs e h = rw e at h
 
 -- a row that is left with nothing leaves nothing of the context
 module _ (c : Bool) (g l : List (ℕ × ℕ)) (s : List ℕ) (r : CoverParts) where
@@ -129,16 +135,21 @@ chained-grown R area ps rs B I A ab ai aa nb ni na {mid} {next} {a₁} {a₂} {a
     let ga = grows-counted gi A (omega arith) (omega arith) (omega arith) ca sa ha in
     let la = head-length (((3 ∷ []) ++ (nb ∷ offsets (R + 2 * length ps) B)) ++ (ni ∷ offsets (R + 2 * length (ps ++ blocks B)) I)) na (R + 2 * length ((ps ++ blocks B) ++ blocks I)) A in
     let lp : length ps ≡ 1 + 2 * length rs = omega (arith, ap length ep, twos-length rs) in
-    subst (λ (ws : List ℕ). (end ≤ length area → Extends area 0 ws a₃ end) × (length area < end → length area < 2 * length ws))
-    (ap (λ (w : List ℕ). ((((3 ∷ []) ++ (nb ∷ offsets (R + 2 * length ps) B)) ++ (ni ∷ offsets (R + 2 * length (ps ++ blocks B)) I)) ++ (na ∷ offsets (R + 2 * length ((ps ++ blocks B) ++ blocks I)) A)) ++ (((w ++ blocks B) ++ blocks I) ++ blocks A)) ep
-    ∙ chained-layout B I A rs nb ni na (R + 2 * length ps) (R + 2 * length (ps ++ blocks B)) (R + 2 * length ((ps ++ blocks B) ++ blocks I)) cb ci ca (omega arith) (omega (arith, length-append ps (blocks B)))
+    said-otherwise
+    (((((3 ∷ []) ++ (nb ∷ offsets (R + 2 * length ps) B)) ++ (ni ∷ offsets (R + 2 * length (ps ++ blocks B)) I)) ++ (na ∷ offsets (R + 2 * length ((ps ++ blocks B) ++ blocks I)) A)) ++ (((ps ++ blocks B) ++ blocks I) ++ blocks A))
+    (coversLayout true B I A rs)
+    (chained-layout B I A rs ps nb ni na (R + 2 * length ps) (R + 2 * length (ps ++ blocks B)) (R + 2 * length ((ps ++ blocks B) ++ blocks I)) ep cb ci ca (omega arith) (omega (arith, length-append ps (blocks B)))
     (omega (arith, length-append ps (blocks B), length-append (ps ++ blocks B) (blocks I))))
     (grows-end ga (omega arith))
+
+-- the records that stay, by the lookup map that the cells of l hold
+abbrev keptAt : List ℕ → Map → List ℕ → CoverParts → List (ℕ × ℕ)
+keptAt t l s r = cutRecords (entriesIn t l) (recordsAt s (r .records))
 
 module _ {s : List ℕ} {r : CoverParts} {glyphs : List ℕ} {m l : Map} {t area : List ℕ} where
   module _ (a : Asks false s r glyphs m l t area) where
     -- what the row of a plain context asks, after the records and the counts
-    pub plain-asks : {mid next : List ℕ} {p : ℕ} → Writes t l (recordsAt s (r .records)) area (r .records .at) mid p
+    pub plain-asks : {mid next : List ℕ} {p : ℕ} → Extends area (r .records .at) (twos (keptAt t l s r)) mid p
         → next ≡ sets mid 0 (flat (3 ∷ r .input .len ∷ (p - r .records .at) / 4 ∷ [])) → WritesRow s (r .input) glyphs m t next p
     plain-asks {mid} {next} {p} w f =
         let q = a .parts .plain refl in
@@ -147,37 +158,37 @@ module _ {s : List ℕ} {r : CoverParts} {glyphs : List ℕ} {m l : Map} {t area
           row = a .parts .input;
           ready = a .ready;
           inside = omega (arith, a .header, q .input, q .records, e, w .same);
-          before = omega (arith, q .input, q .records, w .least);
-          start = omega (arith, q .records, w .least);
+          before = omega (arith, q .input, q .records, w .place);
+          start = omega (arith, q .records, w .place);
           short = omega (arith, a .short, e, w .same);
           cells = a .cells;
         }
 
-    pub plain-settles : {mid next after t₁ : List ℕ} {p end : ℕ} → Writes t l (recordsAt s (r .records)) area (r .records .at) mid p
+    pub plain-settles : {mid next after t₁ : List ℕ} {p end : ℕ} → Extends area (r .records .at) (twos (keptAt t l s r)) mid p
         → next ≡ sets mid 0 (flat (3 ∷ r .input .len ∷ (p - r .records .at) / 4 ∷ [])) → LaysLeft (rowLeft (mapEntries glyphs) s (r .input)) m t t₁ next (r .input .at) p after end
-        → context.Writes false s r glyphs l t area after end
+        → Writes false s r glyphs l t area after end
     unfolding bind
     plain-settles {mid} {next} {after} {t₁} {p} {end} w e d = record {
       same = d .same ∙ ap length e ∙ length-sets mid 0 (flat (3 ∷ r .input .len ∷ (p - r .records .at) / 4 ∷ [])) ∙ w .same;
-      settled = λ {es = es} h. step es (rowLeft (mapEntries glyphs) s (r .input)) refl (w .written h) d;
+      settled = step (rowLeft (mapEntries glyphs) s (r .input)) refl d;
     }
       where
         q : Plain r
         q = a .parts .plain refl
 
-        step : (es : List (ℕ × ℕ)) (o : Option (List (Option (List ℕ)))) → rowLeft (mapEntries glyphs) s (r .input) ≡ o → Extends area (r .records .at) (twos (cutRecords es (recordsAt s (r .records)))) mid p
-            → LaysLeft o m t t₁ next (r .input .at) p after end → Settles (contextLeft false (mapEntries glyphs) es s r) area after end
-        step es none o x d = subst (λ (n : ℕ). Settles (contextLeft false (mapEntries glyphs) es s r) area after n) (sym (d .gone refl)) (settles-none (plain-left (mapEntries glyphs) es s r q ∙ rw o refl))
-        step es (some i) o x d =
-            let rs = cutRecords es (recordsAt s (r .records)) in
+        step : (o : Option (List (Option (List ℕ)))) → rowLeft (mapEntries glyphs) s (r .input) ≡ o → LaysLeft o m t t₁ next (r .input .at) p after end
+            → Settles (contextLeft false (mapEntries glyphs) (entriesIn t l) s r) area after end
+        step none o d = subst (λ (n : ℕ). Settles (contextLeft false (mapEntries glyphs) (entriesIn t l) s r) area after n) (sym (d .gone refl)) (settles-none (plain-left (mapEntries glyphs) (entriesIn t l) s r q ∙ rw o refl))
+        step (some i) o d =
+            let rs = keptAt t l s r in
             let c : length i ≡ r .input .len = row-length (mapEntries glyphs) s (r .input) i o in
-            let k : (p - r .records .at) / 4 ≡ length rs = omega (arith, x .place, twos-length rs) in
+            let k : (p - r .records .at) / 4 ≡ length rs = omega (arith, w .place, twos-length rs) in
             let f : next ≡ sets mid 0 (flat (3 ∷ r .input .len ∷ length rs ∷ [])) = e ∙ ap (λ (n : ℕ). sets mid 0 (flat (3 ∷ r .input .len ∷ n ∷ []))) k in
-            let g = grows-words (grows-start x) (3 ∷ r .input .len ∷ length rs ∷ []) refl (omega (arith, q .records)) f in
+            let g = grows-words (grows-start w) (3 ∷ r .input .len ∷ length rs ∷ []) refl (omega (arith, q .records)) f in
             let j = grows-row g i (omega (arith, q .input)) (omega (arith, q .input, q .records)) (d .same) (d .stays refl) in
             let first : r .records .at + 2 * length (twos rs) ≡ 6 + 2 * length i + 4 * length rs = omega (arith, q .records, twos-length rs) in
             let v = grows-end j (omega (arith, q .records, offsets-length (r .records .at + 2 * length (twos rs)) i)) in
-            settles-some (coversLayout false [] i [] rs) (plain-left (mapEntries glyphs) es s r q ∙ rw o refl) (layout-long false [] i [] rs)
+            settles-some (coversLayout false [] i [] rs) (plain-left (mapEntries glyphs) (entriesIn t l) s r q ∙ rw o refl) (layout-long false [] i [] rs)
             (subst (λ (ws : List ℕ). (end ≤ length area → Extends area 0 ws after end) × (length area < end → length area < 2 * length ws)) (plain-layout i rs (r .input .len) (r .records .at + 2 * length (twos rs)) c first) v)
 
   module _ (a : Asks true s r glyphs m l t area) where
@@ -212,8 +223,12 @@ module _ {s : List ℕ} {r : CoverParts} {glyphs : List ℕ} {m l : Map} {t area
     pub ahead-asks : {t₁ next : List ℕ} {p : ℕ} → Kept (m .at + m .mask + 1) t t₁ → length next ≡ length area → r .records .at - 2 ≤ p → WritesRow s (r .ahead) glyphs m t₁ next p × (2 ≤ r .ahead .at) × (r .ahead .at ≤ length next)
     ahead-asks k e h = row-asks (r .ahead) (a .parts .ahead) (omega (arith, link .ahead)) (omega (arith, link .records)) k e h
 
+    -- the records with their number: there is room for them
+    pub counted-written : {mid : List ℕ} {p : ℕ} → Leaves area (r .records .at - 2) (some (length (keptAt t l s r) ∷ twos (keptAt t l s r))) (2 + 4 * r .records .len) mid p → Extends area (r .records .at - 2) (length (keptAt t l s r) ∷ twos (keptAt t l s r)) mid p
+    counted-written w = w .stays refl (leaves-room w (omega (arith, a .header, link .records)))
+
     -- after the records and the format
-    module _ {mid next : List ℕ} {p : ℕ} (w : WritesCounted t l (recordsAt s (r .records)) area (r .records .at - 2) mid p) (e : next ≡ sets mid 0 (bytes2 3)) where
+    module _ {mid next : List ℕ} {p : ℕ} (w : Extends area (r .records .at - 2) (length (keptAt t l s r) ∷ twos (keptAt t l s r)) mid p) (e : next ≡ sets mid 0 (bytes2 3)) where
       pub next-same : length next ≡ length area
       next-same = ap length e ∙ length-sets mid 0 (bytes2 3) ∙ w .same
 
@@ -221,23 +236,23 @@ module _ {s : List ℕ} {r : CoverParts} {glyphs : List ℕ} {m l : Map} {t area
         pub back-same : length a₁ ≡ length area
         back-same = d .same ∙ length-sets next (r .back .at - 2) (bytes2 (r .back .len)) ∙ next-same
 
-        pub back-gone : q ≡ 0 → context.Writes true s r glyphs l t area a₁ 0
+        pub back-gone : q ≡ 0 → Writes true s r glyphs l t area a₁ 0
         back-gone z = record {
           same = back-same;
-          settled = λ {es = es} h. settles-none (first-none true (mapEntries glyphs) es s r (laid-zero (rowLeft (mapEntries glyphs) s (r .back)) d (omega (arith, w .least)) z));
+          settled = settles-none (first-none true (mapEntries glyphs) (entriesIn t l) s r (laid-zero (rowLeft (mapEntries glyphs) s (r .back)) d (omega (arith, w .place)) z));
         }
 
         pub back-least : (q ≡ 0 → ⊥) → r .records .at - 2 ≤ q
-        back-least z = laid-least (rowLeft (mapEntries glyphs) s (r .back)) d (r .records .at - 2) (omega (arith, w .least)) (omega (arith, a .header, next-same, length-sets next (r .back .at - 2) (bytes2 (r .back .len)))) z
+        back-least z = laid-least (rowLeft (mapEntries glyphs) s (r .back)) d (r .records .at - 2) (omega (arith, w .place)) (omega (arith, a .header, next-same, length-sets next (r .back .at - 2) (bytes2 (r .back .len)))) z
 
         module _ (z : q ≡ 0 → ⊥) {t₂ a₂ : List ℕ} {u : ℕ} (f : LaysLeft (rowLeft (mapEntries glyphs) s (r .input)) m t₁ t₂ (sets a₁ (r .input .at - 2) (bytes2 (r .input .len))) (r .input .at) q a₂ u) where
           pub input-same : length a₂ ≡ length area
           input-same = f .same ∙ length-sets a₁ (r .input .at - 2) (bytes2 (r .input .len)) ∙ back-same
 
-          pub input-gone : u ≡ 0 → context.Writes true s r glyphs l t area a₂ 0
+          pub input-gone : u ≡ 0 → Writes true s r glyphs l t area a₂ 0
           input-gone y = record {
             same = input-same;
-            settled = λ {es = es} h. settles-none (second-none true (mapEntries glyphs) es s r (laid-zero (rowLeft (mapEntries glyphs) s (r .input)) f (omega arith) y));
+            settled = settles-none (second-none true (mapEntries glyphs) (entriesIn t l) s r (laid-zero (rowLeft (mapEntries glyphs) s (r .input)) f (omega arith) y));
           }
 
           pub input-least : (u ≡ 0 → ⊥) → r .records .at - 2 ≤ u
@@ -248,24 +263,22 @@ module _ {s : List ℕ} {r : CoverParts} {glyphs : List ℕ} {m l : Map} {t area
             ahead-same = j .same ∙ length-sets a₂ (r .ahead .at - 2) (bytes2 (r .ahead .len)) ∙ input-same
 
             -- all three rows are left
-            all-rows : (es : List (ℕ × ℕ)) (B I A : List (Option (List ℕ))) → rowLeft (mapEntries glyphs) s (r .back) ≡ some B → rowLeft (mapEntries glyphs) s (r .input) ≡ some I → rowLeft (mapEntries glyphs) s (r .ahead) ≡ some A
-                → Extends area (r .records .at - 2) (length (cutRecords es (recordsAt s (r .records))) ∷ twos (cutRecords es (recordsAt s (r .records)))) mid p → Settles (contextLeft true (mapEntries glyphs) es s r) area a₃ end
-            all-rows es B I A eb ei ea x =
-                let rs = cutRecords es (recordsAt s (r .records)) in
+            all-rows : (B I A : List (Option (List ℕ))) → rowLeft (mapEntries glyphs) s (r .back) ≡ some B → rowLeft (mapEntries glyphs) s (r .input) ≡ some I → rowLeft (mapEntries glyphs) s (r .ahead) ≡ some A
+                → Settles (contextLeft true (mapEntries glyphs) (entriesIn t l) s r) area a₃ end
+            all-rows B I A eb ei ea =
                 let R = r .records .at - 2 in
                 let cb = row-length (mapEntries glyphs) s (r .back) B eb in
                 let ci = row-length (mapEntries glyphs) s (r .input) I ei in
                 let ca = row-length (mapEntries glyphs) s (r .ahead) A ea in
-                settles-some (coversLayout true B I A rs) (all-some true (mapEntries glyphs) es s r eb ei ea) (layout-long true B I A rs)
-                (chained-grown R area (length rs ∷ twos rs) rs B I A (r .back .at) (r .input .at) (r .ahead .at) (r .back .len) (r .input .len) (r .ahead .len) refl (link .back) (link .input) (link .ahead) (omega (arith, link .records)) cb ci ca x e (d .same) (d .stays eb) (f .same) (f .stays ei) (j .same) (j .stays ea))
+                settles-some (coversLayout true B I A (keptAt t l s r)) (all-some true (mapEntries glyphs) (entriesIn t l) s r eb ei ea) (layout-long true B I A (keptAt t l s r))
+                (chained-grown R area (length (keptAt t l s r) ∷ twos (keptAt t l s r)) (keptAt t l s r) B I A (r .back .at) (r .input .at) (r .ahead .at) (r .back .len) (r .input .len) (r .ahead .len) refl (link .back) (link .input) (link .ahead) (omega (arith, link .records)) cb ci ca w e (d .same) (d .stays eb) (f .same) (f .stays ei) (j .same) (j .stays ea))
 
-            pub ahead-settles : context.Writes true s r glyphs l t area a₃ end
-            ahead-settles = record { same = ahead-same; settled = λ {es = es} h. step es (rowLeft (mapEntries glyphs) s (r .back)) (rowLeft (mapEntries glyphs) s (r .input)) (rowLeft (mapEntries glyphs) s (r .ahead)) refl refl refl (w .written h) }
+            pub ahead-settles : Writes true s r glyphs l t area a₃ end
+            ahead-settles = record { same = ahead-same; settled = step (rowLeft (mapEntries glyphs) s (r .back)) (rowLeft (mapEntries glyphs) s (r .input)) (rowLeft (mapEntries glyphs) s (r .ahead)) refl refl refl }
               where
-                step : (es : List (ℕ × ℕ)) (o p′ v : Option (List (Option (List ℕ)))) → rowLeft (mapEntries glyphs) s (r .back) ≡ o → rowLeft (mapEntries glyphs) s (r .input) ≡ p′ → rowLeft (mapEntries glyphs) s (r .ahead) ≡ v
-                    → Extends area (r .records .at - 2) (length (cutRecords es (recordsAt s (r .records))) ∷ twos (cutRecords es (recordsAt s (r .records)))) mid p → Settles (contextLeft true (mapEntries glyphs) es s r) area a₃ end
-                step es none p′ v eb ei ea x = absurd (z (d .gone eb))
-                step es (some B) none v eb ei ea x = absurd (y (f .gone ei))
-                step es (some B) (some I) none eb ei ea x =
-                    subst (λ (n : ℕ). Settles (contextLeft true (mapEntries glyphs) es s r) area a₃ n) (sym (j .gone ea)) (settles-none (third-none true (mapEntries glyphs) es s r ea))
-                step es (some B) (some I) (some A) eb ei ea x = all-rows es B I A eb ei ea x
+                step : (o p′ v : Option (List (Option (List ℕ)))) → rowLeft (mapEntries glyphs) s (r .back) ≡ o → rowLeft (mapEntries glyphs) s (r .input) ≡ p′ → rowLeft (mapEntries glyphs) s (r .ahead) ≡ v
+                    → Settles (contextLeft true (mapEntries glyphs) (entriesIn t l) s r) area a₃ end
+                step none p′ v eb ei ea = absurd (z (d .gone eb))
+                step (some B) none v eb ei ea = absurd (y (f .gone ei))
+                step (some B) (some I) none eb ei ea = subst (λ (n : ℕ). Settles (contextLeft true (mapEntries glyphs) (entriesIn t l) s r) area a₃ n) (sym (j .gone ea)) (settles-none (third-none true (mapEntries glyphs) (entriesIn t l) s r ea))
+                step (some B) (some I) (some A) eb ei ea = all-rows B I A eb ei ea

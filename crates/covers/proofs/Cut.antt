@@ -14,6 +14,7 @@ use Rattle.meaning.specs.Cut.{unlessEmpty, newCoverage, coversLeft, cutRecords,
 use Rattle.meaning.specs.Layout.{block, coverageWords, coversLayout, tableWords, layout}
 use Rattle.meaning.specs.Subset.{Outcome, refused, limit, laidInto, written}
 use Rattle.laws.specs.Stands.{flat-length}
+use Rattle.fold.specs.Cells.{Holds}
 use Rattle.fold.specs.declared.Map.{Map}
 use Rattle.area.specs.Part.{part, take-part}
 use Rattle.room.specs.Laid.{outcomeOf}
@@ -22,10 +23,13 @@ use Rattle.room.specs.declared.Laid.the-variants.{Nothing, TooBig}
 use Rattle.tried.specs.Tries.{Tries}
 use Rattle.tried.specs.declared.Tried.{Tried}
 use Rattle.tried.specs.declared.Tried.the-variants.{Short, Became}
-use Rattle.covers.specs.Rows.{blockLeft, blocksLeft}
-use Rattle.covers.specs.Context.{coversAt, recordsAt, IsContext, contextLeft, Settles, Asks, Writes}
+use Rattle.numbers.specs.Entries.{entriesIn}
+use Rattle.numbers.specs.Alike.{holds-alike, records-alike}
+use Rattle.cover_rows.specs.Rows.{blockLeft, blocksLeft}
+use Rattle.cover_rows.specs.Parts.{coversAt, recordsAt, IsContext}
+use Rattle.covers.specs.Context.{contextLeft, Settles, Asks, Writes}
 use Rattle.covers.specs.Cutting.{wordsInto, HandsOver, Cuts, CutsInto}
-use Rattle.covers.specs.declared.CoverParts.{CoverParts}
+use Rattle.cover_rows.specs.declared.CoverParts.{CoverParts}
 
 -- the blocks that are left are those of the coverages that are left
 blocks-are : (g : List (ℕ × ℕ)) (cs : List (Option (List ℕ))) → blocksLeft g cs ≡ bind (coversLeft g cs) (λ ks. some (map (block coverageWords) ks))
@@ -50,7 +54,7 @@ module _ (chained : Bool) (g l : List (ℕ × ℕ)) (b i a : List (Option (List 
   layout-covers = refl
 
 -- what is left of a context is what the definitions say
-pub context-is : {chained : Bool} {s : List ℕ} {r : CoverParts} → IsContext chained s r → (g l : List (ℕ × ℕ)) (out : List ℕ) → wordsInto out (contextLeft chained g l s r) ≡ written out (cut g l (coverContext chained s))
+context-is : {chained : Bool} {s : List ℕ} {r : CoverParts} → IsContext chained s r → (g l : List (ℕ × ℕ)) (out : List ℕ) → wordsInto out (contextLeft chained g l s r) ≡ written out (cut g l (coverContext chained s))
 unfolding contextLeft written bind
 context-is {chained} {s} {r} k g l out =
     rw (k .table, cut-covers chained g l (coversAt s (r .back)) (coversAt s (r .input)) (coversAt s (r .ahead)) (recordsAt s (r .records)), blocks-are g (coversAt s (r .back)), blocks-are g (coversAt s (r .input)), blocks-are g (coversAt s (r .ahead)))
@@ -63,6 +67,12 @@ context-is {chained} {s} {r} k g l out =
     step (some b) none a = refl
     step (some b) (some i) none = refl
     step (some b) (some i) (some a) = ap (laidInto out) (sym (layout-covers chained g l b i a (cutRecords l (recordsAt s (r .records)))))
+
+-- the lookup map that the cells hold, by any list that they are said to hold
+held-is : {chained : Bool} {s : List ℕ} {r : CoverParts} → IsContext chained s r → (g : List (ℕ × ℕ)) {t : List ℕ} {l : Map} {es : List (ℕ × ℕ)} → Holds t l es → (out : List ℕ)
+    → wordsInto out (contextLeft chained g (entriesIn t l) s r) ≡ written out (cut g es (coverContext chained s))
+unfolding contextLeft
+held-is {s = s} {r} k g {t} {l} {es} h out = rw (records-alike (holds-alike h) (recordsAt s (r .records))) (context-is k g es out)
 
 -- What is handed over, by what was written.
 module _ {before area : List ℕ} {end : ℕ} where
@@ -114,6 +124,5 @@ module _ {chained : Bool} {s glyphs : List ℕ} {m l : Map} {t area : List ℕ} 
 
   pub cut-into : {next out after : List ℕ} {end : ℕ} {x : Tried} → Writes chained s r glyphs l t area next end → HandsOver end next x out after → CutsInto chained s glyphs l t area x out after
   cut-into {next} {out} {after} {end} {x} w h = record {
-    cuts = λ {es = es} o. subst (λ (v : Outcome). Tries (⊥) (length area < limit) x out after v) (context-is k (mapEntries glyphs) es out)
-        (rw (w .same) at (h .handed (w .settled o) (w .same)));
+    cuts = λ {es = es} o. subst (λ (v : Outcome). Tries (⊥) (length area < limit) x out after v) (held-is k (mapEntries glyphs) o out) (rw (w .same) at (h .handed (w .settled) (w .same)));
   }

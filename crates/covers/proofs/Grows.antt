@@ -16,9 +16,9 @@ use Rattle.laws.specs.Through.{offsets-length}
 use Rattle.laws.specs.Written.{Wrote, sets-flat, flat-one}
 use Rattle.area.specs.Extends.{Extends, extends-more, wrote-extends}
 use Rattle.area.specs.Stored.{extends-store}
-use Rattle.covers.specs.Rows.{blockLeft, blocksLeft, rowLeft, Lays}
-use Rattle.covers.specs.declared.Row.{Row}
-use Rattle.covers.proofs.Lays.{some-none, some-same}
+use Rattle.cover_rows.specs.Rows.{blockLeft, blocksLeft, rowLeft, Lays}
+use Rattle.cover_rows.specs.declared.Row.{Row}
+use Rattle.cover_rows.proofs.Lays.{some-none, some-same}
 
 -- The words `head` stand from the start on, and the words `parts` from `first` on; r is the place after them, or past the area, which is then too short for them.
 pub record Grows (before : List ℕ) (first : ℕ) (head parts after : List ℕ) (r : ℕ) : Type 0 where

@@ -1,6 +1,3 @@
-pub mod Parts
-pub mod Lays
-pub mod Rows
 pub mod Grows
 pub mod Context
 pub mod Cut

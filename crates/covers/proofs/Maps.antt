@@ -12,10 +12,10 @@ use Rattle.meaning.specs.Maps.{mapEntries}
 use Rattle.meaning.specs.Tables.{coverContext}
 use Rattle.meaning.specs.Cut.{cut}
 use Rattle.meaning.specs.Subset.{Outcome, limit, written}
+use Rattle.laws.specs.Ascends.{ascends-rise, map-length, map-key}
 use Rattle.fold.specs.Cells.{Holds, holds-kept}
 use Rattle.fold.specs.Laid.{Laid}
 use Rattle.fold.specs.declared.Map.{Map}
-use Rattle.meet.proofs.Entries.{map-rises}
 use Rattle.tried.specs.Tries.{Tries, tries-less}
 use Rattle.tried.specs.declared.Tried.{Tried}
 use Rattle.covers.specs.Cutting.{Cuts, CutsInto, Sound, enoughCells, Least}
@@ -27,7 +27,7 @@ word-small m h at = omega (arith, h at, h (at + 1))
 
 map-least : (m : List ℕ) → ascends (keys (mapEntries m)) ≡ true → (k : ℕ) → k < length m / 4 → k ≤ word m (4 * k)
 map-least m good zero h = omega arith
-map-least m good (suc k) h = omega (arith, map-least m good k (omega arith), map-rises m good k (suc k) (omega arith) h)
+map-least m good (suc k) h = omega (arith, map-least m good k (omega arith), map-key m k (omega arith), map-key m (suc k) h, ascends-rise (keys (mapEntries m)) good k (suc k) (omega arith) (omega (arith, map-length m)))
 
 pub few-entries : (m : List ℕ) → ascends (keys (mapEntries m)) ≡ true → ((i : ℕ) → getD m i 0 < 256) → length m / 4 ≤ 65536
 few-entries m good bytes = step (decLt 0 (length m / 4))

@@ -1,4 +1,4 @@
--- A context by coverages: where its parts stand, what is asked of it, and the words of what is left of it.
+-- A context by coverages: what is asked of it, and the words of what is left of it.
 use Prim.Native.Nat.{ℕ, _+_, _*_, _≤_, _<_}
 use mathlib.Core.Path.{_≡_}
 use mathlib.Core.Bool.{Bool, true, false}
@@ -11,43 +11,13 @@ use Rattle.meaning.specs.Parts.{coverage}
 use Rattle.meaning.specs.Tables.{Table, reaches, coverContext}
 use Rattle.meaning.specs.Cut.{cutRecords}
 use Rattle.meaning.specs.Layout.{coversLayout}
-use Rattle.fold.specs.Cells.{Inside, Holds}
+use Rattle.fold.specs.Cells.{Inside}
 use Rattle.fold.specs.declared.Map.{Map}
 use Rattle.area.specs.Extends.{Extends}
-use Rattle.covers.specs.Rows.{rowLeft, SoundRow, Ready}
-use Rattle.covers.specs.declared.Row.{Row}
-use Rattle.covers.specs.declared.CoverParts.{CoverParts}
-
--- the coverages that a row of offsets reaches
-abbrev pub coversAt : List ℕ → Row → List (Option (List ℕ))
-coversAt s r = reaches (coverage s) s 0 (r .at) (r .len)
-
--- the records of a row
-abbrev pub recordsAt : List ℕ → Row → List (ℕ × ℕ)
-recordsAt s r = entries s (r .at) (r .len)
-
--- where a plain context has its input and its records, and where a chained one has each part after the one before it, with its count
-pub record Plain (r : CoverParts) : Type 0 where
-  pub back : r .back .len ≡ 0
-  pub input : r .input .at ≡ 6
-  pub ahead : r .ahead .len ≡ 0
-  pub records : r .records .at ≡ 6 + 2 * r .input .len
-
-pub record Chained (r : CoverParts) : Type 0 where
-  pub back : r .back .at ≡ 4
-  pub input : r .input .at ≡ 6 + 2 * r .back .len
-  pub ahead : r .ahead .at ≡ r .input .at + 2 * r .input .len + 2
-  pub records : r .records .at ≡ r .ahead .at + 2 * r .ahead .len + 2
-
--- r says where the parts of the context stand, and they are sound
-pub record IsContext (chained : Bool) (s : List ℕ) (r : CoverParts) : Type 0 where
-  pub table : coverContext chained s ≡ Table.by-cover chained (coversAt s (r .back)) (coversAt s (r .input)) (coversAt s (r .ahead)) (recordsAt s (r .records))
-  pub back : SoundRow s (r .back)
-  pub input : SoundRow s (r .input)
-  pub ahead : SoundRow s (r .ahead)
-  pub records : r .records .at + 4 * r .records .len ≤ length s
-  pub plain : chained ≡ false → Plain r
-  pub chain : chained ≡ true → Chained r
+use Rattle.numbers.specs.Entries.{entriesIn}
+use Rattle.cover_rows.specs.Rows.{rowLeft, SoundRow, Ready}
+use Rattle.cover_rows.specs.Parts.{recordsAt, IsContext}
+use Rattle.cover_rows.specs.declared.CoverParts.{CoverParts}
 
 -- the words of what is left of the context; none if a coverage is null or left with no glyph
 unfoldable pub contextLeft : Bool → List (ℕ × ℕ) → List (ℕ × ℕ) → List ℕ → CoverParts → Option (List ℕ)
@@ -71,7 +41,7 @@ pub record Asks (chained : Bool) (s : List ℕ) (r : CoverParts) (glyphs : List 
   pub short : length area ≤ 0x1_0000_0000
   pub cells : length t ≤ 0x1_0000_0000
 
--- whatever lookup map the cells of l hold, the context is written
+-- the context is written, under the lookup map that the cells of l hold
 pub record Writes (chained : Bool) (s : List ℕ) (r : CoverParts) (glyphs : List ℕ) (l : Map) (t before after : List ℕ) (end : ℕ) : Type 0 where
   pub same : length after ≡ length before
-  pub settled : {es : List (ℕ × ℕ)} → Holds t l es → Settles (contextLeft chained (mapEntries glyphs) es s r) before after end
+  pub settled : Settles (contextLeft chained (mapEntries glyphs) (entriesIn t l) s r) before after end

@@ -15,7 +15,7 @@ use Rattle.fold.specs.Cells.{Inside, Holds}
 use Rattle.fold.specs.declared.Map.{Map}
 use Rattle.tried.specs.Tries.{Tries}
 use Rattle.tried.specs.declared.Tried.{Tried}
-use Rattle.covers.specs.Rows.{Ready}
+use Rattle.cover_rows.specs.Rows.{Ready}
 use Rattle.covers.specs.Context.{Settles}
 
 -- what comes of the words of what is left

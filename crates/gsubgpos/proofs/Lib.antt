@@ -1,3 +1,1 @@
-pub mod Members
-pub mod Sets
 pub mod Within

@@ -9,7 +9,7 @@ use lib.Seq.{getD-set-other}
 use lib.Dec.{eqb}
 use borrow.Author.Tests.{eq-eqb, ne-eqb, eqb-true, eqb-false}
 use Rattle.meaning.specs.Words.{word, every}
-use Rattle.meaning.specs.Tables.{Rule, rule, ruleSet, reaches, dropNull}
+use Rattle.meaning.specs.Tables.{rule, ruleSet, reaches, dropNull}
 use Rattle.meaning.specs.Records.{ruleWithin, setsWithin}
 use Rattle.laws.specs.EachLeft.{passes, allPass, Each, each-all, each-next, each-fails, each-end}
 use Rattle.gsubgpos.specs.Within.{Marked}

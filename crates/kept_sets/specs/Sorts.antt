@@ -1,31 +1,40 @@
 -- The sorts of sets: what is left of one, and what stands around them.
 use Prim.Native.Nat.{ℕ, zero, suc, _+_, _*_, _<_, _≤_}
 use mathlib.Core.Path.{_≡_, refl, ap}
-use mathlib.Core.Bool.{Bool}
+use mathlib.Core.Bool.{Bool, true, false, true≢false}
 use mathlib.Core.Option.{Option, none, some}
-use mathlib.Core.List.{List, []}
+use mathlib.Core.List.{List, [], _∷_}
 use native.Mathlib.Omega.{arith}
-use lib.ListN.{length}
-use Rattle.meaning.specs.Words.{mapSome, upFrom}
-use Rattle.meaning.specs.Tables.{ruleSet, ligatureSet}
-use Rattle.meaning.specs.Fault.{ruleFault, ligatureFault, setFault}
+use lib.ListN.{length, replicate}
+use Rattle.meaning.specs.Words.{word, inside, mapSome, upFrom}
+use Rattle.meaning.specs.Tables.{fieldCount, ruleSet, ligatureSet}
+use Rattle.meaning.specs.Fault.{ruleFault, ligatureFault, setFault, pairSetFault}
 use Rattle.meaning.specs.Cut.{RuleMaps, cutSet, cutLigatures}
 use Rattle.meaning.specs.Layout.{block, ruleWords, ligatureWords, setWords}
 use Rattle.laws.specs.Members.{wordsLeft}
+use Rattle.laws.specs.Runs.{both}
+use Rattle.laws.specs.SoundGood.{part-sound}
 use Rattle.fold.specs.Cells.{Inside, Kept}
 use Rattle.fold.specs.declared.Map.{Map}
 use Rattle.numbers.specs.Entries.{entryIn, entriesIn}
 use Rattle.numbers.specs.Leaves.{Leaves, leaves-said}
 use Rattle.member_sets.specs.Sets.{setMost}
-use Rattle.rule_sets.specs.Left.{AllInside, mapsIn}
+use Rattle.member_sets.specs.Sound.{inside-is}
+use Rattle.member_sets.specs.Dead.{Dead, dead-none}
+use Rattle.ligatures.specs.Left.{ligatureLeft}
+use Rattle.pair_sets.specs.Pairs.{Places, pairsLeft, pairsMost}
+use Rattle.pair_sets.specs.Formats.{pairSize, placesOf, places-inside}
+use Rattle.pair_sets.specs.declared.Formats.{Formats}
+use Rattle.rule_sets.specs.Left.{AllInside, mapsIn, ruleLeft}
 use Rattle.rule_sets.specs.declared.Maps.{Maps}
 use Rattle.kept_sets.specs.declared.Sort.{Sort}
-use Rattle.kept_sets.specs.declared.Sort.the-variants.{Rules, Ligatures}
+use Rattle.kept_sets.specs.declared.Sort.the-variants.{Rules, Ligatures, Pairs}
 
 -- the words between the coverage's offset and the count of the sets
 abbrev pub moreOf : Sort → List ℕ
 moreOf (Rules chained) = []
 moreOf Ligatures = []
+moreOf (Pairs f) = f .n1 ∷ f .n2 ∷ []
 
 -- how many bytes stand before the offsets of the sets
 abbrev pub headerSize : Sort → ℕ
@@ -35,11 +44,28 @@ headerSize sort = 6 + 2 * length (moreOf sort)
 unfoldable pub setFaultOf : Sort → List ℕ → ℕ → Option ℕ
 setFaultOf (Rules chained) s at = setFault (ruleFault chained s) s at
 setFaultOf Ligatures s at = setFault (ligatureFault s) s at
+setFaultOf (Pairs f) s at = pairSetFault (fieldCount (f .f1)) (fieldCount (f .f2)) s at
 
 -- the words of what is left of the set at a place
 unfoldable pub setLeft : Sort → RuleMaps → List ℕ → ℕ → Option (List ℕ)
 setLeft (Rules chained) m s at = block (setWords (ruleWords chained)) (cutSet chained m (ruleSet chained s at))
 setLeft Ligatures m s at = block (setWords ligatureWords) (cutLigatures (m .input) (ligatureSet s at))
+setLeft (Pairs f) m s at = pairsLeft (m .input) s (pairSize (f .f1) (f .f2)) (placesOf (f .f1) (f .f2) (f .n1) (f .n2)) at
+
+-- What the writer of sets is told besides, in bytes: of rules and of ligatures, which are known to go; of pairs the places of the fields that stay, and their formats say how long a record is.
+unfoldable pub toldOf : Sort → RuleMaps → List ℕ → List ℕ → Type 0
+toldOf (Rules chained) m s told = Dead (ruleLeft chained m s) told
+toldOf Ligatures m s told = Dead (ligatureLeft (m .input) s) told
+toldOf (Pairs f) m s told = (f .size ≡ pairSize (f .f1) (f .f2)) × (told ≡ placesOf (f .f1) (f .f2) (f .n1) (f .n2))
+
+pub record Told (sort : Sort) (m : RuleMaps) (s told : List ℕ) : Type 0 where
+  pub is : toldOf sort m s told
+
+-- whether a sort has value formats
+abbrev pub isPairs : Sort → Bool
+isPairs (Rules chained) = false
+isPairs Ligatures = false
+isPairs (Pairs f) = true
 
 -- the same under the maps that cells hold
 abbrev pub leftIn : Sort → List ℕ → Maps → List ℕ → ℕ → Option (List ℕ)
@@ -72,7 +98,52 @@ set-leaves : {A : Type 0} (f : A → List ℕ) (o : Option (List A)) {a b : List
 unfolding setMost mostOf
 set-leaves f o s w = leaves-said w refl (omega (arith, ap length (words-block (setWords f) o)))
 
--- The code asks for the sort: what the check says of a set of rules and of one of ligatures, and what their writers leave.
+-- the place for a pair set's count and for one pair more is less than twice the source
+pairs-most : (o : Option (List ℕ)) (places s : List ℕ) → length places ≤ 8 → 10 ≤ length s → pairsMost o places ≤ mostOf o s
+unfolding pairsMost mostOf wordsLeft wordsIn
+pairs-most none places s h l = omega arith
+pairs-most (some ws) places s h l = omega arith
+
+-- zeros say that no member is known to go
+pub told-none : (sort : Sort) {m : RuleMaps} {s : List ℕ} (n : ℕ) → isPairs sort ≡ false → Told sort m s (replicate n 0)
+unfolding toldOf
+told-none (Rules chained) n e = record { is = dead-none n }
+told-none Ligatures n e = record { is = dead-none n }
+told-none (Pairs f) n e = absurd (true≢false e)
+
+pub told-pairs : {f : Formats} {m : RuleMaps} {s told : List ℕ} → f .size ≡ pairSize (f .f1) (f .f2) → told ≡ placesOf (f .f1) (f .f2) (f .n1) (f .n2) → Told (Pairs f) m s told
+unfolding toldOf
+told-pairs e p = record { is = (e, p) }
+
+-- The code asks for the sort: what the writer of its sets is told.
+module _ {sort : Sort} {m : RuleMaps} {s told : List ℕ} where
+  pub rules-known : {chained : Bool} → sort ≡ Rules chained → Told sort m s told → Dead (ruleLeft chained m s) told
+  unfolding toldOf
+  rules-known e h = rw e at (h .is)
+
+  pub rules-told : {chained : Bool} → sort ≡ Rules chained → Dead (ruleLeft chained m s) told → Told sort m s told
+  unfolding toldOf
+  rules-told e h = record { is = rw e h }
+
+  pub ligatures-known : sort ≡ Ligatures → Told sort m s told → Dead (ligatureLeft (m .input) s) told
+  unfolding toldOf
+  ligatures-known e h = rw e at (h .is)
+
+  pub ligatures-told : sort ≡ Ligatures → Dead (ligatureLeft (m .input) s) told → Told sort m s told
+  unfolding toldOf
+  ligatures-told e h = record { is = rw e h }
+
+  pub pairs-known : {f : Formats} → sort ≡ Pairs f → Told sort m s told → (f .size ≡ pairSize (f .f1) (f .f2)) × (told ≡ placesOf (f .f1) (f .f2) (f .n1) (f .n2))
+  unfolding toldOf
+  pairs-known e h = rw e at (h .is)
+
+  -- the places of the fields lie inside a pair record
+  pub pairs-places : {f : Formats} → sort ≡ Pairs f → Told sort m s told → Places told (f .size)
+  pairs-places {f} e h =
+      let t = pairs-known e h in
+      rw (t .1, t .0) (places-inside (f .f1) (f .f2) (f .n1) (f .n2))
+
+-- The code asks for the sort: what the check says of a set of each sort, and what its writer leaves.
 module _ {sort : Sort} (s : List ℕ) (at : ℕ) where
   pub rules-sound : {chained : Bool} → sort ≡ Rules chained → setFaultOf sort s at ≡ none → setFault (ruleFault chained s) s at ≡ none
   unfolding setFaultOf
@@ -81,6 +152,13 @@ module _ {sort : Sort} (s : List ℕ) (at : ℕ) where
   pub ligatures-sound : sort ≡ Ligatures → setFaultOf sort s at ≡ none → setFault (ligatureFault s) s at ≡ none
   unfolding setFaultOf
   ligatures-sound e h = rw e at h
+
+  pub pairs-sound : {f : Formats} → sort ≡ Pairs f → f .size ≡ pairSize (f .f1) (f .f2) → setFaultOf sort s at ≡ none → at + 2 + f .size * word s at ≤ length s
+  unfolding setFaultOf pairSetFault
+  pairs-sound {f} e z h =
+      let q = part-sound at _ none (rw e at h) .0 in
+      let size = 2 + 2 * fieldCount (f .f1) + 2 * fieldCount (f .f2) in
+      rw z (inside-is s (at + 2) (size * word s at) (both (inside s (at + 2) (size * word s at)) _ (both (inside s at 2) _ q .1) .0))
 
   module _ (m : RuleMaps) {a b : List ℕ} {p r : ℕ} where
     pub rules-leave : {chained : Bool} → sort ≡ Rules chained → Leaves a p (block (setWords (ruleWords chained)) (cutSet chained m (ruleSet chained s at))) (setMost (ruleWords chained) (cutSet chained m (ruleSet chained s at)) s) b r
@@ -92,6 +170,14 @@ module _ {sort : Sort} (s : List ℕ) (at : ℕ) where
         → Leaves a p (setLeft sort m s at) (mostOf (setLeft sort m s at) s) b r
     unfolding setLeft
     ligatures-leave e w = rw e (set-leaves ligatureWords (cutLigatures (m .input) (ligatureSet s at)) s w)
+
+    pub pairs-leave : {f : Formats} (places : List ℕ) → sort ≡ Pairs f → f .size ≡ pairSize (f .f1) (f .f2) → places ≡ placesOf (f .f1) (f .f2) (f .n1) (f .n2) → headerSize sort ≤ length s
+        → Leaves a p (pairsLeft (m .input) s (f .size) places at) (pairsMost (pairsLeft (m .input) s (f .size) places at) places) b r → Leaves a p (setLeft sort m s at) (mostOf (setLeft sort m s at) s) b r
+    unfolding setLeft
+    pairs-leave {f} places e z k l w =
+        let few : length (placesOf (f .f1) (f .f2) (f .n1) (f .n2)) ≤ 8 = places-inside (f .f1) (f .f2) (f .n1) (f .n2) .few in
+        let header : 10 ≤ length s = rw e at l in
+        rw e (leaves-said (rw (z, k) at w) refl (pairs-most _ _ s few header))
 
 -- Cells behind the maps may change.
 module _ {at : ℕ} {t₀ t : List ℕ} (k : Kept at t₀ t) where
@@ -117,3 +203,10 @@ module _ {at : ℕ} {t₀ t : List ℕ} (k : Kept at t₀ t) where
 
   pub inside-kept : {m : Maps} → AllInside t₀ m → AllInside t m
   inside-kept i = record { back = inside-as (i .back); input = inside-as (i .input); ahead = inside-as (i .ahead); lookups = inside-as (i .lookups) }
+
+  -- and so does what the writer of sets is told
+  pub told-kept : (sort : Sort) {m : Maps} → AllBefore m at → {s told : List ℕ} → Told sort (mapsIn t m) s told → Told sort (mapsIn t₀ m) s told
+  told-kept sort {m} b h = rw (entries-kept (m .back) (b .back), entries-kept (m .input) (b .input), entries-kept (m .ahead) (b .ahead), entries-kept (m .lookups) (b .lookups)) at h
+
+  pub told-still : (sort : Sort) {m : Maps} → AllBefore m at → {s told : List ℕ} → Told sort (mapsIn t₀ m) s told → Told sort (mapsIn t m) s told
+  told-still sort {m} b h = rw (entries-kept (m .back) (b .back), entries-kept (m .input) (b .input), entries-kept (m .ahead) (b .ahead), entries-kept (m .lookups) (b .lookups)) h

@@ -2,6 +2,8 @@
 use area::over;
 use area::put;
 use ligatures::write_ligatures;
+use pair_sets::Formats;
+use pair_sets::write_pairs;
 use rule_sets::Maps;
 use rule_sets::write_rules;
 use wire::word_inside;
@@ -11,14 +13,15 @@ ghost use Prim.Native.Nat.{_≤_};
 ghost use lib.ListN.{length};
 ghost use Rattle.meaning.specs.Subset.{limit};
 ghost use Rattle.numbers.specs.Leaves.{Leaves};
-ghost use Rattle.rule_sets.specs.Left.{AllInside};
-ghost use Rattle.kept_sets.specs.Sorts.{setFaultOf, headerSize, leftIn, mostOf};
+ghost use Rattle.rule_sets.specs.Left.{AllInside, mapsIn};
+ghost use Rattle.kept_sets.specs.Sorts.{setFaultOf, headerSize, leftIn, mostOf, Told};
 ghost use Rattle.kept_sets.specs.Kept.{Ready, WroteKept};
 
-// The sorts of sets: rules, plain or chained, and ligatures.
+// The sorts of sets: rules, plain or chained, ligatures, and pairs, which have value formats.
 pub enum Sort {
     Rules(bool),
     Ligatures,
+    Pairs(Formats),
 }
 
 // How many sets were kept, and the place after them; more than the length of the area, where there is no room.
@@ -27,46 +30,50 @@ pub struct Sets {
     pub end: usize,
 }
 
-// How many bytes stand before the offsets of the sets: the format, the coverage's offset and the count.
+// How many bytes stand before the offsets of the sets: the format, the coverage's offset and the count, and for pairs the two value formats.
 pub fn header_size(sort: Sort) -> usize
     ensures { λ r. ⌜ (r ≡ headerSize sort) × (r ≤ 10) ⌝ }
 {
     match sort {
         Sort::Rules(_) => 6,
         Sort::Ligatures => 6,
+        Sort::Pairs(_) => 10,
     }
 }
 
-// What is left of the set at `at`, from `pos` on. Ligatures go through the map of the input alone.
+// What is left of the set at `at`, from `pos` on. Ligatures and pairs go through the map of the input alone. `told` says where the fields that stay stand in a pair record; for other sorts it has marks at the places of members that are known to go.
 fn write_set(
     sort: Sort,
     src: &[u8],
     at: usize,
+    told: &mut [u8],
     t: &[u32],
     maps: Maps,
     area: &mut [u8],
     pos: usize,
 ) -> usize
-    requires { ⌜ (setFaultOf sort (now src) at ≡ none) × (length (now src) ≤ limit) × AllInside (now t) maps × (pos ≤ length (now area)) ⌝ }
-    ensures { λ r. ⌜ Leaves (now (area .entry)) pos (leftIn sort (now (t .entry)) maps (now (src .entry)) at) (mostOf (leftIn sort (now (t .entry)) maps (now (src .entry)) at) (now (src .entry))) (now (area .exit)) r ⌝ }
+    requires { ⌜ (setFaultOf sort (now src) at ≡ none) × (length (now src) ≤ limit) × AllInside (now t) maps × (pos ≤ length (now area)) × (headerSize sort ≤ length (now src)) × Told sort (mapsIn (now t) maps) (now src) (now told) ⌝ }
+    ensures { λ r. ⌜ Leaves (now (area .entry)) pos (leftIn sort (now (t .entry)) maps (now (src .entry)) at) (mostOf (leftIn sort (now (t .entry)) maps (now (src .entry)) at) (now (src .entry))) (now (area .exit)) r × Told sort (mapsIn (now (t .entry)) maps) (now (src .entry)) (now (told .exit)) ⌝ }
 {
     match sort {
-        Sort::Rules(chained) => write_rules(chained, src, at, t, maps, area, pos),
-        Sort::Ligatures => write_ligatures(src, at, t, maps.input, area, pos),
+        Sort::Rules(chained) => write_rules(chained, src, at, t, maps, told, area, pos),
+        Sort::Ligatures => write_ligatures(src, at, t, maps.input, told, area, pos),
+        Sort::Pairs(f) => write_pairs(src, at, f.size, told, t, maps.input, area, pos),
     }
 }
 
-// What is left of the sets that the `m` notes from `notes` on name by their coverage index, written after the place for the header and an offset for each note. A note stays, and its set's place is written as its offset, if something of the set is left.
+// What is left of the sets that the `m` notes from `notes` on name by their coverage index, written after the place for the header and an offset for each note. A note stays, and its set's place is written as its offset, if something of the set is left. `told` is as above.
 pub fn write_kept(
     sort: Sort,
     src: &[u8],
+    told: &mut [u8],
     t: &mut [u32],
     notes: usize,
     m: usize,
     maps: Maps,
     area: &mut [u8],
 ) -> Sets
-    requires { ⌜ Ready sort (now src) (now t) maps notes m ⌝ }
+    requires { ⌜ Ready sort (now src) (now t) maps notes m × Told sort (mapsIn (now t) maps) (now src) (now told) ⌝ }
     ensures { λ r. ⌜ WroteKept sort (now (src .entry)) (now (t .entry)) maps notes m (now (area .entry)) (now (t .exit)) (now (area .exit)) r ⌝ }
 {
     let slots = header_size(sort);
@@ -87,7 +94,7 @@ pub fn write_kept(
         if at == 0 {
             continue;
         }
-        let q = write_set(sort, src, at, t, maps, area, p);
+        let q = write_set(sort, src, at, told, t, maps, area, p);
         if area.len() < q {
             return Sets { count: 0, end: q };
         }

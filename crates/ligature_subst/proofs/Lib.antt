@@ -1,2 +1,1 @@
 pub mod Ligatures
-pub mod Sets

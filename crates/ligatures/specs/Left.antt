@@ -17,6 +17,10 @@ use Rattle.numbers.specs.Leaves.{Leaves, joined, leaves-said}
 use Rattle.member_sets.specs.Sets.{setMost}
 use Rattle.member_sets.specs.Sound.{inside-is}
 
+-- the words of what is left of the ligature at a place
+abbrev pub ligatureLeft : List (ℕ × ℕ) → List ℕ → ℕ → Option (List ℕ)
+ligatureLeft g s at = block ligatureWords (cutLigature g (ligature s at))
+
 -- how many bytes the ligature at `at` takes in the source: its glyph, its count, its components after the first
 unfoldable pub ligatureSize : List ℕ → ℕ → ℕ
 ligatureSize s at = 4 + 2 * (word s (at + 2) - 1)

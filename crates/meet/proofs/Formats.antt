@@ -19,7 +19,7 @@ use Rattle.meet.specs.Met.{met, Met, Meets, met-same, met-few}
 use Rattle.meet.specs.Walks.{MeetsList, MeetsRanges}
 
 -- what lies inside
-inside-fits : (s : List ℕ) (at n : ℕ) → inside s at n ≡ true → at + n ≤ length s
+pub inside-fits : (s : List ℕ) (at n : ℕ) → inside s at n ≡ true → at + n ≤ length s
 unfolding inside
 inside-fits s at n h = leb-true (at + n) (length s) h
 

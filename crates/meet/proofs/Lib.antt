@@ -2,3 +2,4 @@ pub mod Entries
 pub mod Lists
 pub mod Ranges
 pub mod Formats
+pub mod Answered

@@ -9,8 +9,10 @@ ghost use lib.ListN.{length};
 ghost use Rattle.meaning.specs.Words.{words, triples};
 ghost use Rattle.meaning.specs.Parts.{rangeGlyphs, coverage};
 ghost use Rattle.meaning.specs.Maps.{mapEntries};
-ghost use Rattle.meaning.specs.Words.{find, keys, ascends};
-ghost use Rattle.fold.specs.Cells.{folded};
+ghost use Rattle.meaning.specs.Words.{find, keys, ascends, isSome};
+ghost use Rattle.meaning.specs.Cut.{unlessEmpty, newCoverage};
+ghost use Rattle.meet.specs.Answered.{answered, SeeksRanges, Seeks};
+ghost use Rattle.fold.specs.Cells.{folded, Inside};
 ghost use Rattle.meet.specs.Met.{Met, Meets};
 ghost use Rattle.meet.specs.Walks.{MeetsList, MeetsRanges, MeetsRange, InRange, Reached};
 
@@ -124,4 +126,54 @@ pub fn meet(src: &[u8], at: usize, glyphs: &[u8], m: Map, t: &mut [u32], to: usi
         return meet_list(src, at + 4, n, m, t, to);
     }
     meet_ranges(src, at + 4, n, glyphs, t, to)
+}
+
+// Whether the map has one of the `n` listed glyphs from `at` on. The first that it has settles it.
+fn meets_list(src: &[u8], at: usize, n: usize, m: Map, t: &[u32]) -> bool
+    requires { ⌜ (at + 2 * n ≤ length (now src)) × Inside (now t) m ⌝ }
+    ensures { λ r. ⌜ r ≡ answered (folded (now (t .entry)) m) (words (now (src .entry)) at n) ⌝ }
+{
+    let mut i = 0;
+    while i < n {
+        let glyph = word_inside(src, at + 2 * i);
+        if entry(t, m, glyph) / 65536 == glyph {
+            return true;
+        }
+        i += 1;
+    }
+    false
+}
+
+// Whether the map has a glyph of the `n` ranges from `at` on. The first range in which an entry of the map lies settles it.
+fn meets_ranges(src: &[u8], at: usize, n: usize, glyphs: &[u8]) -> bool
+    requires { ⌜ SeeksRanges (now src) at n (now glyphs) ⌝ }
+    ensures { λ r. ⌜ r ≡ answered (find (mapEntries (now (glyphs .entry)))) (rangeGlyphs (triples (now (src .entry)) at n)) ⌝ }
+{
+    let mut e = 0;
+    let mut i = 0;
+    while i < n {
+        let first = word_inside(src, at + 6 * i);
+        let last = word_inside(src, at + 6 * i + 2);
+        e = reach(glyphs, e, first);
+        if glyphs.len() / 4 <= e {
+            return false;
+        }
+        if word_inside(glyphs, 4 * e) <= last {
+            return true;
+        }
+        i += 1;
+    }
+    false
+}
+
+// Whether a glyph of the coverage at `at` is retained. `m` holds the glyph map.
+pub fn meets(src: &[u8], at: usize, glyphs: &[u8], m: Map, t: &[u32]) -> bool
+    requires { ⌜ Seeks (now src) at (now glyphs) m (now t) ⌝ }
+    ensures { λ r. ⌜ r ≡ isSome (unlessEmpty (newCoverage (mapEntries (now (glyphs .entry))) (coverage (now (src .entry)) at))) ⌝ }
+{
+    let n = word_inside(src, at + 2);
+    if word_inside(src, at) == 1 {
+        return meets_list(src, at + 4, n, m, t);
+    }
+    meets_ranges(src, at + 4, n, glyphs)
 }

@@ -1,2 +1,3 @@
 pub mod Sets
 pub mod Sound
+pub mod Dead

@@ -1,7 +1,8 @@
 // Sets whose members are written one after the other, behind a place for the count and for each offset of the source: what is left is put together.
 use area::close_up;
 use area::put;
-ghost use Prim.Native.Nat.{_+_, _*_, _≤_};
+use wire::word_at;
+ghost use Prim.Native.Nat.{_+_, _*_, _≤_, _<_};
 ghost use lib.ListN.{length};
 ghost use Rattle.member_sets.specs.Sets.{ClosedSet};
 
@@ -15,4 +16,25 @@ pub fn close_set(area: &mut [u8], pos: usize, k: usize, first: usize, end: usize
     }
     let at = put(area, pos, k);
     close_up(area, at, k, first, end)
+}
+
+// Whether the `n` sets, whose offsets stand from `slots` on, have more than one member for each eight bytes of a source of 1,024 bytes or more. Then they share members, and it pays to remember which of these go.
+pub fn crowded(src: &[u8], slots: usize, n: usize) -> bool
+    requires { ⌜ (slots < 65536) × (n < 65536) ⌝ }
+{
+    if src.len() < 1024 {
+        return false;
+    }
+    let most = src.len() / 8;
+    let mut members = 0;
+    let mut i = 0;
+    while i < n {
+        let at = word_at(src, slots + 2 * i);
+        members += word_at(src, at);
+        if most < members {
+            return true;
+        }
+        i += 1;
+    }
+    false
 }

@@ -1,6 +1,2 @@
-pub mod Fields
 pub mod Checked
-pub mod Walk
-pub mod Uses
 pub mod Sizes
-pub mod Writes

@@ -161,7 +161,7 @@ pairs-left g f1 f2 n1 n2 s at =
 
 -- The places lie inside a record.
 
-place-inside : (start f k size : ℕ) → Below f k → 2 ≤ size → start + 2 * fieldCount f ≤ size → fieldPlace start f k + 2 ≤ size
+pub place-inside : (start f k size : ℕ) → Below f k → 2 ≤ size → start + 2 * fieldCount f ≤ size → fieldPlace start f k + 2 ≤ size
 unfolding fieldPlace
 place-inside start f k size h t l = step (eqb (bit f k) 1) refl
   where

@@ -21,6 +21,15 @@ ghost use Rattle.pair_sets.specs.Formats.{fields, fieldPlace, keptPlaces
 ghost use Rattle.pair_sets.specs.Puts.{Puts};
 ghost use Rattle.pair_sets.specs.Pairs.{valueAt, fieldUsed, Places, pairsLeft, pairsMost};
 
+// The value formats of a pair table, those of the source and the new ones, and how long a pair record of the source is.
+pub struct Formats {
+    pub f1: usize,
+    pub f2: usize,
+    pub n1: usize,
+    pub n2: usize,
+    pub size: usize,
+}
+
 // The value that stands `place` bytes into the pair record at `p`; the place 0 is that of a field that the record has not, which reads as 0.
 fn value_at(src: &[u8], p: usize, place: usize) -> usize
     requires { ⌜ p + place + 2 ≤ length (now src) ⌝ }

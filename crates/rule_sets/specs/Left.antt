@@ -35,6 +35,10 @@ pub record AllInside (t : List ℕ) (m : Maps) : Type 0 where
 abbrev pub mapsIn : List ℕ → Maps → RuleMaps
 mapsIn t m = record { back = entriesIn t (m .back); input = entriesIn t (m .input); ahead = entriesIn t (m .ahead); lookups = entriesIn t (m .lookups) }
 
+-- the words of what is left of the rule at a place
+abbrev pub ruleLeft : Bool → RuleMaps → List ℕ → ℕ → Option (List ℕ)
+ruleLeft chained m s at = block (ruleWords chained) (cutRule chained m (rule chained s at))
+
 -- a count, and as many numbers, or one less, that stand at `at`: the count and the new numbers, if each has one
 abbrev pub counted : List (ℕ × ℕ) → List ℕ → ℕ → ℕ → Option (List ℕ)
 counted g s at n = joined (some (word s at ∷ [])) (mapAll (find g) (words s (at + 2) n))

@@ -10,6 +10,8 @@ use numbers::renumber;
 use numbers::write_counted;
 use numbers::write_counted_records;
 use numbers::write_records;
+use wire::byte;
+use wire::put_byte;
 use wire::word_inside;
 ghost use mathlib.Core.Path.{_≡_};
 ghost use mathlib.Core.Bool.{true, false};
@@ -23,7 +25,8 @@ ghost use Rattle.meaning.specs.Layout.{block, ruleWords, setWords};
 ghost use Rattle.meaning.specs.Subset.{limit};
 ghost use Rattle.numbers.specs.Leaves.{Leaves};
 ghost use Rattle.member_sets.specs.Sets.{setMost};
-ghost use Rattle.rule_sets.specs.Left.{AllInside, mapsIn, ruleSize, aheadOn, aheadSize, inputOn, inputSize};
+ghost use Rattle.member_sets.specs.Dead.{Dead};
+ghost use Rattle.rule_sets.specs.Left.{AllInside, mapsIn, ruleLeft, ruleSize, aheadOn, aheadSize, inputOn, inputSize};
 
 // The maps that a rule's numbers and the lookups of its records go through.
 pub struct Maps {
@@ -117,18 +120,43 @@ fn write_rule(
     write_plain(src, at, t, maps, area, pos)
 }
 
-// What is left of the set of rules at `at`, from `pos` on: its count, an offset for each rule that is left, and these rules; nothing if none is left.
+// The same, where a rule whose place has a mark in `dead` is known to go. One that is found to go gets a mark, if there is room for it.
+fn write_once(
+    chained: bool,
+    src: &[u8],
+    at: usize,
+    t: &[u32],
+    maps: Maps,
+    dead: &mut [u8],
+    area: &mut [u8],
+    pos: usize,
+) -> usize
+    requires { ⌜ (ruleFault chained (now src) at ≡ none) × AllInside (now t) maps × (0 < pos) × (pos ≤ length (now area)) × Dead (ruleLeft chained (mapsIn (now t) maps) (now src)) (now dead) ⌝ }
+    ensures { λ r. ⌜ Leaves (now (area .entry)) pos (ruleLeft chained (mapsIn (now (t .entry)) maps) (now (src .entry)) at) (ruleSize chained (now (src .entry)) at) (now (area .exit)) r × Dead (ruleLeft chained (mapsIn (now (t .entry)) maps) (now (src .entry))) (now (dead .exit)) ⌝ }
+{
+    if byte(dead, at) != 0 {
+        return 0;
+    }
+    let q = write_rule(chained, src, at, t, maps, area, pos);
+    if q == 0 {
+        put_byte(dead, at, 1);
+    }
+    q
+}
+
+// What is left of the set of rules at `at`, from `pos` on: its count, an offset for each rule that is left, and these rules; nothing if none is left. `dead` has marks at the places of rules that are known to go.
 pub fn write_rules(
     chained: bool,
     src: &[u8],
     at: usize,
     t: &[u32],
     maps: Maps,
+    dead: &mut [u8],
     area: &mut [u8],
     pos: usize,
 ) -> usize
-    requires { ⌜ (setFault (ruleFault chained (now src)) (now src) at ≡ none) × (length (now src) ≤ limit) × AllInside (now t) maps × (pos ≤ length (now area)) ⌝ }
-    ensures { λ r. ⌜ Leaves (now (area .entry)) pos (block (setWords (ruleWords chained)) (cutSet chained (mapsIn (now (t .entry)) maps) (ruleSet chained (now (src .entry)) at))) (setMost (ruleWords chained) (cutSet chained (mapsIn (now (t .entry)) maps) (ruleSet chained (now (src .entry)) at)) (now (src .entry))) (now (area .exit)) r ⌝ }
+    requires { ⌜ (setFault (ruleFault chained (now src)) (now src) at ≡ none) × (length (now src) ≤ limit) × AllInside (now t) maps × (pos ≤ length (now area)) × Dead (ruleLeft chained (mapsIn (now t) maps) (now src)) (now dead) ⌝ }
+    ensures { λ r. ⌜ Leaves (now (area .entry)) pos (block (setWords (ruleWords chained)) (cutSet chained (mapsIn (now (t .entry)) maps) (ruleSet chained (now (src .entry)) at))) (setMost (ruleWords chained) (cutSet chained (mapsIn (now (t .entry)) maps) (ruleSet chained (now (src .entry)) at)) (now (src .entry))) (now (area .exit)) r × Dead (ruleLeft chained (mapsIn (now (t .entry)) maps) (now (src .entry))) (now (dead .exit)) ⌝ }
 {
     let n = word_inside(src, at);
     let first = pos + 2 + 2 * n;
@@ -144,7 +172,7 @@ pub fn write_rules(
         if off == 0 {
             continue;
         }
-        let q = write_rule(chained, src, at + off, t, maps, area, p);
+        let q = write_once(chained, src, at + off, t, maps, dead, area, p);
         if area.len() < q {
             return q;
         }

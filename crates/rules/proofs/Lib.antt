@@ -1,4 +1,2 @@
-pub mod Records
 pub mod Parts
 pub mod Within
-pub mod Rules

@@ -85,8 +85,8 @@ module _ (kind : ℕ) (s g l out : List ℕ) (a : Answer) {after : List ℕ} (e 
   length-most = rw (← e) at (subset-short kind s g l out bytes .most)
 
   -- what such an answer is as one number
-  pub code-says : {n k : ℕ} → n ≡ numberOf a → k ≡ lengthOf a → decoded (n * 0x1_0000_0000 + k) after ≡ subset kind s g l out
-  code-says {n} {k} f h =
-      let q : (n * 0x1_0000_0000 + k) / 0x1_0000_0000 ≡ numberOf a = omega (arith, length-most) in
-      let r : (n * 0x1_0000_0000 + k) % 0x1_0000_0000 ≡ lengthOf a = omega (arith, length-most) in
+  pub code-says : {n : ℕ} → n ≡ numberOf a * 0x1_0000_0000 + lengthOf a → decoded n after ≡ subset kind s g l out
+  code-says {n} f =
+      let q : n / 0x1_0000_0000 ≡ numberOf a = omega (arith, length-most) in
+      let r : n % 0x1_0000_0000 ≡ lengthOf a = omega (arith, length-most) in
       rw (q, r) e

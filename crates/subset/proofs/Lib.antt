@@ -1,4 +1,3 @@
-pub mod Judged
+pub mod Tested
 pub mod Near
-pub mod Scratch
 pub mod Coded

@@ -1,3 +1,2 @@
 pub mod Answers
-pub mod Tables
-pub mod Asked
+pub mod Refusals

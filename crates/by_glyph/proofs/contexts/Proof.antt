@@ -1,71 +1,36 @@
-use mathlib.Core.Path.{refl, sym, _∙_}
 use native.Mathlib.Omega.{arith}
 use borrow.Author.Needs.{needs}
-use Rattle.kept_sets.specs.declared.Sort.the-variants.{Rules}
-use Rattle.by_glyph.specs.Asked.{rules-null, rules-cut}
-use Rattle.by_glyph.specs.Whole.{answered-as}
-use Rattle.by_glyph.proofs.Joining.{written-none}
-use Rattle.by_glyph.proofs.Asking.{header-inside, header-sound, no-room, glyphs-stand, two-laid}
+use Rattle.meaning.specs.Maps.{mapEntries}
+use Rattle.meaning.specs.Cut.{cut}
+use Rattle.meaning.specs.Subset.{written}
+use Rattle.by_glyph.specs.Whole.{front-length, front-tries, glyphContext}
 use Rattle.by_glyph.proofs.contexts.Statement.{statement}
 use Rattle.by_glyph.proofs.contexts.Tie as tie
 
-word-inside-requires : tie.Need-word-inside-requires
-word-inside-requires c κs = omega (arith, header-inside _ 4 _ _ (c .before .before .before .before .before .before .pre .0))
+slice-aggregate-cut-contexts : tie.Need-slice-aggregate-cut-contexts
+slice-aggregate-cut-contexts c = front-length (c .before .before .before .before .before .before .before .before .before .args .area .now) (c .before .before .least .ensures)
+
+cut-contexts-requires : tie.Need-cut-contexts-requires
+cut-contexts-requires c κs =
+    let a = c .before .before .before .before .before .before .before .before .before .before in
+    let l = c .before .before .before .least .ensures in
+    (a .pre .0, a .pre .1, a .pre .2, a .pre .3, omega (arith, front-length (a .args .area .now) l, l .second))
 
 returns : tie.Need-returns
-returns c = record { answer = written-none _ (rules-null _ _ _ _ (sym (c .before .word-inside .ensures .0) ∙ c .if1 .taken)) }
-
-returns-2 : tie.Need-returns-2
-returns-2 c = record { answer = (omega (arith, no-room (c .before .before .before .lay .ensures) (c .before .before .before .before .before .before .before .before .before .before .before .before .before .pre .2) (c .if2 .taken)), refl) }
-
-add-lay : tie.Need-add-lay
-add-lay c = omega (arith, c .before .before .before .before .lay .ensures .few (c .before .before .before .before .before .before .before .before .before .before .before .before .before .before .pre .2))
-
-lay-requires-2 : tie.Need-lay-requires-2
-lay-requires-2 c κs = omega (arith, c .before .before .before .before .lay .ensures .few (c .before .before .before .before .before .before .before .before .before .before .before .before .before .before .pre .2))
-
-returns-3 : tie.Need-returns-3
-returns-3 c =
-    let a = c .before .before .before .before .before .before .before .before .before .before .before .before .before .before .before .before .before .before in
-    let l = c .before .before .before .before .before .before .before .before .lay .ensures in
-    record { answer = (omega (arith, no-room (c .before .before .before .lay2 .ensures) (a .pre .3) (c .if3 .taken), l .kept .size, l .few (a .pre .2)), refl) }
-
-add-cut-sets : tie.Need-add-cut-sets
-add-cut-sets c = omega (arith, c .before .before .before .before .before .before .before .before .before .lay .ensures .few (c .before .before .before .before .before .before .before .before .before .before .before .before .before .before .before .before .before .before .before .pre .2), c .before .before .before .before .lay2 .ensures .few (c .before .before .before .before .before .before .before .before .before .before .before .before .before .before .before .before .before .before .before .pre .3))
-
-add-cut-sets-2 : tie.Need-add-cut-sets-2
-add-cut-sets-2 c = omega (arith, c .before .before .before .before .before .before .before .before .before .lay .ensures .few (c .before .before .before .before .before .before .before .before .before .before .before .before .before .before .before .before .before .before .before .pre .2), c .before .before .before .before .lay2 .ensures .few (c .before .before .before .before .before .before .before .before .before .before .before .before .before .before .before .before .before .before .before .pre .3))
-
-cut-sets-requires : tie.Need-cut-sets-requires
-cut-sets-requires c κs =
-    let a = c .before .before .before .before .before .before .before .before .before .before .before .before .before .before .before .before .before .before .before .before .before in
-    (header-sound (Rules (a .args .chained)) _ (a .pre .0) (a .pre .1), two-laid (c .before .before .before .before .before .before .before .before .before .before .before .lay .ensures) (c .before .before .before .before .before .before .before .before .if2 .left) (a .pre .2) (c .before .before .before .before .before .before .lay2 .ensures) (c .before .before .before .if3 .left) (a .pre .3), a .pre .4, λ z. c .before .before .before .before .before .before .before .before .before .before .before .before .before .if1 .left (c .before .before .before .before .before .before .before .before .before .before .before .before .before .before .word-inside .ensures .0 ∙ z))
-
-returns-4 : tie.Need-returns-4
-returns-4 c =
-    let a = c .before .before .before .before .before .before .before .before .before .before .before .before .before .before .before .before .before .before .before .before .before .before .before .before .before .before .before .before in
-    let l = c .before .before .before .before .before .before .before .before .before .before .before .before .before .before .before .before .before .before .lay .ensures in
-    let n = c .before .before .before .before .before .before .before .before .before .before .before .before .before .lay2 .ensures in
-    let g = glyphs-stand l (c .before .before .before .before .before .before .before .before .before .before .before .before .before .before .before .if2 .left) (a .pre .2) n in
-    answered-as (λ h. omega (arith, h, l .kept .size, n .kept .size, l .few (a .pre .2), n .few (a .pre .3))) _ (rules-cut _ _ _ g _ g g (n .holds (c .before .before .before .before .before .before .before .before .before .before .if3 .left)) (a .args .chained) (λ z. c .before .before .before .before .before .before .before .before .before .before .before .before .before .before .before .before .before .before .before .before .if1 .left (c .before .before .before .before .before .before .before .before .before .before .before .before .before .before .before .before .before .before .before .before .before .word-inside .ensures .0 ∙ z)) (header-sound (Rules (a .args .chained)) _ (a .pre .0) (a .pre .1))) (c .before .before .before .before .before .before .cut-sets .ensures)
+returns c =
+    let r = c .before .before .before .before .before .before in
+    let a = c .before .before .before .before .before .before .before .before .before .before .before .before .before .before .before .before .before .args in
+    front-tries (a .area .now) (c .before .before .before .before .before .before .before .before .before .before .least .ensures) _ (r .cut-contexts .result) (a .out .now) _ (written (a .out .now) (cut (mapEntries (a .glyphs .now)) (mapEntries (a .lookups .now)) (glyphContext (a .chained) (a .src .now)))) (r .cut-contexts .ensures)
 
 pub contexts-spec : {M : Type 1} → statement M
 contexts-spec =
     tie.close
     (tie.spec
-    word-inside-requires
-    returns
     (λ c κs. search needs)
     (λ c. search needs)
-    returns-2
-    add-lay
-    lay-requires-2
-    (λ c. search needs)
-    returns-3
-    add-cut-sets
-    add-cut-sets-2
-    cut-sets-requires
+    slice-aggregate-cut-contexts
+    cut-contexts-requires
     (λ c. search needs)
     (λ c. search needs)
     (λ c. search needs)
-    returns-4)
+    returns)

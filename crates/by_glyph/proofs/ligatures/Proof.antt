@@ -1,49 +1,37 @@
-use mathlib.Core.Path.{refl, sym, _∙_}
 use native.Mathlib.Omega.{arith}
 use borrow.Author.Needs.{needs}
-use Rattle.kept_sets.specs.declared.Sort.the-variants.{Ligatures}
-use Rattle.by_glyph.specs.Asked.{ligatures-null, ligatures-cut}
-use Rattle.by_glyph.specs.Whole.{answered-as}
-use Rattle.by_glyph.proofs.Joining.{written-none}
-use Rattle.by_glyph.proofs.Asking.{header-inside, header-sound, no-room, one-laid}
+use Rattle.meaning.specs.Maps.{mapEntries}
+use Rattle.meaning.specs.Cut.{cut}
+use Rattle.meaning.specs.Subset.{written}
+use mathlib.Core.List.{[]}
+use Rattle.by_glyph.specs.Whole.{front-length, front-tries, ligatureTable}
 use Rattle.by_glyph.proofs.ligatures.Statement.{statement}
 use Rattle.by_glyph.proofs.ligatures.Tie as tie
 
-word-inside-requires : tie.Need-word-inside-requires
-word-inside-requires c κs = omega (arith, header-inside _ 4 _ _ (c .before .before .before .before .before .pre .0))
+slice-aggregate-cut-ligatures : tie.Need-slice-aggregate-cut-ligatures
+slice-aggregate-cut-ligatures c = front-length (c .before .before .before .before .before .before .before .before .args .area .now) (c .before .before .least .ensures)
+
+cut-ligatures-requires : tie.Need-cut-ligatures-requires
+cut-ligatures-requires c κs =
+    let a = c .before .before .before .before .before .before .before .before .before in
+    let l = c .before .before .before .least .ensures in
+    (a .pre .0, a .pre .1, a .pre .2, omega (arith, front-length (a .args .area .now) l, l .second))
 
 returns : tie.Need-returns
-returns c = record { answer = written-none _ (ligatures-null _ _ _ (sym (c .before .word-inside .ensures .0) ∙ c .if1 .taken)) }
-
-returns-2 : tie.Need-returns-2
-returns-2 c = record { answer = (omega (arith, no-room (c .before .before .before .lay .ensures) (c .before .before .before .before .before .before .before .before .before .before .before .before .pre .2) (c .if2 .taken)), refl) }
-
-add-cut-sets : tie.Need-add-cut-sets
-add-cut-sets c = omega (arith, c .before .before .before .before .lay .ensures .few (c .before .before .before .before .before .before .before .before .before .before .before .before .before .pre .2))
-
-cut-sets-requires : tie.Need-cut-sets-requires
-cut-sets-requires c κs =
-    let a = c .before .before .before .before .before .before .before .before .before .before .before .before .before .before .before in
-    (header-sound Ligatures _ (a .pre .0) (a .pre .1), one-laid (c .before .before .before .before .before .before .lay .ensures) (c .before .before .before .if2 .left) (a .pre .2), a .pre .3, λ z. c .before .before .before .before .before .before .before .before .if1 .left (c .before .before .before .before .before .before .before .before .before .word-inside .ensures .0 ∙ z))
-
-returns-3 : tie.Need-returns-3
-returns-3 c =
-    let a = c .before .before .before .before .before .before .before .before .before .before .before .before .before .before .before .before .before .before .before .before .before .before in
-    let l = c .before .before .before .before .before .before .before .before .before .before .before .before .before .lay .ensures in
-    answered-as (λ h. omega (arith, h, l .kept .size, l .few (a .pre .2))) _ (ligatures-cut _ _ _ (l .holds (c .before .before .before .before .before .before .before .before .before .before .if2 .left)) (λ z. c .before .before .before .before .before .before .before .before .before .before .before .before .before .before .before .if1 .left (c .before .before .before .before .before .before .before .before .before .before .before .before .before .before .before .before .word-inside .ensures .0 ∙ z)) (header-sound Ligatures _ (a .pre .0) (a .pre .1))) (c .before .before .before .before .before .before .cut-sets .ensures)
+returns c =
+    let r = c .before .before .before .before .before .before in
+    let a = c .before .before .before .before .before .before .before .before .before .before .before .before .before .before .before .before .args in
+    front-tries (a .area .now) (c .before .before .before .before .before .before .before .before .before .before .least .ensures) _ (r .cut-ligatures .result) (a .out .now) _ (written (a .out .now) (cut (mapEntries (a .glyphs .now)) [] (ligatureTable (a .src .now)))) (r .cut-ligatures .ensures)
 
 pub ligatures-spec : {M : Type 1} → statement M
 ligatures-spec =
     tie.close
     (tie.spec
-    word-inside-requires
-    returns
     (λ c κs. search needs)
     (λ c. search needs)
-    returns-2
-    add-cut-sets
-    cut-sets-requires
+    slice-aggregate-cut-ligatures
+    cut-ligatures-requires
     (λ c. search needs)
     (λ c. search needs)
     (λ c. search needs)
-    returns-3)
+    returns)

@@ -1,52 +1,11 @@
+-- `checks::check_through` meets its contract: no part is marked at first. Assumes nothing.
 use borrow.Author.Needs.{needs}
-use Prim.Native.Nat.{_-_}
-use Rattle.wire.specs.Reached.{Lowest, lowest-all, lowest-null, lowest-end}
-use Rattle.checks.specs.Parts.{faultOfPart}
-use Rattle.checks.proofs.Laws.{lowest-reached}
+use Rattle.checks.proofs.Seen.{none-seen}
 use Rattle.checks.proofs.check_through.Statement.{statement}
 use Rattle.checks.proofs.check_through.Tie as tie
 
-abbrev Inv-loop : tie.InvT-loop
-Inv-loop part src slot n low₀ i₀ low i = Lowest (faultOfPart part src) src 0 slot n low i
-
-abbrev μ-loop : tie.MeasureT-loop
-μ-loop part src slot n low₀ i₀ low i = n - i
-
-loop-holds : tie.Need-loop-holds Inv-loop μ-loop
-loop-holds c = lowest-all
-
-loop-again : tie.Need-loop-again Inv-loop μ-loop
-loop-again c =
-    let w = c .before in
-    let t = w .before in
-    lowest-null (t .before .loop .inv) (t .loop-test .taken) (w .word-at .ensures .0) (c .if1 .taken)
-
-loop-again-2 : tie.Need-loop-again-2 Inv-loop μ-loop
-loop-again-2 c =
-    let f = c .before in
-    let z = f .before in
-    let w = z .before in
-    let t = w .before in
-    lowest-reached (t .before .loop .inv) (t .loop-test .taken) (w .word-at .ensures .0) (z .if1 .left) (f .check-part .ensures) (c .lowest .ensures)
-
-returns : tie.Need-returns Inv-loop μ-loop
-returns c = lowest-end (c .before .loop .inv) (c .loop-test .left)
+check-each-requires : tie.Need-check-each-requires
+check-each-requires c κs = (c .before .before .before .pre, none-seen 1)
 
 pub check-through-spec : {M : Type 1} → statement M
-check-through-spec =
-    tie.close
-    (tie.spec
-    Inv-loop
-    μ-loop
-    loop-holds
-    (λ c. search needs)
-    (λ c. search needs)
-    (λ c κs. search needs)
-    (λ c. search needs)
-    (λ c. search needs)
-    loop-again
-    (λ c κs. search needs)
-    (λ c κs. search needs)
-    (λ c. search needs)
-    loop-again-2
-    returns)
+check-through-spec = tie.close (tie.spec (λ c κs. search needs) (λ c. search needs) (λ c. search needs) check-each-requires (λ c. search needs))

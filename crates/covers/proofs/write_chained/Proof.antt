@@ -1,5 +1,5 @@
 use Rattle.fold.specs.Cells.{kept-more}
-use Rattle.covers.proofs.Context.{back-asks, input-asks, ahead-asks, next-same, back-same, back-gone, back-least, input-same, input-gone, input-least, ahead-settles}
+use Rattle.covers.proofs.Context.{counted-written, back-asks, input-asks, ahead-asks, next-same, back-same, back-gone, back-least, input-same, input-gone, input-least, ahead-settles}
 use mathlib.Core.Path.{refl}
 use native.Mathlib.Omega.{arith}
 use borrow.Author.Needs.{needs}
@@ -10,7 +10,7 @@ sub-write-counted-records : tie.Need-sub-write-counted-records
 sub-write-counted-records c = omega (arith, c .before .before .before .before .before .before .pre .parts .chain refl .records)
 
 write-counted-records-requires : tie.Need-write-counted-records-requires
-write-counted-records-requires c κs = (c .before .before .before .before .before .before .pre .parts .records, omega (arith, c .before .before .before .before .before .before .pre .parts .chain refl .records, c .before .before .before .before .before .before .pre .header), c .before .before .before .before .before .before .pre .lookups)
+write-counted-records-requires c κs = (c .before .before .before .before .before .before .pre .parts .records, c .before .before .before .before .before .before .pre .lookups, omega (arith, c .before .before .before .before .before .before .pre .header))
 
 put-requires : tie.Need-put-requires
 put-requires c κs = omega (arith, c .before .before .before .before .before .before .before .before .before .before .pre .parts .chain refl .records, c .before .before .before .write-counted-records .ensures .same, c .before .before .before .before .before .before .before .before .before .before .pre .header)
@@ -19,14 +19,14 @@ write-counted-row-requires : tie.Need-write-counted-row-requires
 write-counted-row-requires c κs =
     let u = c .before .before .before .before in
     let w = u .before .before .before .before in
-    back-asks (w .before .before .before .before .before .before .before .pre) (next-same (w .before .before .before .before .before .before .before .pre) (w .write-counted-records .ensures) (u .put .ensures .1)) (omega (arith, w .write-counted-records .ensures .least))
+    back-asks (w .before .before .before .before .before .before .before .pre) (next-same (w .before .before .before .before .before .before .before .pre) (counted-written (w .before .before .before .before .before .before .before .pre) (w .write-counted-records .ensures)) (u .put .ensures .1)) (omega (arith, counted-written (w .before .before .before .before .before .before .before .pre) (w .write-counted-records .ensures) .place))
 
 returns : tie.Need-returns
 returns c =
     let d = c .before .before .before .before .before in
     let u = d .before .before .before .before .before in
     let w = u .before .before .before .before in
-    back-gone (w .before .before .before .before .before .before .before .pre) (w .write-counted-records .ensures) (u .put .ensures .1) (d .write-counted-row .ensures) (c .if1 .taken)
+    back-gone (w .before .before .before .before .before .before .before .pre) (counted-written (w .before .before .before .before .before .before .before .pre) (w .write-counted-records .ensures)) (u .put .ensures .1) (d .write-counted-row .ensures) (c .if1 .taken)
 
 write-counted-row-requires-2 : tie.Need-write-counted-row-requires-2
 write-counted-row-requires-2 c κs =
@@ -34,8 +34,8 @@ write-counted-row-requires-2 c κs =
     let d = i .before .before .before .before .before in
     let u = d .before .before .before .before .before in
     let w = u .before .before .before .before in
-    input-asks (w .before .before .before .before .before .before .before .pre) (d .write-counted-row .ensures .cells) (back-same (w .before .before .before .before .before .before .before .pre) (w .write-counted-records .ensures) (u .put .ensures .1) (d .write-counted-row .ensures))
-    (back-least (w .before .before .before .before .before .before .before .pre) (w .write-counted-records .ensures) (u .put .ensures .1) (d .write-counted-row .ensures) (i .if1 .left))
+    input-asks (w .before .before .before .before .before .before .before .pre) (d .write-counted-row .ensures .cells) (back-same (w .before .before .before .before .before .before .before .pre) (counted-written (w .before .before .before .before .before .before .before .pre) (w .write-counted-records .ensures)) (u .put .ensures .1) (d .write-counted-row .ensures))
+    (back-least (w .before .before .before .before .before .before .before .pre) (counted-written (w .before .before .before .before .before .before .before .pre) (w .write-counted-records .ensures)) (u .put .ensures .1) (d .write-counted-row .ensures) (i .if1 .left))
 
 returns-2 : tie.Need-returns-2
 returns-2 c =
@@ -44,7 +44,7 @@ returns-2 c =
     let d = i .before .before .before .before .before in
     let u = d .before .before .before .before .before in
     let w = u .before .before .before .before in
-    input-gone (w .before .before .before .before .before .before .before .pre) (w .write-counted-records .ensures) (u .put .ensures .1) (d .write-counted-row .ensures) (i .if1 .left) (f .write-counted-row2 .ensures) (c .if2 .taken)
+    input-gone (w .before .before .before .before .before .before .before .pre) (counted-written (w .before .before .before .before .before .before .before .pre) (w .write-counted-records .ensures)) (u .put .ensures .1) (d .write-counted-row .ensures) (i .if1 .left) (f .write-counted-row2 .ensures) (c .if2 .taken)
 
 write-counted-row-requires-3 : tie.Need-write-counted-row-requires-3
 write-counted-row-requires-3 c κs =
@@ -55,8 +55,8 @@ write-counted-row-requires-3 c κs =
     let u = d .before .before .before .before .before in
     let w = u .before .before .before .before in
     ahead-asks (w .before .before .before .before .before .before .before .pre) (kept-more (d .write-counted-row .ensures .cells) (f .write-counted-row2 .ensures .cells))
-    (input-same (w .before .before .before .before .before .before .before .pre) (w .write-counted-records .ensures) (u .put .ensures .1) (d .write-counted-row .ensures) (i .if1 .left) (f .write-counted-row2 .ensures))
-    (input-least (w .before .before .before .before .before .before .before .pre) (w .write-counted-records .ensures) (u .put .ensures .1) (d .write-counted-row .ensures) (i .if1 .left) (f .write-counted-row2 .ensures) (j .if2 .left))
+    (input-same (w .before .before .before .before .before .before .before .pre) (counted-written (w .before .before .before .before .before .before .before .pre) (w .write-counted-records .ensures)) (u .put .ensures .1) (d .write-counted-row .ensures) (i .if1 .left) (f .write-counted-row2 .ensures))
+    (input-least (w .before .before .before .before .before .before .before .pre) (counted-written (w .before .before .before .before .before .before .before .pre) (w .write-counted-records .ensures)) (u .put .ensures .1) (d .write-counted-row .ensures) (i .if1 .left) (f .write-counted-row2 .ensures) (j .if2 .left))
 
 returns-3 : tie.Need-returns-3
 returns-3 c =
@@ -66,7 +66,7 @@ returns-3 c =
     let d = i .before .before .before .before .before in
     let u = d .before .before .before .before .before in
     let w = u .before .before .before .before in
-    ahead-settles (w .before .before .before .before .before .before .before .pre) (w .write-counted-records .ensures) (u .put .ensures .1) (d .write-counted-row .ensures) (i .if1 .left) (f .write-counted-row2 .ensures) (j .before .before .before .if2 .left) (j .write-counted-row3 .ensures)
+    ahead-settles (w .before .before .before .before .before .before .before .pre) (counted-written (w .before .before .before .before .before .before .before .pre) (w .write-counted-records .ensures)) (u .put .ensures .1) (d .write-counted-row .ensures) (i .if1 .left) (f .write-counted-row2 .ensures) (j .before .before .before .if2 .left) (j .write-counted-row3 .ensures)
 
 pub write-chained-spec : {M : Type 1} → statement M
 write-chained-spec =

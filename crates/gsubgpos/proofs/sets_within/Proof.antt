@@ -1,7 +1,5 @@
 -- `gsubgpos::sets_within` meets its contract: what the loop over sets keeps is `InSets`, and what the loop over rules keeps is `InRules`. Assumes nothing.
 use Prim.Native.Nat.{_-_}
-use mathlib.Core.Path.{_≡_, sym, _∙_}
-use native.Mathlib.Omega.{arith}
 use borrow.Author.Needs.{needs}
 use borrow.Author.Tests.{not-true, not-false}
 use Rattle.gsubgpos.proofs.Within.{InSets, InRules, sets-start, sets-end, rules-start, rules-next, rules-past, sets-next}

@@ -1,138 +1,39 @@
--- `subset::subset` meets its contract: the refusals in their written order, each by one test, and what was laid where none applies. Assumes nothing.
-use mathlib.Core.Path.{_≡_, sym, _∙_}
-use mathlib.Core.Bool.{true}
-use mathlib.Core.Option.{none}
+-- `subset::subset` meets its contract: the answer that refuses the call, or what was laid. Assumes nothing.
 use borrow.Author.Needs.{needs}
-use Rattle.meaning.specs.Maps.{goodGlyphs, goodLookups}
-use Rattle.meaning.specs.Fault.{fault}
-use Rattle.meaning.specs.Subset.{limit, goodKind}
-use Rattle.wire.specs.Reached.{refused, passed}
-use Rattle.wire.specs.Fault.{is-at, is-sound}
-use Rattle.subset.proofs.Judged.{Tested, at-kind, at-glyphs, at-lookups, at-long, at-format, at-malformed, at-device, at-past, at-end}
+use Rattle.subset.proofs.Tested.{is-refused, is-sound, cut-outcome}
 use Rattle.subset.proofs.subset.Statement.{statement}
 use Rattle.subset.proofs.subset.Tie as tie
 
--- what is known past each test
-kind-good : (c : tie.Else1) → goodKind (c .before .before .before .before .before .before .args .kind) ≡ true
-kind-good c = passed (c .before .good-kind .ensures) (c .if1 .left)
-
-glyphs-good : (c : tie.Else2) → goodGlyphs (c .before .before .before .before .before .before .before .before .args .glyphs .now) ≡ true
-glyphs-good c = passed (c .before .good-glyphs .ensures) (c .if2 .left)
-
-lookups-good : (c : tie.Else3) → goodLookups (c .before .before .before .before .before .before .before .before .before .before .args .lookups .now) ≡ true
-lookups-good c = passed (c .before .good-lookups .ensures) (c .if3 .left)
-
-past-tests : (c : tie.Else5) → Tested (c .before .before .before .before .before .before .before .before .before .before .before .before .before .args .kind) (c .before .before .before .before .before .before .before .before .before .before .before .before .before .args .source .now) (c .before .before .before .before .before .before .before .before .before .before .before .before .before .args .glyphs .now) (c .before .before .before .before .before .before .before .before .before .before .before .before .before .args .lookups .now)
-unfolding limit
-past-tests c =
-    let s = c .before .before in
-    let l = s .before in
-    let g = l .before .before in
-    record { good-kind = kind-good (g .before .before); good-glyphs = glyphs-good g; good-lookups = lookups-good l; short = s .if4 .left; format = sym (c .before .other-format .ensures) ∙ c .if5 .left }
-
--- the check found no fault
-no-fault : (c : tie.After-enum-told) → fault (c .before .before .before .before .before .before .before .before .before .before .before .before .before .before .before .before .args .kind) (c .before .before .before .before .before .before .before .before .before .before .before .before .before .before .before .before .args .source .now) ≡ none
-no-fault c =
-    let t = c .before .before in
-    let a = t .before .before .before .before .before .before .before .before .before .before .before .before .before .before .args in
-    is-sound (fault (a .kind) (a .source .now)) (c .enum-told .given .1) (t .check .ensures)
-
 returns : tie.Need-returns
 returns c =
-    let a = c .before .before .before .before .before .before .args in
-    at-kind (a .kind) (a .source .now) (a .glyphs .now) (a .lookups .now) (a .out .now) (refused (c .before .good-kind .ensures) (c .if1 .taken))
+    let t = c .before .before .before in
+    let a = t .before .before .before .before .before .args in
+    is-refused (a .kind) (a .source .now) (a .glyphs .now) (a .lookups .now) (t .refusal .result) (t .refusal .ensures) (c .before .answer .given .1) (a .out .now)
+
+cut-own-requires : tie.Need-cut-own-requires
+cut-own-requires c κs =
+    let e = c .before in
+    let t = e .before .before in
+    let a = t .before .before .before .before .before .args in
+    is-sound (a .kind) (a .source .now) (a .glyphs .now) (a .lookups .now) (t .refusal .result) (t .refusal .ensures) (e .enum-told .given .1) .sound
 
 returns-2 : tie.Need-returns-2
 returns-2 c =
-    let k = c .before .before in
-    let a = k .before .before .before .before .before .before .args in
-    at-glyphs (a .kind) (a .source .now) (a .glyphs .now) (a .lookups .now) (a .out .now) (kind-good k) (refused (c .before .good-glyphs .ensures) (c .if2 .taken))
-
-returns-3 : tie.Need-returns-3
-returns-3 c =
-    let g = c .before .before in
-    let k = g .before .before in
-    let a = k .before .before .before .before .before .before .args in
-    at-lookups (a .kind) (a .source .now) (a .glyphs .now) (a .lookups .now) (a .out .now) (kind-good k) (glyphs-good g) (refused (c .before .good-lookups .ensures) (c .if3 .taken))
-
-returns-4 : tie.Need-returns-4
-unfolding limit
-returns-4 c =
-    let l = c .before in
-    let g = l .before .before in
-    let k = g .before .before in
-    let a = k .before .before .before .before .before .before .args in
-    at-long (a .kind) (a .source .now) (a .glyphs .now) (a .lookups .now) (a .out .now) (kind-good k) (glyphs-good g) (lookups-good l) (c .if4 .taken)
-
-returns-5 : tie.Need-returns-5
-unfolding limit
-returns-5 c =
-    let s = c .before .before in
-    let l = s .before in
-    let g = l .before .before in
-    let k = g .before .before in
-    let a = k .before .before .before .before .before .before .args in
-    at-format (a .kind) (a .source .now) (a .glyphs .now) (a .lookups .now) (a .out .now) (kind-good k) (glyphs-good g) (lookups-good l) (s .if4 .left) (sym (c .before .other-format .ensures) ∙ c .if5 .taken)
-
-returns-6 : tie.Need-returns-6
-returns-6 c =
-    let t = c .before .before .before in
-    let a = t .before .before .before .before .before .before .before .before .before .before .before .before .before .before .args in
-    at-malformed (a .kind) (a .source .now) (a .glyphs .now) (a .lookups .now) (a .out .now) (past-tests (t .before)) (is-at (fault (a .kind) (a .source .now)) (c .before .place .given .1) (t .check .ensures))
-
-returns-7 : tie.Need-returns-7
-returns-7 c =
-    let m = c .before .before in
-    let t = m .before .before in
-    let a = t .before .before .before .before .before .before .before .before .before .before .before .before .before .before .args in
-    at-device (a .kind) (a .source .now) (a .glyphs .now) (a .lookups .now) (a .out .now) (past-tests (t .before)) (no-fault m) (sym (c .before .pair-device .ensures) ∙ c .if6 .taken)
-
-returns-8 : tie.Need-returns-8
-returns-8 c =
-    let d = c .before .before in
-    let m = d .before .before in
-    let t = m .before .before in
-    let a = t .before .before .before .before .before .before .before .before .before .before .before .before .before .before .args in
-    at-past (a .kind) (a .source .now) (a .glyphs .now) (a .lookups .now) (a .out .now) (past-tests (t .before)) (no-fault m) (sym (d .before .pair-device .ensures) ∙ d .if6 .left) (refused (c .before .records-within .ensures) (c .if7 .taken))
-
-cut-into-requires : tie.Need-cut-into-requires
-cut-into-requires c κs =
-    let m = c .before .before .before .before .before in
-    let p = past-tests (m .before .before .before) in
-    record { sound = no-fault m; good-glyphs = p .good-glyphs; good-lookups = p .good-lookups; short = p .short }
-
-returns-9 : tie.Need-returns-9
-returns-9 c =
     let i = c .before .before .before in
-    let w = i .before .before in
-    let d = w .before .before in
-    let m = d .before .before in
-    let t = m .before .before in
-    let a = t .before .before .before .before .before .before .before .before .before .before .before .before .before .before .args in
-    at-end (a .kind) (a .source .now) (a .glyphs .now) (a .lookups .now) (a .out .now) (past-tests (t .before)) (no-fault m) (sym (d .before .pair-device .ensures) ∙ d .if6 .left) (passed (w .before .records-within .ensures) (w .if7 .left)) (i .cut-into .result) (i .cut-into .ensures) (c .answer-for .ensures)
+    let e = i .before .before in
+    let t = e .before .before in
+    let a = t .before .before .before .before .before .args in
+    cut-outcome (is-sound (a .kind) (a .source .now) (a .glyphs .now) (a .lookups .now) (t .refusal .result) (t .refusal .ensures) (e .enum-told .given .1)) (a .out .now) (i .cut-own .result) (i .cut-own .ensures) (c .answer-for .ensures)
 
 pub subset-spec : {M : Type 1} → statement M
 subset-spec =
     tie.close
     (tie.spec
     (λ c κs. search needs)
+    (λ c. search needs)
     returns
-    (λ c κs. search needs)
-    returns-2
-    (λ c κs. search needs)
-    returns-3
-    returns-4
-    (λ c κs. search needs)
-    returns-5
+    (λ c. search needs)
+    cut-own-requires
     (λ c κs. search needs)
     (λ c. search needs)
-    returns-6
-    (λ c. search needs)
-    (λ c κs. search needs)
-    returns-7
-    (λ c κs. search needs)
-    returns-8
-    cut-into-requires
-    (λ c κs. search needs)
-    (λ c. search needs)
-    returns-9)
+    returns-2)

@@ -1,4 +1,0 @@
-pub mod Tails
-pub mod Laid
-pub mod Kept
-pub mod Asked

@@ -1,7 +1,0 @@
-pub mod Parts
-pub mod Sizing
-pub mod Laying
-pub mod Remaining
-pub mod Lengths
-pub mod Writing
-pub mod Laid

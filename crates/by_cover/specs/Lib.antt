@@ -1,3 +1,0 @@
-pub mod Roomy
-pub mod Rows
-pub mod Context

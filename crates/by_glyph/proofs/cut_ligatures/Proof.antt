@@ -1,0 +1,47 @@
+use mathlib.Core.Path.{refl, sym, _∙_}
+use native.Mathlib.Omega.{arith}
+use borrow.Author.Needs.{needs}
+use Rattle.by_glyph.specs.Asked.{ligatures-null, ligatures-cut}
+use Rattle.by_glyph.specs.Whole.{written-none}
+use Rattle.by_glyph.proofs.Asking.{header-inside, ligatures-asked, no-room, one-answered, one-laid}
+use Rattle.by_glyph.proofs.cut_ligatures.Statement.{statement}
+use Rattle.by_glyph.proofs.cut_ligatures.Tie as tie
+
+word-inside-requires : tie.Need-word-inside-requires
+word-inside-requires c κs = omega (arith, header-inside _ 4 _ _ (c .before .before .before .before .before .pre .0))
+
+returns : tie.Need-returns
+returns c = written-none _ (ligatures-null _ _ _ (sym (c .before .word-inside .ensures .0) ∙ c .if1 .taken))
+
+returns-2 : tie.Need-returns-2
+returns-2 c = (omega (arith, no-room (c .before .before .before .lay .ensures) (c .before .before .before .before .before .before .before .before .before .before .before .before .pre .2) (c .if2 .taken)), refl)
+
+add-cut-sets : tie.Need-add-cut-sets
+add-cut-sets c = omega (arith, c .before .before .before .before .lay .ensures .few (c .before .before .before .before .before .before .before .before .before .before .before .before .before .pre .2))
+
+cut-sets-requires : tie.Need-cut-sets-requires
+cut-sets-requires c κs =
+    let a = c .before .before .before .before .before .before .before .before .before .before .before .before .before .before .before in
+    (ligatures-asked _ (a .pre .1) (a .pre .0), one-laid (c .before .before .before .before .before .before .lay .ensures) (c .before .before .before .if2 .left) (a .pre .2), a .pre .3, λ z. c .before .before .before .before .before .before .before .before .if1 .left (c .before .before .before .before .before .before .before .before .before .word-inside .ensures .0 ∙ z), refl)
+
+returns-3 : tie.Need-returns-3
+returns-3 c =
+    let a = c .before .before .before .before .before .before .before .before .before .before .before .before .before .before .before .before .before .before .before .before .before .before in
+    let l = c .before .before .before .before .before .before .before .before .before .before .before .before .before .lay .ensures in
+    one-answered l (a .pre .2) (λ i. omega (arith, c .before .before .before .before .before .before .before .before .before .before .before .before .before .before .before .before .before .before .before .before .shared-slice-known2 .given i)) _ (ligatures-cut _ _ _ (l .holds (c .before .before .before .before .before .before .before .before .before .before .if2 .left)) (λ z. c .before .before .before .before .before .before .before .before .before .before .before .before .before .before .before .if1 .left (c .before .before .before .before .before .before .before .before .before .before .before .before .before .before .before .before .word-inside .ensures .0 ∙ z)) (ligatures-asked _ (a .pre .1) (a .pre .0))) (c .before .before .before .before .before .before .cut-sets .ensures)
+
+pub cut-ligatures-spec : {M : Type 1} → statement M
+cut-ligatures-spec =
+    tie.close
+    (tie.spec
+    word-inside-requires
+    returns
+    (λ c κs. search needs)
+    (λ c. search needs)
+    returns-2
+    add-cut-sets
+    cut-sets-requires
+    (λ c. search needs)
+    (λ c. search needs)
+    (λ c. search needs)
+    returns-3)

@@ -1,0 +1,128 @@
+-- Tables of pairs: what is asked of a source, and what is left of it.
+use Prim.Native.Nat.{ℕ, _/_}
+use mathlib.Core.Path.{_≡_, refl, sym, ap, _∙_}
+use mathlib.Core.Bool.{_&&_}
+use mathlib.Core.Option.{Option, none, some}
+use mathlib.Core.List.{List, [], _∷_, map}
+use native.Mathlib.Nat.{zero-add}
+use lib.Dec.{eqb}
+use borrow.Author.Tests.{ne-eqb, eq-eqb}
+use Rattle.meaning.specs.Words.{word, find, bind}
+use Rattle.meaning.specs.Maps.{mapEntries}
+use Rattle.meaning.specs.Parts.{coverage}
+use Rattle.meaning.specs.Tables.{Table, Pair, fieldCount, reach, reaches, pairSet}
+use Rattle.meaning.specs.Fault.{pairSetFault, enough, headerFault}
+use Rattle.meaning.specs.Cut.{cut, cutPairs, keptSets, setsOf, newFormat, newSecond, thinPair, thin, keptPairs}
+use Rattle.meaning.specs.Layout.{block, pairSetWords, tableWords}
+use Rattle.fold.specs.Cells.{Holds}
+use Rattle.fold.specs.declared.Map.{Map}
+use Rattle.area.specs.Part.{notes}
+use Rattle.area.specs.Closed.{members}
+use Rattle.numbers.specs.Entries.{entriesIn}
+use Rattle.numbers.specs.Alike.{holds-alike, pairs-alike}
+use Rattle.rule_sets.specs.declared.Maps.{Maps}
+use Rattle.meet.specs.Met.{met}
+use Rattle.pair_sets.specs.Formats.{pairs-left}
+use Rattle.pair_sets.specs.declared.Formats.{Formats}
+use Rattle.pair_formats.specs.New.{NewFormats, first-format, second-format}
+use Rattle.kept_sets.specs.Sorts.{setFaultOf, setLeft, leftIn}
+use Rattle.kept_sets.specs.Kept.{wordsOf, Ready, keptIn}
+use Rattle.kept_sets.specs.declared.Sort.{Sort}
+use Rattle.kept_sets.specs.declared.Sort.the-variants.{Pairs}
+use Rattle.tried.specs.declared.Tried.{Tried}
+use Rattle.kept_table.specs.Table.{tableOf}
+use Rattle.kept_table.specs.Answers.{Answered}
+use Rattle.by_glyph.specs.KeptIs.{asWords, kept-met, glyphs-as}
+use Rattle.by_glyph.specs.Asked.{SoundSets, keptFrom}
+
+-- the table of a pair source, and where it is faulty, as the source says them
+abbrev pub pairTable : List ℕ → Table
+pairTable s = Table.pairs-of (reach (coverage s) s 0 2) (word s 4) (word s 6) (reaches (pairSet (fieldCount (word s 4)) (fieldCount (word s 6)) s) s 0 10 (word s 8))
+
+abbrev pub pairFault : List ℕ → Option ℕ
+pairFault s = headerFault (eqb (word s 4 / 256) 0 && (eqb (word s 6 / 256) 0 && enough s (word s 8))) 0 8 (pairSetFault (fieldCount (word s 4)) (fieldCount (word s 6)) s) s
+
+-- the sort of its sets, before the new formats are known
+abbrev pub pairsOf : List ℕ → Sort
+pairsOf s = Pairs (record { f1 = word s 4; f2 = word s 6; n1 = 0; n2 = 0; size = 0 })
+
+-- one map for all
+abbrev pub oneMap : Map → Maps
+oneMap g = record { back = g; input = g; ahead = g; lookups = g }
+
+-- What is answered of a table of pairs: the table of the kept sets, with the new formats that they ask for.
+pub record AnsweredPairs (s t : List ℕ) (g : Map) (at m : ℕ) (out₀ : List ℕ) (a : ℕ) (r : Tried) (out : List ℕ) : Type 0 where
+  pub formats : Formats
+  pub new : NewFormats (entriesIn t g) s (notes t at m) formats
+  pub answered : Answered (⊥) out₀ (tableOf (Pairs formats) (keptIn (Pairs formats) s t (oneMap g) at m)) a r out
+
+-- What the source's formats say is said of any with the same: the sets are sound.
+module _ (s : List ℕ) (f : Formats) (e : f .f1 ≡ word s 4) (h : f .f2 ≡ word s 6) where
+  same-fault : (at : ℕ) → setFaultOf (pairsOf s) s at ≡ none → setFaultOf (Pairs f) s at ≡ none
+  unfolding setFaultOf
+  same-fault at q = rw (e, h) q
+
+  pub sound-pairs : SoundSets (pairsOf s) s → SoundSets (Pairs f) s
+  sound-pairs a = record { short = a .short; header = a .header; cover = a .cover; enough = a .enough; sets = λ i l z. same-fault _ (a .sets i l z) }
+
+  pub ready-pairs : {t : List ℕ} {maps : Maps} {at m : ℕ} → Ready (pairsOf s) s t maps at m → Ready (Pairs f) s t maps at m
+  ready-pairs a = record {
+    short = a .short;
+    few = a .few;
+    fits = a .fits;
+    reaches = λ i l. record { inside = a .reaches i l .inside; sound = λ z. same-fault _ (a .reaches i l .sound z) };
+    inside = a .inside;
+    before = a .before;
+  }
+
+-- The words of kept pair sets, with the fields of the new formats.
+module _ (f : Formats) where
+  -- a pair set with these fields
+  abbrev thinned : List Pair → List ℕ
+  thinned ps = pairSetWords (map (thinPair (f .f1) (f .f2) (f .n1) (f .n2)) ps)
+
+  sets-thin : (ks : List (ℕ × List Pair)) → members (wordsOf (asWords thinned ks)) ≡ map (block pairSetWords) (setsOf (thin (f .f1) (f .f2) (f .n1) (f .n2) ks))
+  unfolding setsOf block thin
+  sets-thin [] = refl
+  sets-thin (k ∷ ks) = ap (λ (l : List (Option (List ℕ))). some (thinned (k .1)) ∷ l) (sets-thin ks)
+
+  pairs-as : (ks : List (ℕ × List Pair)) → f .n1 ≡ newFormat (λ p. p .first-values) (f .f1) ks → f .n2 ≡ newSecond (f .f2) ks
+      → tableOf (Pairs f) (asWords thinned ks) ≡ block tableWords (keptPairs (f .f1) (f .f2) ks)
+  unfolding tableOf block keptPairs tableWords
+  pairs-as [] a b = refl
+  pairs-as (k ∷ ks) a b = rw (← a, ← b, glyphs-as thinned (k ∷ ks), sets-thin (k ∷ ks)) refl
+
+-- what is left of a null coverage's table, and of one that is not null
+module _ (g l : List (ℕ × ℕ)) (s : List ℕ) where
+  pub pairs-null : word s 2 ≡ 0 → cut g l (pairTable s) ≡ none
+  unfolding cut reach bind
+  pairs-null z = rw (eq-eqb (word s 2) 0 z)
+
+  pairs-there : (word s 2 ≡ 0 → ⊥) → cut g l (pairTable s) ≡ keptPairs (word s 4) (word s 6) (keptSets (cutPairs g) g (coverage s (word s 2)) (reaches (pairSet (fieldCount (word s 4)) (fieldCount (word s 6)) s) s 0 10 (word s 8)))
+  unfolding cut reach bind
+  pairs-there z = rw (ne-eqb (word s 2) 0 z, zero-add)
+
+-- What is left of a table of pairs, as the words of its kept sets say it.
+module _ (g s : List ℕ) {t : List ℕ} (maps : Maps) (i : Holds t (maps .input) (mapEntries g)) (f : Formats) where
+  pairs-agree : (p : ℕ) → leftIn (Pairs f) t maps s p ≡ block (thinned f) (cutPairs (mapEntries g) (pairSet (fieldCount (f .f1)) (fieldCount (f .f2)) s p))
+  unfolding setLeft
+  pairs-agree p =
+      pairs-left (entriesIn t (maps .input)) (f .f1) (f .f2) (f .n1) (f .n2) s p
+      ∙ ap (block (thinned f)) (pairs-alike (holds-alike i) (pairSet (fieldCount (f .f1)) (fieldCount (f .f2)) s p))
+
+  module _ (new : NewFormats (mapEntries g) s (met (find (mapEntries g)) 0 (coverage s (word s 2))) f) (z : word s 2 ≡ 0 → ⊥) (a : SoundSets (Pairs f) s) where
+    -- the kept sets
+    abbrev kept : List (ℕ × List Pair)
+    kept = keptSets (cutPairs (mapEntries g)) (mapEntries g) (coverage s (word s 2)) (reaches (pairSet (fieldCount (f .f1)) (fieldCount (f .f2)) s) s 0 10 (word s 8))
+
+    first : f .n1 ≡ newFormat (λ p. p .first-values) (f .f1) kept
+    first = new .n1 ∙ rw (← new .f1, ← new .f2) (first-format (mapEntries g) s (f .f1) (f .f2) (coverage s (word s 2)) (word s 8) (a .enough z))
+
+    second : f .n2 ≡ newSecond (f .f2) kept
+    second = new .n2 ∙ rw (← new .f1, ← new .f2) (second-format (mapEntries g) s (f .f1) (f .f2) (coverage s (word s 2)) (word s 8) (a .enough z))
+
+    pub pairs-cut : tableOf (Pairs f) (keptFrom (Pairs f) s g t maps) ≡ block tableWords (cut (mapEntries g) [] (pairTable s))
+    pairs-cut =
+        ap (tableOf (Pairs f)) (kept-met (pairSet (fieldCount (f .f1)) (fieldCount (f .f2)) s) (cutPairs (mapEntries g)) (thinned f) (leftIn (Pairs f) t maps s) pairs-agree s 10 (mapEntries g) 0 (coverage s (word s 2)) (word s 8) (a .enough z))
+        ∙ pairs-as f kept first second
+        ∙ ap (block tableWords) (rw (new .f1, new .f2) (sym (pairs-there (mapEntries g) [] s z)))

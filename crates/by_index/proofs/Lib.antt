@@ -1,4 +1,0 @@
-pub mod Laying
-pub mod Joints
-pub mod Using
-pub mod PairJoints

@@ -1,4 +1,0 @@
-pub mod Kept
-pub mod Tables
-pub mod Whole
-pub mod PairTable

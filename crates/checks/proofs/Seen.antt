@@ -1,0 +1,91 @@
+-- Marks at the places of parts whose faults were counted: none at first, and one more.
+use Prim.Native.Nat.{ℕ, _+_, _*_, _≤_, _<_}
+use mathlib.Core.Path.{_≡_, refl, sym, ap, _∙_}
+use mathlib.Core.Bool.{Bool, true, false, cond}
+use mathlib.Core.Option.{Option, none, some}
+use mathlib.Core.List.{List}
+use native.Mathlib.Omega.{arith}
+use lib.ListN.{getD, set, replicate}
+use lib.Seq.{getD-set-other}
+use lib.Dec.{eqb, leb}
+use borrow.Author.Tests.{eqb-true, eqb-false, le-leb, leb-true, leb-false}
+use native.Mathlib.Nat.{zero-add}
+use Rattle.meaning.specs.Words.{word}
+use Rattle.meaning.specs.Fault.{lowest}
+use Rattle.laws.specs.FaultsLeft.{lowest-assoc}
+use Rattle.checks.proofs.Within.{zeros-read}
+use Rattle.wire.specs.Fault.{faultOf, placeOf, place-fault}
+use Rattle.wire.specs.Reached.{Lowest, lowest-part}
+use Rattle.wire.specs.declared.Fault.{Fault}
+use Rattle.wire.specs.declared.Fault.the-variants.{At, Sound}
+use Rattle.checks.specs.Seen.{Seen}
+
+-- the lower of a place and itself, and of two places in either order
+lowest-same : (a : Option ℕ) → lowest a a ≡ a
+unfolding lowest
+lowest-same none = refl
+lowest-same (some p) = ap some (step (leb p p) refl)
+  where
+    step : (b : Bool) → leb p p ≡ b → cond b p p ≡ p
+    step true e = refl
+    step false e = refl
+
+lowest-swap : (a b : Option ℕ) → lowest a b ≡ lowest b a
+unfolding lowest
+lowest-swap none none = refl
+lowest-swap none (some q) = refl
+lowest-swap (some p) none = refl
+lowest-swap (some p) (some q) = ap some (step (leb p q) refl (leb q p) refl)
+  where
+    step : (b : Bool) → leb p q ≡ b → (d : Bool) → leb q p ≡ d → cond b p q ≡ cond d q p
+    step true e true f = omega (arith, leb-true p q e, leb-true q p f)
+    step true e false f = refl
+    step false e true f = refl
+    step false e false f = omega (arith, leb-false p q e, leb-false q p f)
+
+-- what was counted stays so as the lowest falls
+lowest-kept : (a b c : Option ℕ) → lowest a b ≡ a → lowest (lowest a c) b ≡ lowest a c
+lowest-kept a b c e =
+    lowest-assoc a c b ∙ ap (lowest a) (lowest-swap c b) ∙ sym (lowest-assoc a b c) ∙ ap (λ (x : Option ℕ). lowest x c) e
+
+lowest-twice : (a b : Option ℕ) → lowest (lowest a b) b ≡ lowest a b
+lowest-twice a b = lowest-assoc a b b ∙ ap (lowest a) (lowest-same b)
+
+-- an answer stands for the place that it names
+pub fault-place : (r : Fault) → faultOf (placeOf r) ≡ r
+fault-place (At p) = refl
+fault-place Sound = refl
+
+-- what `lowest` answers, of the part's own fault
+pub seen-found : (faultAt : ℕ → Option ℕ) (low : Fault) (at : ℕ) {a r : Fault} → a ≡ faultOf (faultAt at) → r ≡ faultOf (lowest (placeOf low) (placeOf a)) → r ≡ faultOf (lowest (placeOf low) (faultAt at))
+seen-found faultAt low at f g = g ∙ ap (λ (x : Option ℕ). faultOf (lowest (placeOf low) x)) (ap placeOf f ∙ place-fault (faultAt at))
+
+module _ {faultAt : ℕ → Option ℕ} {low : Fault} where
+  -- zeros mark no part
+  pub none-seen : (n : ℕ) → Seen faultAt low (replicate n 0)
+  none-seen n = record { counted = λ p m. absurd (m (zeros-read n p)) }
+
+  -- a part with a mark does not change the lowest
+  pub seen-passed : {marks : List ℕ} → Seen faultAt low marks → (at : ℕ) → (getD marks at 0 ≡ 0 → ⊥) → low ≡ faultOf (lowest (placeOf low) (faultAt at))
+  seen-passed k at m = sym (fault-place low) ∙ ap faultOf (sym (k .counted at m))
+
+  -- a part whose fault is counted gets a mark
+  pub seen-more : {marks next : List ℕ} {r : Fault} (at : ℕ) → Seen faultAt low marks → r ≡ faultOf (lowest (placeOf low) (faultAt at)) → next ≡ set marks at 1 → Seen faultAt r next
+  seen-more {marks} {next} {r} at k g e = record { counted = λ p m. step p (eqb p at) refl (λ z. m (rw e z)) }
+    where
+      now-low : placeOf r ≡ lowest (placeOf low) (faultAt at)
+      now-low = ap placeOf g ∙ place-fault (lowest (placeOf low) (faultAt at))
+
+      step : (p : ℕ) (b : Bool) → eqb p at ≡ b → (getD (set marks at 1) p 0 ≡ 0 → ⊥) → lowest (placeOf r) (faultAt p) ≡ placeOf r
+      step p true q m = rw (eqb-true p at q, now-low) (lowest-twice (placeOf low) (faultAt at))
+      step p false q m = rw now-low (lowest-kept (placeOf low) (faultAt p) (faultAt at) (k .counted p (λ z. m (getD-set-other marks at p 1 0 (eqb-false p at q) ∙ z))))
+
+-- a loop over offsets past a part that was counted
+pub reached-once : {faultAt : ℕ → Option ℕ} {s : List ℕ} {slot n : ℕ} {low : Fault} {i off : ℕ} → Lowest faultAt s 0 slot n low i → i < n → off ≡ word s (slot + 2 * i) → (off ≡ 0 → ⊥)
+    → {r : Fault} → r ≡ faultOf (lowest (placeOf low) (faultAt off)) → Lowest faultAt s 0 slot n r (i + 1)
+reached-once {faultAt} {low = low} {off = off} k h e z g =
+    lowest-part k h e z {a = faultOf (faultAt off)} (ap (λ (x : ℕ). faultOf (faultAt x)) (sym (zero-add off))) (g ∙ ap (λ (x : Option ℕ). faultOf (lowest (placeOf low) x)) (sym (place-fault (faultAt off))))
+
+-- marks that are as long as those before are as long as those at first
+pub still-long : {a b c : ℕ} → b ≡ c → a ≡ b → a ≡ c
+still-long p q = q ∙ p

@@ -1,0 +1,195 @@
+-- From the cells of the maps to what is left of the context.
+use Prim.Native.Nat.{ℕ, _+_, _/_, _%_, _≤_, _<_}
+use mathlib.Core.Path.{_≡_, refl, sym, ap, _∙_, subst}
+use mathlib.Core.Bool.{Bool, true, false}
+use mathlib.Core.Option.{Option, some}
+use mathlib.Core.List.{List, _∷_, map}
+use native.Mathlib.Decide.{decLt}
+use native.Mathlib.Omega.{arith}
+use lib.ListN.{length}
+use Rattle.meaning.specs.Words.{word, keys}
+use Rattle.meaning.specs.Maps.{mapEntries}
+use Rattle.meaning.specs.Parts.{coverage}
+use Rattle.meaning.specs.Tables.{classContext}
+use Rattle.meaning.specs.Cut.{cut, cutSet, newCoverage, slots}
+use Rattle.meaning.specs.Layout.{block, coverageWords, ruleWords, setWords}
+use Rattle.meaning.specs.Subset.{Outcome, limit, written}
+use Rattle.laws.specs.SoundGood.{coverage-up}
+use Rattle.fold.specs.Cells.{Holds, kept-more}
+use Rattle.fold.specs.declared.Map.{Map}
+use Rattle.area.specs.Part.{news, notes}
+use Rattle.numbers.specs.Alike.{holds-alike, set-alike}
+use Rattle.rule_sets.specs.Left.{mapsIn}
+use Rattle.class_slots.specs.Slots.{slotBlocks}
+use Rattle.tried.specs.Tries.{Tries, tries-less}
+use Rattle.tried.specs.declared.Tried.{Tried}
+use Rattle.tried.specs.declared.Tried.the-variants.{FewCells}
+use Rattle.class_layouts.specs.Tail.{tableBlock, tableBlocks, tailBlocks}
+use Rattle.class_layouts.specs.Table.{wordsInto}
+use Rattle.class_layouts.specs.Written.{enoughBytes, Writes, leftIn}
+use Rattle.class_contexts.specs.Same.{Same, kept-same, part-alike, inside-same, holds-same, present-same}
+use Rattle.class_contexts.specs.Sides.{newTable, TableFor, Asks, SideIn, Sided, InputIn, InputLaid}
+use Rattle.class_contexts.specs.Meaning.{backAt, inputAt, aheadAt, tailOf, rulesMaps, blocksOf, cut-words, slots-alike}
+use Rattle.class_contexts.specs.Cutting.{enoughCells, preparedOf, Cuts, CutsInto}
+use Rattle.class_layouts.specs.declared.NewTable.{NewTable}
+use Rattle.class_layouts.specs.declared.Noted.{Noted}
+use Rattle.class_contexts.specs.declared.Side.{Side}
+use Rattle.class_contexts.specs.declared.Input.{Input}
+use Rattle.class_layouts.specs.declared.Prepared.{Prepared}
+use Rattle.class_contexts.proofs.FewClasses.{classes-few}
+
+-- What stands in cells stays where only cells behind it change.
+module _ {glyphs s : List ℕ} {at : ℕ} {t u : List ℕ} {end : ℕ} (k : Same 0 end t u) where
+  table-stays : {n : NewTable} → n .list + n .len ≤ end → TableFor glyphs s at t n → TableFor glyphs s at u n
+  unfolding tableBlock
+  table-stays {n} h a =
+      let e : notes u (n .list) (n .len) ≡ notes t (n .list) (n .len) = ap (map (λ c. (c / 65536, c % 65536))) (part-alike k (n .list) (n .len) (omega arith) h) in
+      record {
+        in-cells = record { inside = omega (arith, a .in-cells .inside, k .size); few = a .in-cells .few; ascend = rw e (a .in-cells .ascend) };
+        is = rw e (a .is);
+      }
+
+  side-stays : {r : Side} → r .map .at + r .map .mask < end → r .table .list + r .table .len ≤ r .map .at → SideIn glyphs s at t r → SideIn glyphs s at u r
+  side-stays {r} h l a = record { holds = holds-same k (r .map) (omega arith) h (a .holds); table = table-stays (omega arith) (a .table) }
+
+  input-stays : {cov : List ℕ} {r : Input} → r .map .at + r .map .mask < end → r .marks .at + r .marks .mask < end → r .table .list + r .table .len ≤ r .map .at → InputIn glyphs s at cov t r → InputIn glyphs s at cov u r
+  input-stays {r = r} h m l a = record {
+    holds = holds-same k (r .map) (omega arith) h (a .holds);
+    held = present-same k (r .map) (omega arith) h ∙ a .held;
+    count = a .count;
+    inside = inside-same k (r .marks) (omega arith) m (a .inside);
+    marked = present-same k (r .marks) (omega arith) m ∙ a .marked;
+    table = table-stays (omega arith) (a .table);
+  }
+
+-- too few cells
+too-few : {n m : ℕ} → (m ≤ n → ⊥) → m ≤ 655360 → n < 655360
+too-few {n} {m} h l = step (decLt n m)
+  where
+    step : Dec (n < m) → n < 655360
+    step (yes d) = omega arith
+    step (no d) = absurd (h (omega arith))
+
+pub few-cells : {chained : Bool} {s glyphs : List ℕ} {l : Map} {t area out : List ℕ} → length t < 655360 → CutsInto chained s glyphs l t area FewCells out out
+few-cells h = record { cuts = λ {es = es} o. (h, refl) }
+
+module _ {chained : Bool} {s glyphs : List ℕ} {l : Map} {noted : Noted} {t₀ area : List ℕ} (a : Cuts chained s glyphs l noted t₀ area) where
+  -- the input
+  pub input-asks : {at : ℕ} → at ≡ inputAt chained s → Asks s at glyphs (noted .at + noted .len)
+  input-asks e = record { sound = rw e (a .sound .input); map = a .map; near = omega (arith, a .near) }
+
+  module _ {ia : ℕ} (ei : ia ≡ inputAt chained s) {t₁ : List ℕ} {i : Input} (u : InputLaid s ia glyphs noted t₀ t₁ i) where
+    pub input-few : i .map .mask ≡ 0 → length t₀ < 655360
+    input-few z = too-few (λ h. u .room h z) (omega (arith, a .near, a .map .few))
+
+    module _ (zi : i .map .mask ≡ 0 → ⊥) where
+      first-end : i .marks .at + i .marks .mask + 1 ≤ 393216
+      first-end = omega (arith, u .behind zi, u .place zi, u .alike, u .few, a .near, a .map .few)
+
+      pub marks-near : i .marks .at + i .marks .mask + 1 ≤ 0x1_0000_0000
+      marks-near = omega (arith, first-end)
+
+      pub back-asks : {at : ℕ} → at ≡ backAt chained s → Asks s at glyphs (i .marks .at + i .marks .mask + 1)
+      back-asks e = record { sound = rw e (a .sound .back); map = a .map; near = marks-near }
+
+      module _ {ba : ℕ} (eb : ba ≡ backAt chained s) {t₂ : List ℕ} {b : Side} (v : Sided s ba glyphs t₁ t₂ (i .marks .at + i .marks .mask + 1) b) where
+        pub back-few : b .map .mask ≡ 0 → length t₀ < 655360
+        back-few z = omega (arith, too-few (λ h. v .room h z) (omega (arith, first-end, a .map .few)), u .kept .size)
+
+        module _ (zb : b .map .mask ≡ 0 → ⊥) where
+          second-end : b .map .at + b .map .mask + 1 ≤ 524288
+          second-end = omega (arith, v .near zb, v .few, first-end, a .map .few)
+
+          pub back-near : b .map .at + b .map .mask + 1 ≤ 0x1_0000_0000
+          back-near = omega (arith, second-end)
+
+          pub ahead-asks : {at : ℕ} → at ≡ aheadAt chained s → Asks s at glyphs (b .map .at + b .map .mask + 1)
+          ahead-asks e = record { sound = rw e (a .sound .ahead); map = a .map; near = back-near }
+
+          module _ {aa : ℕ} (ea : aa ≡ aheadAt chained s) {t₃ : List ℕ} {d : Side} (w : Sided s aa glyphs t₂ t₃ (b .map .at + b .map .mask + 1) d) where
+            pub ahead-few : d .map .mask ≡ 0 → length t₀ < 655360
+            ahead-few z = omega (arith, too-few (λ h. w .room h z) (omega (arith, second-end, a .map .few)), u .kept .size, v .kept .size)
+
+            module _ (zd : d .map .mask ≡ 0 → ⊥) where
+              abbrev prepared : Prepared
+              prepared = preparedOf l noted i b d
+
+              abbrev g : List (ℕ × ℕ)
+              g = mapEntries glyphs
+
+              abbrev cov : List ℕ
+              cov = coverage s (word s 2)
+
+              -- the cells up to the marks, and up to the map of backtrack
+              low : Same 0 (i .marks .at + i .marks .mask + 1) t₁ t₃
+              low = kept-same (kept-more (v .kept) (record { size = w .kept .size; same = λ j h. w .kept .same j (omega (arith, v .low zb)) }))
+
+              high : Same 0 (b .map .at + b .map .mask + 1) t₂ t₃
+              high = kept-same (w .kept)
+
+              all : Same 0 (noted .at + noted .len) t₀ t₃
+              all = kept-same (kept-more (u .kept) (record { size = low .size; same = λ j h. low .each j (omega arith) (omega (arith, u .behind zi, u .place zi)) }))
+
+              input-in : InputIn glyphs s ia cov t₃ i
+              input-in =
+                  input-stays low (omega (arith, u .behind zi)) (omega arith) (u .before zi)
+                  (u .side zi cov (coverage-up s (word s 2) (a .sound .cover (a .covers))) (a .glyphs-noted))
+
+              back-in : SideIn glyphs s ba t₃ b
+              back-in = side-stays high (omega arith) (v .before zb) (v .side zb)
+
+              ahead-in : SideIn glyphs s aa t₃ d
+              ahead-in = w .side zd
+
+              news-same : news t₃ (noted .at) (noted .len) ≡ newCoverage g cov
+              news-same = ap (map (λ c. c % 65536)) (part-alike all (noted .at) (noted .len) (omega arith) (omega arith)) ∙ a .glyphs-noted
+
+              writes : Writes chained s t₃ prepared area
+              unfolding limit
+              writes = record {
+                ready = record {
+                  short = a .sound .short;
+                  header = a .sound .header;
+                  sets = a .sound .sets;
+                  inside = record { back = back-in .holds .inside; input = input-in .holds .inside; ahead = ahead-in .holds .inside; lookups = inside-same all l (omega arith) (omega (arith, a .before)) (a .lookups) };
+                  marked = input-in .inside;
+                  alike = u .alike;
+                  few = u .few;
+                  number = input-in .count ∙ sym (ap length (input-in .held));
+                };
+                few = omega (arith, input-in .count, classes-few s (λ z. a .classed (sym ei ∙ z)) (rw ei (a .sound .input)) (a .sound .short) (keys g));
+                tail-in = record {
+                  cover = omega (arith, a .inside, all .size);
+                  covered = a .covered;
+                  few = a .few;
+                  back = back-in .table .in-cells;
+                  input = input-in .table .in-cells;
+                  ahead = ahead-in .table .in-cells;
+                };
+                short = a .short;
+              }
+
+              pub may-write : {p : Prepared} → p ≡ preparedOf l noted i b d → Writes chained s t₃ p area
+              may-write e = rw e writes
+
+              -- the blocks of the slots, and what follows the sets
+              blocks-are : {es : List (ℕ × ℕ)} → Holds t₀ l es → slotBlocks chained s t₃ (prepared .maps) (i .marks) ≡ blocksOf chained s g es
+              blocks-are {es} h =
+                  let m = rulesMaps chained s g es in
+                  let F = block (setWords (ruleWords chained)) in
+                  let same = set-alike {m = mapsIn t₃ (prepared .maps)} {n = m} (holds-alike (rw eb at (back-in .holds))) (holds-alike (rw ei at (input-in .holds))) (holds-alike (rw ea at (ahead-in .holds))) (holds-alike (holds-same all l (omega arith) (omega (arith, a .before)) h)) chained in
+                  rw (input-in .held, input-in .marked, ei) (ap (map F) (slots-alike (cutSet chained (mapsIn t₃ (prepared .maps))) (cutSet chained m) same _ _ _))
+
+              tail-is : tailBlocks chained t₃ (prepared .tail) ≡ tailOf chained (coverageWords (newCoverage g cov)) (newTable g s (backAt chained s)) (newTable g s (inputAt chained s)) (newTable g s (aheadAt chained s))
+              tail-is = rw news-same (step chained (coverageWords (newCoverage g cov)) (rw eb at (back-in .table .is)) (rw ei at (input-in .table .is)) (rw ea at (ahead-in .table .is)))
+                where
+                  step : (c : Bool) (k : List ℕ) {x y z : Option (List ℕ)} → tableBlock t₃ (b .table) ≡ x → tableBlock t₃ (i .table) ≡ y → tableBlock t₃ (d .table) ≡ z
+                      → _≡_ {A = List (Option (List ℕ))} (some k ∷ tableBlocks c t₃ (record { cover = noted; back = b .table; input = i .table; ahead = d .table })) (tailOf c k x y z)
+                  step true k p q r = rw (p, q, r)
+                  step false k p q r = rw q
+
+              pub cut-into : {p : Prepared} (r : Tried) (out after : List ℕ) → p ≡ preparedOf l noted i b d → Tries ⊥ (length area < enoughBytes) r out after (wordsInto out (leftIn chained s t₃ p)) → CutsInto chained s glyphs l t₀ area r out after
+              cut-into r out after e h = record { cuts = λ {es = es} o. tries-less ⊥ (length area < enoughBytes) (length t₀ < enoughCells) (length area < enoughBytes) r out after (written out (cut g es (classContext chained s))) (λ f. absurd f) (λ f. f) (subst (λ (x : Outcome). Tries ⊥ (length area < enoughBytes) r out after x) (ap (λ (q : Prepared). wordsInto out (leftIn chained s t₃ q)) e ∙ said es o) h) }
+                where
+                  said : (es : List (ℕ × ℕ)) → Holds t₀ l es → wordsInto out (leftIn chained s t₃ prepared) ≡ written out (cut g es (classContext chained s))
+                  said es o = rw (tail-is, blocks-are o) (sym (cut-words chained s g es (a .covers) (a .classed) out))

@@ -1,0 +1,4 @@
+pub mod FewClasses
+pub mod Siding
+pub mod Cutting
+pub mod Entry

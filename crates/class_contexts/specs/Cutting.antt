@@ -1,0 +1,86 @@
+-- What a cut of a context by class asks and answers.
+use Prim.Native.Nat.{ℕ, _+_, _≤_, _<_}
+use mathlib.Core.Path.{_≡_}
+use mathlib.Core.Bool.{Bool, true}
+use mathlib.Core.Option.{none}
+use mathlib.Core.List.{List}
+use lib.ListN.{length}
+use Rattle.meaning.specs.Words.{word, keys, ascends}
+use Rattle.meaning.specs.Maps.{mapEntries, goodGlyphs}
+use Rattle.meaning.specs.Parts.{coverage}
+use Rattle.meaning.specs.Tables.{classContext}
+use Rattle.meaning.specs.Fault.{contextFault}
+use Rattle.meaning.specs.Cut.{cut, newCoverage}
+use Rattle.meaning.specs.Subset.{limit, written}
+use Rattle.fold.specs.Cells.{Inside, Holds}
+use Rattle.fold.specs.declared.Map.{Map}
+use Rattle.area.specs.Part.{news}
+use Rattle.tried.specs.Tries.{Tries}
+use Rattle.tried.specs.declared.Tried.{Tried}
+use Rattle.class_layouts.specs.Written.{enoughBytes}
+use Rattle.class_contexts.specs.Sides.{Glyphs}
+use Rattle.class_contexts.specs.Meaning.{inputAt, SoundContext}
+use Rattle.class_layouts.specs.declared.Noted.{Noted}
+use Rattle.class_contexts.specs.declared.Side.{Side}
+use Rattle.class_contexts.specs.declared.Input.{Input}
+use Rattle.class_layouts.specs.declared.Prepared.{Prepared}
+
+-- cells that are enough for any source: two maps and a note for each glyph; three class maps, each with a class for each glyph; and marks
+abbrev pub enoughCells : ℕ
+enoughCells = 655360
+
+-- what a cut asks: the source is a context of format 2 without a fault and is not over the limit, the glyph map is good, and the old numbers of the lookup map ascend
+pub record Sound (chained : Bool) (s glyphs lookups : List ℕ) : Type 0 where
+  pub sound : contextFault chained s ≡ none
+  pub format : word s 0 ≡ 2
+  pub source : length s ≤ limit
+  pub glyphs-good : goodGlyphs glyphs ≡ true
+  pub lookups-ascend : ascends (keys (mapEntries lookups)) ≡ true
+
+-- all that the cells hold for a cut
+abbrev pub preparedOf : Map → Noted → Input → Side → Side → Prepared
+preparedOf l noted i b a = record {
+  maps = record { back = b .map; input = i .map; ahead = a .map; lookups = l };
+  marks = i .marks;
+  classes = i .classes;
+  tail = record { cover = noted; back = b .table; input = i .table; ahead = a .table };
+}
+
+-- what is asked where both maps lie in cells, that of the lookups first
+pub record Begins (chained : Bool) (s glyphs : List ℕ) (l m : Map) (t area : List ℕ) : Type 0 where
+  pub sound : SoundContext chained s
+  pub map : Glyphs glyphs
+  pub lookups : Inside t l
+  pub before : l .at + l .mask < m .at
+  pub holds : Holds t m (mapEntries glyphs)
+  pub near : m .at + m .mask + 1 ≤ 131072
+  pub covers : word s 2 ≡ 0 → ⊥
+  pub classed : inputAt chained s ≡ 0 → ⊥
+  pub short : length area ≤ 0x1_0000_0000
+  pub cells : length t ≤ 0x1_0000_0000
+
+-- what is asked where the covered glyphs are noted in cells: there is one, and the cells of the lookup map stand before them
+pub record Cuts (chained : Bool) (s glyphs : List ℕ) (l : Map) (noted : Noted) (t area : List ℕ) : Type 0 where
+  pub sound : SoundContext chained s
+  pub map : Glyphs glyphs
+  pub lookups : Inside t l
+  pub before : l .at + l .mask < noted .at
+  pub near : noted .at + noted .len ≤ 196608
+  pub inside : noted .at + noted .len ≤ length t
+  pub covered : 0 < noted .len
+  pub few : noted .len ≤ 65536
+  pub covers : word s 2 ≡ 0 → ⊥
+  pub classed : inputAt chained s ≡ 0 → ⊥
+  pub glyphs-noted : news t (noted .at) (noted .len) ≡ newCoverage (mapEntries glyphs) (coverage s (word s 2))
+  pub short : length area ≤ 0x1_0000_0000
+  pub cells : length t ≤ 0x1_0000_0000
+
+-- whatever lookup map the cells of l hold, what is left of the context is handed over
+pub record CutsInto (chained : Bool) (s glyphs : List ℕ) (l : Map) (t area : List ℕ) (r : Tried) (out after : List ℕ) : Type 0 where
+  pub cuts : {es : List (ℕ × ℕ)} → Holds t l es → Tries (length t < enoughCells) (length area < enoughBytes) r out after (written out (cut (mapEntries glyphs) es (classContext chained s)))
+
+-- r is the lesser of a and b
+pub record Least (a b r : ℕ) : Type 0 where
+  pub first : r ≤ a
+  pub second : r ≤ b
+  pub one : r < b → r ≡ a

@@ -1,0 +1,4 @@
+pub mod Same
+pub mod Sides
+pub mod Meaning
+pub mod Cutting

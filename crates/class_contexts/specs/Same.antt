@@ -1,0 +1,49 @@
+-- Cells of a stretch that a function leaves alone, and what stands there.
+use Prim.Native.Nat.{ℕ, zero, suc, _+_, _≤_, _<_}
+use mathlib.Core.Path.{_≡_, refl, ap, _∙_}
+use mathlib.Core.List.{List}
+use native.Mathlib.Omega.{arith}
+use lib.ListN.{length, getD}
+use lib.Bits.{and-le-r}
+use Rattle.fold.specs.Cells.{cellOf, answerIn, Inside, Holds, Kept}
+use Rattle.fold.specs.declared.Map.{Map}
+use Rattle.area.specs.Part.{part}
+use Rattle.area.specs.Stored.{part-same}
+use Rattle.class_lists.specs.Elsewhere.{Elsewhere}
+use Rattle.class_maps.specs.Present.{presentFrom, present}
+
+-- the cells from `from` up to `to` are as before, and so is how many there are
+pub record Same (from to : ℕ) (t u : List ℕ) : Type 0 where
+  pub size : length u ≡ length t
+  pub each : (i : ℕ) → from ≤ i → i < to → getD u i 0 ≡ getD t i 0
+
+pub kept-same : {at : ℕ} {t u : List ℕ} → Kept at t u → Same 0 at t u
+kept-same k = record { size = k .size; each = λ i l h. k .same i h }
+
+pub before-same : {from to : ℕ} {t u : List ℕ} → Elsewhere from to t u → Same 0 from t u
+before-same k = record { size = k .size; each = λ i l h. k .before i h }
+
+pub after-same : {from to : ℕ} (end : ℕ) {t u : List ℕ} → Elsewhere from to t u → Same to end t u
+after-same end k = record { size = k .size; each = λ i l h. k .after i l }
+
+present-alike : (t u : List ℕ) (at c n : ℕ) → ((i : ℕ) → i < c + n → getD u (at + i) 0 ≡ getD t (at + i) 0) → presentFrom u at c n ≡ presentFrom t at c n
+unfolding presentFrom
+present-alike t u at c zero h = refl
+present-alike t u at c (suc n) h = rw (h c (omega arith), present-alike t u at (c + 1) n (λ i l. h i (omega arith)))
+
+module _ {from to : ℕ} {t u : List ℕ} (k : Same from to t u) where
+  pub part-alike : (at n : ℕ) → from ≤ at → at + n ≤ to → part u at n ≡ part t at n
+  part-alike at n a b = part-same u t at n (λ j l g. k .each j (omega arith) (omega arith))
+
+  module _ (m : Map) (a : from ≤ m .at) (b : m .at + m .mask < to) where
+    pub inside-same : Inside t m → Inside u m
+    inside-same o = record { within = omega (arith, k .size, o .within) }
+
+    pub holds-same : {es : List (ℕ × ℕ)} → Holds t m es → Holds u m es
+    holds-same o = record {
+      inside = inside-same (o .inside);
+      answers = λ x. ap (λ (e : ℕ). answerIn e x) (k .each (cellOf m x) (omega arith) (omega (arith, and-le-r x (m .mask)))) ∙ o .answers x;
+    }
+
+    pub present-same : present u m ≡ present t m
+    present-same = present-alike t u (m .at) 0 (m .mask + 1) (λ i l. k .each (m .at + i) (omega arith) (omega arith))

@@ -1,0 +1,296 @@
+// Format 2 of contexts and chained contexts: a coverage, class tables and sets of rules by class; cut in one walk, from the source into the area.
+use class_layouts::BYTES;
+use class_layouts::NewTable;
+use class_layouts::Noted;
+use class_layouts::Prepared;
+use class_layouts::Tail;
+use class_layouts::write_left;
+use class_maps::class_map;
+use class_maps::mark_covered;
+use class_maps::new_entries;
+use fold::Map;
+use fold::lay;
+use meet::meet;
+use room::Laid;
+use rule_sets::Maps;
+use tried::Tried;
+use wire::word_at;
+ghost use mathlib.Core.Path.{_≡_};
+ghost use Prim.Native.Nat.{_+_, _≤_, _<_};
+ghost use lib.ListN.{length};
+ghost use Rattle.meaning.specs.Maps.{mapEntries};
+ghost use Rattle.meaning.specs.Tables.{classContext};
+ghost use Rattle.meaning.specs.Cut.{cut};
+ghost use Rattle.meaning.specs.Subset.{written};
+ghost use Rattle.tried.specs.Tries.{Tries};
+ghost use Rattle.class_layouts.specs.Written.{enoughBytes};
+ghost use Rattle.class_contexts.specs.Sides.{Asks, Sided, InputLaid};
+ghost use Rattle.class_contexts.specs.Meaning.{backAt, inputAt, aheadAt};
+ghost use Rattle.class_contexts.specs.Cutting.{enoughCells, preparedOf, Sound, Begins, Cuts, CutsInto, Least};
+
+// The number of cells that is enough for any source: two maps of 65,536 cells each and a note for each glyph, three class maps with a class for each glyph, and marks.
+pub const CELLS: usize = 655360;
+
+// A class table in cells: its class map, and the new one.
+pub struct Side {
+    pub map: Map,
+    pub table: NewTable,
+}
+
+// The same for the input, with the number of surviving classes, and marks of the classes that covered glyphs hold.
+pub struct Input {
+    pub map: Map,
+    pub classes: usize,
+    pub marks: Map,
+    pub table: NewTable,
+}
+
+// The class map of the class table at `at`, which may be null, at 0, and the entries of the new one, in cells from `list` on. The mask is 0 where there are too few cells.
+fn class_side(src: &[u8], at: usize, glyphs: &[u8], t: &mut [u32], list: usize) -> Side
+    requires { ⌜ Asks (now src) at (now glyphs) list ⌝ }
+    ensures { λ r. ⌜ Sided (now (src .entry)) at (now (glyphs .entry)) (now (t .entry)) (now (t .exit)) list r ⌝ }
+{
+    let c = class_map(src, at, glyphs, t, list);
+    let map = c.map;
+    if map.mask == 0 {
+        return Side {
+            map,
+            table: NewTable {
+                old: at,
+                list,
+                len: 0,
+            },
+        };
+    }
+    let len = new_entries(glyphs, t, list, map);
+    Side {
+        map,
+        table: NewTable { old: at, list, len },
+    }
+}
+
+// What is answered where there are too few cells for the input.
+fn no_input() -> Input
+    ensures { λ r. ⌜ (r .map .mask ≡ 0) × (r .marks .mask ≡ 0) ⌝ }
+{
+    Input {
+        map: Map { at: 0, mask: 0 },
+        classes: 0,
+        marks: Map { at: 0, mask: 0 },
+        table: NewTable {
+            old: 0,
+            list: 0,
+            len: 0,
+        },
+    }
+}
+
+// The same for the input's class table, in the cells behind the notes of the covered glyphs, with marks of the classes that these hold.
+fn class_input(src: &[u8], at: usize, glyphs: &[u8], noted: Noted, t: &mut [u32]) -> Input
+    requires { ⌜ Asks (now src) at (now glyphs) (noted .at + noted .len) × (length (now t) ≤ 0x1_0000_0000) ⌝ }
+    ensures { λ r. ⌜ InputLaid (now (src .entry)) at (now (glyphs .entry)) noted (now (t .entry)) (now (t .exit)) r ⌝ }
+{
+    let list = noted.at + noted.len;
+    let c = class_map(src, at, glyphs, t, list);
+    let map = c.map;
+    if map.mask == 0 {
+        return no_input();
+    }
+    let marks = Map {
+        at: map.at + map.mask + 1,
+        mask: map.mask,
+    };
+    if t.len() <= marks.at + marks.mask {
+        return no_input();
+    }
+    mark_covered(glyphs, t, noted.at, noted.len, list, marks);
+    let len = new_entries(glyphs, t, list, map);
+    Input {
+        map,
+        classes: c.count,
+        marks,
+        table: NewTable { old: at, list, len },
+    }
+}
+
+// Where the class table of the backtrack stands; 0 if it is null, and in a plain context, which has none.
+fn back_at(chained: bool, src: &[u8]) -> usize
+    ensures { λ r. ⌜ r ≡ backAt chained (now (src .entry)) ⌝ }
+{
+    if chained {
+        return word_at(src, 4);
+    }
+    0
+}
+
+// Where the class table of the input stands; 0 if it is null.
+fn input_at(chained: bool, src: &[u8]) -> usize
+    ensures { λ r. ⌜ r ≡ inputAt chained (now (src .entry)) ⌝ }
+{
+    if chained {
+        return word_at(src, 6);
+    }
+    word_at(src, 4)
+}
+
+// Where the class table of the lookahead stands; 0 if it is null, and in a plain context, which has none.
+fn ahead_at(chained: bool, src: &[u8]) -> usize
+    ensures { λ r. ⌜ r ≡ aheadAt chained (now (src .entry)) ⌝ }
+{
+    if chained {
+        return word_at(src, 8);
+    }
+    0
+}
+
+// All that the cells hold for the cut, from its parts.
+fn prepare(lookups: Map, cover: Noted, input: Input, back: Side, ahead: Side) -> Prepared
+    ensures { λ r. ⌜ r ≡ preparedOf lookups cover input back ahead ⌝ }
+{
+    let input_map = input.map;
+    let marks = input.marks;
+    let input_table = input.table;
+    let back_map = back.map;
+    let back_table = back.table;
+    let ahead_map = ahead.map;
+    let ahead_table = ahead.table;
+    Prepared {
+        maps: Maps {
+            back: back_map,
+            input: input_map,
+            ahead: ahead_map,
+            lookups,
+        },
+        marks,
+        classes: input.classes,
+        tail: Tail {
+            cover,
+            back: back_table,
+            input: input_table,
+            ahead: ahead_table,
+        },
+    }
+}
+
+// What is left of a sound context whose retained covered glyphs are noted in cells, behind those of the lookup map, handed over if there is room.
+fn cut_noted(
+    chained: bool,
+    src: &[u8],
+    glyphs: &[u8],
+    l: Map,
+    noted: Noted,
+    t: &mut [u32],
+    area: &mut [u8],
+    out: &mut [u8],
+) -> Tried
+    requires { ⌜ Cuts chained (now src) (now glyphs) l noted (now t) (now area) ⌝ }
+    ensures { λ r. ⌜ CutsInto chained (now (src .entry)) (now (glyphs .entry)) l (now (t .entry)) (now (area .entry)) r (now (out .entry)) (now (out .exit)) ⌝ }
+{
+    let input = class_input(src, input_at(chained, src), glyphs, noted, t);
+    if input.map.mask == 0 {
+        return Tried::FewCells;
+    }
+    let behind = input.marks.at + input.marks.mask + 1;
+    let back = class_side(src, back_at(chained, src), glyphs, t, behind);
+    if back.map.mask == 0 {
+        return Tried::FewCells;
+    }
+    let last = back.map.at + back.map.mask + 1;
+    let ahead = class_side(src, ahead_at(chained, src), glyphs, t, last);
+    if ahead.map.mask == 0 {
+        return Tried::FewCells;
+    }
+    let prepared = prepare(l, noted, input, back, ahead);
+    write_left(chained, src, t, prepared, glyphs.len() % 4, area, out)
+}
+
+// What is left of a sound context, with both maps in cells, handed over if there is room.
+fn cut_maps(
+    chained: bool,
+    src: &[u8],
+    glyphs: &[u8],
+    l: Map,
+    m: Map,
+    t: &mut [u32],
+    area: &mut [u8],
+    out: &mut [u8],
+) -> Tried
+    requires { ⌜ Begins chained (now src) (now glyphs) l m (now t) (now area) ⌝ }
+    ensures { λ r. ⌜ CutsInto chained (now (src .entry)) (now (glyphs .entry)) l (now (t .entry)) (now (area .entry)) r (now (out .entry)) (now (out .exit)) ⌝ }
+{
+    let at = m.at + m.mask + 1;
+    if t.len() <= at + glyphs.len() / 4 {
+        return Tried::FewCells;
+    }
+    let len = meet(src, word_at(src, 2), glyphs, m, t, at);
+    if len == 0 {
+        return Tried::Became(Laid::Nothing);
+    }
+    cut_noted(chained, src, glyphs, l, Noted { at, len }, t, area, out)
+}
+
+// The same from the maps' lists, with lent scratch whose content is arbitrary.
+fn cut_in(
+    chained: bool,
+    src: &[u8],
+    glyphs: &[u8],
+    lookups: &[u8],
+    t: &mut [u32],
+    area: &mut [u8],
+    out: &mut [u8],
+) -> Tried
+    requires { ⌜ Sound chained (now src) (now glyphs) (now lookups) × (length (now t) ≤ 0x1_0000_0000) × (length (now area) ≤ 0x1_0000_0000) ⌝ }
+    ensures { λ r. ⌜ Tries (length (now (t .entry)) < enoughCells) (length (now (area .entry)) < enoughBytes) r (now (out .entry)) (now (out .exit)) (written (now (out .entry)) (cut (mapEntries (now (glyphs .entry))) (mapEntries (now (lookups .entry))) (classContext chained (now (src .entry))))) ⌝ }
+{
+    if word_at(src, 2) == 0 {
+        return Tried::Became(Laid::Nothing);
+    }
+    if input_at(chained, src) == 0 {
+        return Tried::Became(Laid::Nothing);
+    }
+    let l = lay(lookups, t, 0);
+    if l.mask == 0 {
+        return Tried::FewCells;
+    }
+    let m = lay(glyphs, t, l.mask + 1);
+    if m.mask == 0 {
+        return Tried::FewCells;
+    }
+    cut_maps(chained, src, glyphs, l, m, t, area, out)
+}
+
+// The lesser of two numbers.
+fn least(a: usize, b: usize) -> usize
+    ensures { λ r. ⌜ Least a b r ⌝ }
+{
+    if a < b {
+        return a;
+    }
+    b
+}
+
+// What is left of a sound context by class, plain or chained, under a glyph map and a lookup map, handed over if there is room, with lent scratch whose content is arbitrary.
+pub fn by_class(
+    chained: bool,
+    src: &[u8],
+    glyphs: &[u8],
+    lookups: &[u8],
+    t: &mut [u32],
+    area: &mut [u8],
+    out: &mut [u8],
+) -> Tried
+    requires { ⌜ Sound chained (now src) (now glyphs) (now lookups) ⌝ }
+    ensures { λ r. ⌜ Tries (length (now (t .entry)) < enoughCells) (length (now (area .entry)) < 262144) r (now (out .entry)) (now (out .exit)) (written (now (out .entry)) (cut (mapEntries (now (glyphs .entry))) (mapEntries (now (lookups .entry))) (classContext chained (now (src .entry))))) ⌝ }
+{
+    let cells = least(t.len(), CELLS);
+    let bytes = least(area.len(), BYTES);
+    cut_in(
+        chained,
+        src,
+        glyphs,
+        lookups,
+        &mut t[..cells],
+        &mut area[..bytes],
+        out,
+    )
+}

@@ -1,0 +1,111 @@
+-- Blocks that are laid down one after the other.
+use Prim.Native.Nat.{ℕ, _+_, _-_, _*_, _≤_, _<_}
+use mathlib.Core.Path.{_≡_, refl, sym, ap, _∙_, subst}
+use mathlib.Core.Bool.{Bool, true, false}
+use mathlib.Core.Option.{Option, none, some}
+use mathlib.Core.List.{List, [], _∷_, _++_, append-nil}
+use native.Mathlib.Decide.{decLt}
+use native.Mathlib.Omega.{arith}
+use lib.ListN.{length, length-append}
+use lib.Seq.{sets, length-sets}
+use Rattle.meaning.specs.Words.{bytes2, flat}
+use Rattle.meaning.specs.Layout.{offsets, blocks, coverageWords, classWords}
+use Rattle.laws.specs.Stands.{flat-length}
+use Rattle.laws.specs.Through.{offsets-length, offsets-append, blocks-append}
+use Rattle.laws.specs.Written.{sets-flat, flat-one}
+use Rattle.area.specs.Extends.{Extends, Tried, extends-none, extends-more, extends-said}
+use Rattle.area.specs.Part.{news, notes}
+use Rattle.area.specs.Stored.{extends-store}
+use Rattle.class_layouts.specs.Tail.{tableBlock, tableBlocks, tailBlocks, block-null, block-there, Lays, Places}
+use Rattle.class_layouts.specs.declared.NewTable.{NewTable}
+use Rattle.class_layouts.specs.declared.Tail.{Tail}
+
+module _ {before : List ℕ} {slot gap p : ℕ} where
+  -- past the area nothing is written
+  pub lays-over : (bs : List (Option (List ℕ))) → length before < p → Lays before slot gap p bs before p
+  lays-over bs h = record { same = refl; fits = λ g. absurd (omega arith); full = λ g. omega arith }
+
+  -- a null block has an offset only
+  lays-none : {mid : List ℕ} → p ≤ length before → mid ≡ sets before slot (bytes2 0) → Lays before slot gap p (none ∷ []) mid p
+  unfolding offsets blocks
+  lays-none {mid} h e =
+      let f : mid ≡ sets before slot (flat (0 ∷ [])) = e ∙ ap (sets before slot) (sym (flat-one 0)) in
+      let l : length mid ≡ length before = ap length e ∙ length-sets before slot (bytes2 0) in
+      record {
+        same = l;
+        fits = λ g. subst (λ (a : List ℕ). Extends a p [] mid p) f (extends-none (omega arith));
+        full = λ g. absurd (omega arith);
+      }
+
+  -- one block: its offset, and then itself
+  pub lays-one : (b : List ℕ) {mid after : List ℕ} {r : ℕ} → mid ≡ sets before slot (bytes2 (p - gap)) → Tried mid p b after r → Lays before slot gap p (some b ∷ []) after r
+  unfolding offsets blocks
+  lays-one b {mid} {after} {r} e h =
+      let f : mid ≡ sets before slot (flat ((p - gap) ∷ [])) = e ∙ ap (sets before slot) (sym (flat-one (p - gap))) in
+      let l : length mid ≡ length before = ap length e ∙ length-sets before slot (bytes2 (p - gap)) in
+      record {
+        same = h .same ∙ l;
+        fits = λ g. subst (λ (a : List ℕ). Extends a p (b ++ []) after r) f (extends-said (h .fits (omega arith)) (sym (append-nil b)));
+        full = λ g. omega (arith, h .full (omega arith), ap length (append-nil b));
+      }
+
+  -- a class table, null or not
+  module _ (t : List ℕ) (n : NewTable) where
+    pub table-null : {mid : List ℕ} → p ≤ length before → n .old ≡ 0 → mid ≡ sets before slot (bytes2 0) → Lays before slot gap p (tableBlock t n ∷ []) mid p
+    table-null {mid} h z e = subst (λ (o : Option (List ℕ)). Lays before slot gap p (o ∷ []) mid p) (sym (block-null t n z)) (lays-none h e)
+
+    pub table-there : {mid after : List ℕ} {r : ℕ} → (n .old ≡ 0 → ⊥) → mid ≡ sets before slot (bytes2 (p - gap)) → Tried mid p (classWords (notes t (n .list) (n .len))) after r
+        → Lays before slot gap p (tableBlock t n ∷ []) after r
+    table-there {mid} {after} {r} z e h = subst (λ (o : Option (List ℕ)). Lays before slot gap p (o ∷ []) after r) (sym (block-there t n z)) (lays-one (classWords (notes t (n .list) (n .len))) e h)
+
+  module _ {q r : ℕ} {xs ys : List (Option (List ℕ))} {mid after : List ℕ} (next : ℕ) (e : next ≡ slot + 2 * length xs) (l : next + 2 * length ys ≤ p) (near : gap ≤ p) (h : Lays before slot gap p xs mid q) (k : Lays mid next gap q ys after r) where
+    joined : Extends (sets mid next (flat (offsets (q - gap) ys))) q (blocks ys) after r → Extends (sets before slot (flat (offsets (p - gap) xs))) p (blocks xs) mid q
+        → Extends (sets before slot (flat (offsets (p - gap) (xs ++ ys)))) p (blocks (xs ++ ys)) after r
+    joined y x =
+        let z = extends-more (extends-store next (flat (offsets (q - gap) ys)) x (omega (arith, flat-length (offsets (q - gap) ys), offsets-length (q - gap) ys))) y in
+        let d : q - gap ≡ p - gap + 2 * length (blocks xs) = omega (arith, x .place) in
+        let o : offsets (p - gap) xs ++ offsets (q - gap) ys ≡ offsets (p - gap) (xs ++ ys) = ap (λ (n : ℕ). offsets (p - gap) xs ++ offsets n ys) d ∙ sym (offsets-append (p - gap) xs ys) in
+        let n : next ≡ slot + 2 * length (offsets (p - gap) xs) = omega (arith, offsets-length (p - gap) xs) in
+        let f : sets (sets before slot (flat (offsets (p - gap) xs))) next (flat (offsets (q - gap) ys)) ≡ sets before slot (flat (offsets (p - gap) (xs ++ ys))) =
+        ap (λ (n : ℕ). sets (sets before slot (flat (offsets (p - gap) xs))) n (flat (offsets (q - gap) ys))) n ∙ sets-flat before slot (offsets (p - gap) xs) (offsets (q - gap) ys) ∙ ap (λ (w : List ℕ). sets before slot (flat w)) o
+        in
+        subst (λ (a : List ℕ). Extends a p (blocks (xs ++ ys)) after r) f (extends-said z (sym (blocks-append xs ys)))
+
+    -- blocks after blocks
+    pub lays-more : Lays before slot gap p (xs ++ ys) after r
+    lays-more = record { same = k .same ∙ h .same; fits = λ g. within (k .fits (omega (arith, h .same))); full = λ g. over g (decLt (length before) q) }
+      where
+        within : Extends (sets mid next (flat (offsets (q - gap) ys))) q (blocks ys) after r → Extends (sets before slot (flat (offsets (p - gap) (xs ++ ys)))) p (blocks (xs ++ ys)) after r
+        within y = joined y (h .fits (omega (arith, y .place, y .room, length-sets mid next (flat (offsets (q - gap) ys)), h .same)))
+
+        over : length before < r → Dec (length before < q) → length before < p + 2 * length (blocks (xs ++ ys))
+        over g (yes d) = omega (arith, h .full d, ap length (blocks-append xs ys), length-append (blocks xs) (blocks ys))
+        over g (no d) = omega (arith, h .fits (omega arith) .place, k .full (omega (arith, h .same)), ap length (blocks-append xs ys), length-append (blocks xs) (blocks ys))
+
+-- What is asked where more is laid down.
+pub places-next : {before mid : List ℕ} {slot n gap p q at : ℕ} {bs : List (Option (List ℕ))} (next m : ℕ) → Places before slot n gap p → Lays before at gap p bs mid q → next + 2 * m ≤ slot + 2 * n → Places mid next m gap q
+places-next {before} {mid} {slot} {n} {gap} {p} {q} next m a h l = step (decLt (length before) q)
+  where
+    step : Dec (length before < q) → Places mid next m gap q
+    step (yes d) = record { inside = omega (arith, a .inside, h .same); before = omega (arith, a .inside); near = omega (arith, a .gapped); gapped = omega (arith, a .gapped, h .same); short = omega (arith, a .short, h .same) }
+    step (no d) =
+        let e = h .fits (omega arith) .place in
+        record { inside = omega (arith, a .inside, h .same); before = omega (arith, a .before, e); near = omega (arith, a .near, e); gapped = omega (arith, a .gapped, h .same); short = omega (arith, a .short, h .same) }
+
+-- the three class tables of a chained context, or the one of a plain one
+module _ {before : List ℕ} {gap p : ℕ} (t : List ℕ) (r : Tail) (a : Places before 4 3 gap p) where
+  pub tables-plain : {after : List ℕ} {end : ℕ} → Lays before 4 gap p (tableBlock t (r .input) ∷ []) after end → (chained : Bool) → chained ≡ false → Lays before 4 gap p (tableBlocks chained t r) after end
+  tables-plain h chained e = rw e h
+
+  pub tables-chained : {one two three : List ℕ} {u v end : ℕ} → Lays before 4 gap p (tableBlock t (r .back) ∷ []) one u → Lays one 6 gap u (tableBlock t (r .input) ∷ []) two v
+      → Lays two 8 gap v (tableBlock t (r .ahead) ∷ []) three end → (chained : Bool) → chained ≡ true → Lays before 4 gap p (tableBlocks chained t r) three end
+  tables-chained h k l chained e = rw e (lays-more 8 (omega arith) (omega (arith, a .before)) (a .near) (lays-more 6 (omega arith) (omega (arith, a .before)) (a .near) h k) l)
+
+-- the coverage, and the class tables after it
+pub tail-laid : {before one two three : List ℕ} {gap p q end : ℕ} (chained : Bool) (t : List ℕ) (r : Tail) → Places before 2 4 gap p → one ≡ sets before 2 (bytes2 (p - gap))
+    → Tried one p (coverageWords (news t (r .cover .at) (r .cover .len))) two q → Lays two 4 gap q (tableBlocks chained t r) three end → Lays before 2 gap p (tailBlocks chained t r) three end
+tail-laid {p = p} chained t r a e h k = lays-more 4 (omega arith) (few chained) (a .near) (lays-one (coverageWords (news t (r .cover .at) (r .cover .len))) e h) k
+  where
+    few : (c : Bool) → 4 + 2 * length (tableBlocks c t r) ≤ p
+    few true = omega (arith, a .before)
+    few false = omega (arith, a .before)

@@ -1,0 +1,38 @@
+use Rattle.class_slots.specs.Sets.{slots-near}
+use Rattle.class_layouts.proofs.Finishing.{tail-places, finish-table}
+use native.Mathlib.Omega.{arith}
+use borrow.Author.Needs.{needs}
+use Rattle.class_layouts.proofs.finish.Statement.{statement}
+use Rattle.class_layouts.proofs.finish.Tie as tie
+
+settle-requires : tie.Need-settle-requires
+settle-requires c κs = let p = c .before .before .before .before .pre in
+    (omega (arith, p .few, p .start, p .room, c .before .slots-at .ensures), omega (arith, p .few, p .low, c .before .slots-at .ensures, slots-near (c .before .before .before .before .args .chained)))
+
+write-tail-requires : tie.Need-write-tail-requires
+write-tail-requires c κs = let p = c .before .before .before .before .before .before .before .before .before .before .before .before .pre in
+    let q = tail-places p (c .before .before .before .before .before .before .before .before .before .slots-at .ensures) (c .before .before .before .before .before .before .before .settle .ensures) (c .before .before .before .put .ensures .1) in
+    (p .tail-in, q, omega (arith, p .room, q .inside))
+
+sub-put : tie.Need-sub-put
+sub-put c = omega (arith, c .before .before .before .before .before .before .before .before .before .before .before .before .before .slots-at .ensures, slots-near (c .before .before .before .before .before .before .before .before .before .before .before .before .before .before .before .before .args .chained))
+
+returns : tie.Need-returns
+returns c = finish-table (c .before .before .before .before .before .before .before .before .before .before .before .before .before .before .before .before .before .before .before .pre) (c .before .before .before .before .before .before .before .before .before .before .before .before .before .before .before .before .slots-at .ensures) (c .before .before .before .before .before .before .before .before .before .before .before .before .before .before .settle .ensures) (c .before .before .before .before .before .before .before .before .before .before .put .ensures .1) (c .before .before .before .before .before .before .write-tail .ensures) (c .before .before .put2 .ensures .1)
+
+pub finish-spec : {M : Type 1} → statement M
+finish-spec =
+    tie.close
+    (tie.spec
+    (λ c κs. search needs)
+    (λ c. search needs)
+    (λ c. search needs)
+    settle-requires
+    (λ c κs. search needs)
+    (λ c. search needs)
+    (λ c. search needs)
+    write-tail-requires
+    sub-put
+    (λ c κs. search needs)
+    (λ c. search needs)
+    returns)

@@ -1,0 +1,3 @@
+pub mod Tail
+pub mod Table
+pub mod Written

@@ -1,0 +1,3 @@
+pub mod Lays
+pub mod Rows
+pub mod Parts

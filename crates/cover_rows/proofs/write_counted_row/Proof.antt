@@ -1,0 +1,11 @@
+use Rattle.cover_rows.proofs.Lays.{laid-said}
+use borrow.Author.Needs.{needs}
+use Rattle.cover_rows.proofs.write_counted_row.Statement.{statement}
+use Rattle.cover_rows.proofs.write_counted_row.Tie as tie
+
+returns : tie.Need-returns
+returns c = laid-said (c .before .before .before .before .before .before .before .before .before .put .ensures .1) (c .before .before .before .before .write-row .ensures)
+
+pub write-counted-row-spec : {M : Type 1} → statement M
+write-counted-row-spec =
+    tie.close (tie.spec (λ c. search needs) (λ c κs. search needs) (λ c κs. search needs) (λ c. search needs) (λ c. search needs) returns)

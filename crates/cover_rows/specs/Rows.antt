@@ -1,0 +1,81 @@
+-- Rows of offsets that reach coverages: what is left of the coverages, and how it is laid into the area.
+use Prim.Native.Nat.{ℕ, _+_, _*_, _/_, _≤_, _<_}
+use mathlib.Core.Path.{_≡_}
+use mathlib.Core.Bool.{true}
+use mathlib.Core.Option.{Option, none, some}
+use mathlib.Core.List.{List, [], _∷_}
+use lib.ListN.{length}
+use lib.Seq.{sets}
+use Rattle.meaning.specs.Words.{word, flat, bind, mapAll, keys, ascends}
+use Rattle.meaning.specs.Maps.{mapEntries}
+use Rattle.meaning.specs.Parts.{coverage, coverageSound}
+use Rattle.meaning.specs.Tables.{reaches}
+use Rattle.meaning.specs.Fault.{faultThrough, coverageFault}
+use Rattle.meaning.specs.Cut.{unlessEmpty, newCoverage}
+use Rattle.meaning.specs.Layout.{offsets, blocks, coverageWords}
+use Rattle.fold.specs.Cells.{Holds, Kept}
+use Rattle.fold.specs.declared.Map.{Map}
+use Rattle.area.specs.Extends.{Extends}
+use Rattle.cover_rows.specs.declared.Row.{Row}
+
+-- the block of a coverage that is not null and keeps a glyph
+unfoldable pub blockLeft : List (ℕ × ℕ) → Option (List ℕ) → Option (Option (List ℕ))
+blockLeft g c = bind c (λ cov. bind (unlessEmpty (newCoverage g cov)) (λ k. some (some (coverageWords k))))
+
+-- the blocks of coverages, if none is null or left with no glyph
+unfoldable pub blocksLeft : List (ℕ × ℕ) → List (Option (List ℕ)) → Option (List (Option (List ℕ)))
+blocksLeft g cs = mapAll (blockLeft g) cs
+
+-- of the coverage at a place
+abbrev pub slotLeft : List (ℕ × ℕ) → List ℕ → ℕ → Option (List (Option (List ℕ)))
+slotLeft g s p = blocksLeft g (some (coverage s p) ∷ [])
+
+-- of those that a row reaches
+abbrev pub rowLeft : List (ℕ × ℕ) → List ℕ → Row → Option (List (Option (List ℕ)))
+rowLeft g s r = blocksLeft g (reaches (coverage s) s 0 (r .at) (r .len))
+
+-- Blocks were laid down: their offsets from `slot` on, counted from the area's start, and themselves from p on; r is the place after them, or past the area, which is then too short for them.
+pub record Lays (before : List ℕ) (slot p : ℕ) (bs : List (Option (List ℕ))) (after : List ℕ) (r : ℕ) : Type 0 where
+  pub fits : r ≤ length before → Extends (sets before slot (flat (offsets p bs))) p (blocks bs) after r
+  pub full : length before < r → length before < p + 2 * length (blocks bs)
+
+-- the blocks that are left were laid down, or r is 0, and none are left; the cells up to the glyph map's last are as before
+pub record LaysLeft (left : Option (List (Option (List ℕ)))) (m : Map) (t₀ t before : List ℕ) (slot p : ℕ) (after : List ℕ) (r : ℕ) : Type 0 where
+  pub cells : Kept (m .at + m .mask + 1) t₀ t
+  pub same : length after ≡ length before
+  pub gone : left ≡ none → r ≡ 0
+  pub stays : {bs : List (Option (List ℕ))} → left ≡ some bs → Lays before slot p bs after r
+
+-- r is the place p if blocks are left, and 0 if none are
+pub record Passes (left : Option (List (Option (List ℕ)))) (p r : ℕ) : Type 0 where
+  pub gone : left ≡ none → r ≡ 0
+  pub stays : {bs : List (Option (List ℕ))} → left ≡ some bs → r ≡ p
+
+-- what the cutting of a coverage asks of the scratch: m holds the glyph map, whose old numbers ascend, and behind its cells there is one cell more than the map has entries
+pub record Ready (glyphs : List ℕ) (m : Map) (t : List ℕ) : Type 0 where
+  pub ascend : ascends (keys (mapEntries glyphs)) ≡ true
+  pub holds : Holds t m (mapEntries glyphs)
+  pub room : m .at + m .mask + 1 + length glyphs / 4 < length t
+
+-- what is asked where it is written: it is sound, its offset's place lies in the area, and no scratch is over 4 GB
+pub record WritesSlot (s : List ℕ) (cover : ℕ) (glyphs : List ℕ) (m : Map) (t area : List ℕ) (slot p : ℕ) : Type 0 where
+  pub sound : coverageSound s cover ≡ true
+  pub ready : Ready glyphs m t
+  pub inside : slot + 2 ≤ length area
+  pub short : length area ≤ 0x1_0000_0000
+  pub cells : length t ≤ 0x1_0000_0000
+
+-- a row lies inside, and each coverage that it reaches is sound
+pub record SoundRow (s : List ℕ) (r : Row) : Type 0 where
+  pub inside : r .at + 2 * r .len ≤ length s
+  pub sound : faultThrough (coverageFault s) s 0 (r .at) (r .len) ≡ none
+
+-- the same for a row: the places of its offsets end before `pos`
+pub record WritesRow (s : List ℕ) (r : Row) (glyphs : List ℕ) (m : Map) (t area : List ℕ) (pos : ℕ) : Type 0 where
+  pub row : SoundRow s r
+  pub ready : Ready glyphs m t
+  pub inside : r .at + 2 * r .len ≤ length area
+  pub before : r .at + 2 * r .len ≤ pos
+  pub start : 0 < pos
+  pub short : length area ≤ 0x1_0000_0000
+  pub cells : length t ≤ 0x1_0000_0000

@@ -1,0 +1,157 @@
+-- What a source asks and says, by its kind and its format.
+use Prim.Native.Nat.{ℕ, _≤_, _<_}
+use mathlib.Core.Path.{_≡_, refl, sym, ap, _∙_}
+use mathlib.Core.Bool.{Bool, true, false, cond, true≢false}
+use mathlib.Core.Option.{Option, none}
+use mathlib.Core.List.{List, []}
+use native.Mathlib.Omega.{arith}
+use lib.ListN.{length}
+use lib.Dec.{eqb}
+use borrow.Author.Tests.{ne-eqb, eq-eqb, le-leb}
+use Rattle.meaning.specs.Words.{word, inside, isSome, keys, ascends}
+use Rattle.meaning.specs.Maps.{mapEntries}
+use Rattle.meaning.specs.Tables.{Table, classContext, coverContext, context, table}
+use Rattle.meaning.specs.Fault.{headerFault, enough, fault}
+use Rattle.meaning.specs.Cut.{cut}
+use Rattle.meaning.specs.Subset.{limit, written}
+use Rattle.laws.specs.Ascends.{glyphs-ascend, lookups-ascend}
+use Rattle.checks.proofs.Laws.{context-1, context-3, source-short, source-plain, source-chained, source-ligatures, source-pairs}
+use Rattle.kept_sets.specs.Sorts.{setFaultOf}
+use Rattle.kept_sets.specs.declared.Sort.the-variants.{Rules, Ligatures}
+use Rattle.tried.specs.Tries.{Tries, tries-less}
+use Rattle.tried.specs.declared.Tried.{Tried}
+use Rattle.by_glyph.specs.Whole.{glyphContext, ligatureTable}
+use Rattle.by_glyph.specs.PairTables.{pairFault, pairTable}
+use Rattle.covers.specs.Cutting as covers
+use Rattle.class_contexts.specs.Cutting as classes
+use Rattle.cut.specs.Cutting.{Sound, SoundContext, enoughBytes, classCells, otherCells, byClasses, contextCells, cellsFor}
+
+-- the cells that are enough for a context
+module _ (s : List ℕ) where
+  other-few : (n : ℕ) → n < otherCells → n < contextCells s
+  unfolding contextCells
+  other-few n h = step (eqb (word s 0) 2)
+    where
+      step : (b : Bool) → n < cond b classCells otherCells
+      step true = omega arith
+      step false = h
+
+  class-few : (n : ℕ) → word s 0 ≡ 2 → n < classCells → n < contextCells s
+  unfolding contextCells
+  class-few n e h = rw (eq-eqb (word s 0) 2 e) h
+
+-- and for any source
+module _ (kind : ℕ) (s : List ℕ) where
+  context-few : kind ≤ 2 → (n : ℕ) → n < contextCells s → n < cellsFor kind s
+  unfolding contextCells cellsFor byClasses
+  context-few k n h = rw (le-leb kind 2 k) h
+
+  source-few : (n : ℕ) → n < otherCells → n < cellsFor kind s
+  unfolding cellsFor
+  source-few n h = step (byClasses kind s)
+    where
+      step : (b : Bool) → n < cond b classCells otherCells
+      step true = omega arith
+      step false = h
+
+-- A context by its format.
+module _ (chained : Bool) (s : List ℕ) {format : ℕ} (e : format ≡ word s 0) where
+  module _ {g l : List ℕ} (a : SoundContext chained s g l) where
+    pub asks-1 : format ≡ 1 → (headerFault (enough s (word s 4)) 0 4 (setFaultOf (Rules chained) s) s ≡ none) × (length s ≤ limit) × (ascends (keys (mapEntries g)) ≡ true) × (ascends (keys (mapEntries l)) ≡ true)
+    unfolding setFaultOf
+    asks-1 f = (sym (context-1 chained s e f) ∙ a .sound, a .source, glyphs-ascend g (a .glyphs-good), lookups-ascend l (a .lookups-good))
+
+    pub asks-2 : format ≡ 2 → classes.Sound chained s g l
+    asks-2 f = record { sound = a .sound; format = sym e ∙ f; source = a .source; glyphs-good = a .glyphs-good; lookups-ascend = lookups-ascend l (a .lookups-good) }
+
+    pub asks-3 : (format ≡ 1 → ⊥) → (format ≡ 2 → ⊥) → covers.Sound chained s g l
+    asks-3 f h = record { sound = sym (context-3 chained s e f h) ∙ a .sound; source = a .source; glyphs-ascend = glyphs-ascend g (a .glyphs-good); lookups-ascend = lookups-ascend l (a .lookups-good) }
+
+  says-1 : format ≡ 1 → glyphContext chained s ≡ context chained s
+  unfolding context
+  says-1 f = rw (← e, f)
+
+  says-2 : format ≡ 2 → classContext chained s ≡ context chained s
+  unfolding context
+  says-2 f = rw (← e, f)
+
+  says-3 : (format ≡ 1 → ⊥) → (format ≡ 2 → ⊥) → coverContext chained s ≡ context chained s
+  unfolding context
+  says-3 f h = rw (← e, ne-eqb format 1 f, ne-eqb format 2 h)
+
+  -- what each format's cut answers is what a context's cut answers
+  module _ (g l : List (ℕ × ℕ)) (n b : ℕ) (r : Tried) (out after : List ℕ) where
+    pub tries-1 : format ≡ 1 → Tries (n < otherCells) (b < enoughBytes) r out after (written out (cut g l (glyphContext chained s))) → Tries (n < contextCells s) (b < enoughBytes) r out after (written out (cut g l (context chained s)))
+    tries-1 f h = tries-less (n < otherCells) (b < enoughBytes) (n < contextCells s) (b < enoughBytes) r out after (written out (cut g l (context chained s))) (other-few s n) (λ x. x) (rw (says-1 f) at h)
+
+    pub tries-2 : format ≡ 2 → Tries (n < classCells) (b < enoughBytes) r out after (written out (cut g l (classContext chained s))) → Tries (n < contextCells s) (b < enoughBytes) r out after (written out (cut g l (context chained s)))
+    tries-2 f h = tries-less (n < classCells) (b < enoughBytes) (n < contextCells s) (b < enoughBytes) r out after (written out (cut g l (context chained s))) (class-few s n (sym e ∙ f)) (λ x. x) (rw (says-2 f) at h)
+
+    pub tries-3 : (format ≡ 1 → ⊥) → (format ≡ 2 → ⊥) → Tries (n < otherCells) (b < limit) r out after (written out (cut g l (coverContext chained s))) → Tries (n < contextCells s) (b < enoughBytes) r out after (written out (cut g l (context chained s)))
+    unfolding limit
+    tries-3 f k h = tries-less (n < otherCells) (b < limit) (n < contextCells s) (b < enoughBytes) r out after (written out (cut g l (context chained s))) (other-few s n) (λ x. omega arith) (rw (says-3 f k) at h)
+
+-- a source without a fault has its first two bytes
+sound-inside : (kind : ℕ) (s : List ℕ) → fault kind s ≡ none → inside s 0 2 ≡ true
+unfolding isSome
+sound-inside kind s h = step (inside s 0 2) refl
+  where
+    step : (b : Bool) → inside s 0 2 ≡ b → inside s 0 2 ≡ true
+    step true e = e
+    step false e = absurd (true≢false (ap isSome (sym (source-short kind s e) ∙ h)))
+
+-- A source by its kind.
+module _ (kind : ℕ) (s : List ℕ) where
+  module _ {g l : List ℕ} (a : Sound kind s g l) where
+    starts : inside s 0 2 ≡ true
+    starts = sound-inside kind s (a .sound)
+
+    pub asks-plain : kind ≡ 1 → SoundContext false s g l
+    asks-plain e = record { sound = sym (source-plain kind s starts e) ∙ a .sound; source = a .source; glyphs-good = a .glyphs-good; lookups-good = a .lookups-good }
+
+    pub asks-chained : kind ≡ 2 → SoundContext true s g l
+    asks-chained e = record { sound = sym (source-chained kind s starts e) ∙ a .sound; source = a .source; glyphs-good = a .glyphs-good; lookups-good = a .lookups-good }
+
+    pub asks-ligatures : kind ≡ 3 → (headerFault (enough s (word s 4)) 0 4 (setFaultOf Ligatures s) s ≡ none) × (length s ≤ limit) × (ascends (keys (mapEntries g)) ≡ true)
+    unfolding setFaultOf
+    asks-ligatures e = (sym (source-ligatures kind s starts e) ∙ a .sound, a .source, glyphs-ascend g (a .glyphs-good))
+
+    pub asks-pairs : (kind ≡ 1 → ⊥) → (kind ≡ 2 → ⊥) → (kind ≡ 3 → ⊥) → (pairFault s ≡ none) × (length s ≤ limit) × (ascends (keys (mapEntries g)) ≡ true)
+    asks-pairs x y z = (sym (source-pairs kind s starts x y z) ∙ a .sound, a .source, glyphs-ascend g (a .glyphs-good))
+
+  says-plain : kind ≡ 1 → context false s ≡ table kind s
+  unfolding table
+  says-plain e = rw e
+
+  says-chained : kind ≡ 2 → context true s ≡ table kind s
+  unfolding table
+  says-chained e = rw e
+
+  -- no lookup is named by ligatures and pairs
+  says-ligatures : (g l : List (ℕ × ℕ)) → kind ≡ 3 → cut g [] (ligatureTable s) ≡ cut g l (table kind s)
+  unfolding table cut
+  says-ligatures g l e = rw e
+
+  says-pairs : (g l : List (ℕ × ℕ)) → (kind ≡ 1 → ⊥) → (kind ≡ 2 → ⊥) → (kind ≡ 3 → ⊥) → cut g [] (pairTable s) ≡ cut g l (table kind s)
+  unfolding table cut
+  says-pairs g l x y z = rw (ne-eqb kind 1 x, ne-eqb kind 2 y, ne-eqb kind 3 z)
+
+  -- what each kind's cut answers is what a source's cut answers
+  module _ (g l : List (ℕ × ℕ)) (n b : ℕ) (r : Tried) (out after : List ℕ) where
+    abbrev Cut : Type 0
+    Cut = Tries (n < cellsFor kind s) (b < enoughBytes) r out after (written out (cut g l (table kind s)))
+
+    pub tries-plain : kind ≡ 1 → Tries (n < contextCells s) (b < enoughBytes) r out after (written out (cut g l (context false s))) → Cut
+    tries-plain e h = tries-less (n < contextCells s) (b < enoughBytes) (n < cellsFor kind s) (b < enoughBytes) r out after (written out (cut g l (table kind s))) (context-few kind s (omega arith) n) (λ x. x) (rw (says-plain e) at h)
+
+    pub tries-chained : kind ≡ 2 → Tries (n < contextCells s) (b < enoughBytes) r out after (written out (cut g l (context true s))) → Cut
+    tries-chained e h = tries-less (n < contextCells s) (b < enoughBytes) (n < cellsFor kind s) (b < enoughBytes) r out after (written out (cut g l (table kind s))) (context-few kind s (omega arith) n) (λ x. x) (rw (says-chained e) at h)
+
+    tries-other : {made : Option Table} → made ≡ cut g l (table kind s) → Tries (n < otherCells) (b < enoughBytes) r out after (written out made) → Cut
+    tries-other m h = tries-less (n < otherCells) (b < enoughBytes) (n < cellsFor kind s) (b < enoughBytes) r out after (written out (cut g l (table kind s))) (source-few kind s n) (λ x. x) (rw m at h)
+
+    pub tries-ligatures : kind ≡ 3 → Tries (n < otherCells) (b < enoughBytes) r out after (written out (cut g [] (ligatureTable s))) → Cut
+    tries-ligatures e h = tries-other (says-ligatures g l e) h
+
+    pub tries-pairs : (kind ≡ 1 → ⊥) → (kind ≡ 2 → ⊥) → (kind ≡ 3 → ⊥) → Tries (n < otherCells) (b < enoughBytes) r out after (written out (cut g [] (pairTable s))) → Cut
+    tries-pairs x y z h = tries-other (says-pairs g l x y z) h

@@ -1,0 +1,60 @@
+-- What a cut asks and answers, by the kind and the format of its source.
+use Prim.Native.Nat.{ℕ, _≤_, _<_}
+use mathlib.Core.Path.{_≡_}
+use mathlib.Core.Bool.{Bool, true, cond, _&&_}
+use mathlib.Core.Option.{none}
+use mathlib.Core.List.{List}
+use lib.ListN.{length}
+use lib.Dec.{leb, eqb}
+use Rattle.meaning.specs.Words.{word}
+use Rattle.meaning.specs.Maps.{goodGlyphs, goodLookups}
+use Rattle.meaning.specs.Fault.{contextFault, fault}
+use Rattle.meaning.specs.Subset.{Outcome, limit}
+use Rattle.tried.specs.Tries.{Tries}
+use Rattle.tried.specs.declared.Tried.{Tried}
+use Rattle.covers.specs.Cutting as covers
+use Rattle.class_contexts.specs.Cutting as classes
+
+-- what a cut asks: the source has no fault and is not over the limit, and both maps are good
+pub record Sound (kind : ℕ) (s glyphs lookups : List ℕ) : Type 0 where
+  pub sound : fault kind s ≡ none
+  pub source : length s ≤ limit
+  pub glyphs-good : goodGlyphs glyphs ≡ true
+  pub lookups-good : goodLookups lookups ≡ true
+
+-- the same of a context
+pub record SoundContext (chained : Bool) (s glyphs lookups : List ℕ) : Type 0 where
+  pub sound : contextFault chained s ≡ none
+  pub source : length s ≤ limit
+  pub glyphs-good : goodGlyphs glyphs ≡ true
+  pub lookups-good : goodLookups lookups ≡ true
+
+-- the bytes of an area that are enough for any source
+abbrev pub enoughBytes : ℕ
+enoughBytes = 262144
+
+-- the cells that are enough for a context by classes, and those that are for any other source
+abbrev pub classCells : ℕ
+classCells = classes.enoughCells
+
+abbrev pub otherCells : ℕ
+otherCells = covers.enoughCells
+
+-- a source of this kind is a context by classes
+unfoldable pub byClasses : ℕ → List ℕ → Bool
+byClasses kind s = leb kind 2 && eqb (word s 0) 2
+
+-- the cells that are enough for a context, by its format, and for a source, by its kind
+unfoldable pub contextCells : List ℕ → ℕ
+contextCells s = cond (eqb (word s 0) 2) classCells otherCells
+
+unfoldable pub cellsFor : ℕ → List ℕ → ℕ
+cellsFor kind s = cond (byClasses kind s) classCells otherCells
+
+-- the answer's outcome is `made`; or the scratch was too short, and the buffer is untouched
+pub record UnlessShort (r : Tried) (before after : List ℕ) (made : Outcome) : Type 0 where
+  pub tried : Tries (Unit {0}) (Unit {0}) r before after made
+
+-- the answer's outcome is `made`, since the scratch is never too short
+pub record NeverShort (r : Tried) (before after : List ℕ) (made : Outcome) : Type 0 where
+  pub tried : Tries (⊥) (⊥) r before after made

@@ -1,0 +1,316 @@
+// What is left of a sound source, by its kind and its format, with the work space: lent, or our own in few sizes.
+use by_glyph::contexts;
+use by_glyph::ligatures;
+use by_glyph::pairs;
+use class_contexts::by_class;
+use covers::by_cover;
+use fold::cells;
+use room::LIMIT;
+use room::Laid;
+use tried::Tried;
+use wire::word_at;
+ghost use mathlib.Core.Path.{_≡_};
+ghost use mathlib.Core.Bool.{false};
+ghost use Prim.Native.Nat.{_≤_, _<_};
+ghost use lib.ListN.{length};
+ghost use Rattle.meaning.specs.Maps.{mapEntries};
+ghost use Rattle.meaning.specs.Tables.{context, table};
+ghost use Rattle.meaning.specs.Cut.{cut};
+ghost use Rattle.meaning.specs.Subset.{limit, written};
+ghost use Rattle.room.specs.Laid.{outcomeOf};
+ghost use Rattle.tried.specs.Tries.{Tries};
+ghost use Rattle.cut.specs.Cutting.{SoundContext, Sound, contextCells, cellsFor, enoughBytes, byClasses, UnlessShort, NeverShort};
+
+// The cells and the bytes that are enough for any source.
+pub const CELLS: usize = class_contexts::CELLS;
+
+pub const BYTES: usize = 4 * LIMIT;
+
+// The cells that are enough for any source but a context by classes.
+const CELLS_BUT_CLASSES: usize = covers::CELLS;
+
+// Scratch of our own comes in sizes that are enough for most sources, so that little is cleared for a small job.
+const LITTLE_CELLS: usize = 512;
+
+const LITTLE_BYTES: usize = 1024;
+
+const SOME_CELLS: usize = 4608;
+
+const SOME_BYTES: usize = 8192;
+
+const MORE_CELLS: usize = 12288;
+
+const MORE_BYTES: usize = 24576;
+
+const MUCH_CELLS: usize = 40960;
+
+const MUCH_BYTES: usize = 65536;
+
+// What is left of a sound context, plain or chained, by its format.
+fn context_in(
+    chained: bool,
+    src: &[u8],
+    glyphs: &[u8],
+    lookups: &[u8],
+    t: &mut [u32],
+    area: &mut [u8],
+    out: &mut [u8],
+) -> Tried
+    requires { ⌜ SoundContext chained (now src) (now glyphs) (now lookups) ⌝ }
+    ensures { λ r. ⌜ Tries (length (now (t .entry)) < contextCells (now (src .entry))) (length (now (area .entry)) < enoughBytes) r (now (out .entry)) (now (out .exit)) (written (now (out .entry)) (cut (mapEntries (now (glyphs .entry))) (mapEntries (now (lookups .entry))) (context chained (now (src .entry))))) ⌝ }
+{
+    let format = word_at(src, 0);
+    match format {
+        1 => contexts(chained, src, glyphs, lookups, t, area, out),
+        2 => by_class(chained, src, glyphs, lookups, t, area, out),
+        _ => by_cover(chained, src, glyphs, lookups, t, area, out),
+    }
+}
+
+// What is left of a sound source of this kind under a glyph map and a lookup map, handed over if there is room, with lent scratch whose content is arbitrary: 1 context, 2 chained, 3 ligature, and pair for any other.
+// Where the scratch is too short the buffer is untouched; with `CELLS` cells and `BYTES` bytes it never is.
+pub fn cut_in(
+    kind: usize,
+    src: &[u8],
+    glyphs: &[u8],
+    lookups: &[u8],
+    t: &mut [u32],
+    area: &mut [u8],
+    out: &mut [u8],
+) -> Tried
+    requires { ⌜ Sound kind (now src) (now glyphs) (now lookups) ⌝ }
+    ensures { λ r. ⌜ Tries (length (now (t .entry)) < cellsFor kind (now (src .entry))) (length (now (area .entry)) < enoughBytes) r (now (out .entry)) (now (out .exit)) (written (now (out .entry)) (cut (mapEntries (now (glyphs .entry))) (mapEntries (now (lookups .entry))) (table kind (now (src .entry))))) ⌝ }
+{
+    match kind {
+        1 => context_in(false, src, glyphs, lookups, t, area, out),
+        2 => context_in(true, src, glyphs, lookups, t, area, out),
+        3 => ligatures(src, glyphs, t, area, out),
+        _ => pairs(src, glyphs, t, area, out),
+    }
+}
+
+// With little scratch, which is enough for most tables of a small font.
+fn in_little(kind: usize, src: &[u8], glyphs: &[u8], lookups: &[u8], out: &mut [u8]) -> Tried
+    requires { ⌜ Sound kind (now src) (now glyphs) (now lookups) ⌝ }
+    ensures { λ r. ⌜ UnlessShort r (now (out .entry)) (now (out .exit)) (written (now (out .entry)) (cut (mapEntries (now (glyphs .entry))) (mapEntries (now (lookups .entry))) (table kind (now (src .entry))))) ⌝ }
+{
+    let mut t = [0u32; LITTLE_CELLS];
+    let mut area = [0u8; LITTLE_BYTES];
+    cut_in(kind, src, glyphs, lookups, &mut t, &mut area, out)
+}
+
+// The same with some scratch.
+// It calls itself, so that the compiler keeps its arrays out of its caller's frame: a small job would pay for them, and docs/SPEED.md says how much. How often it does, `rounds`, is 0 for a map of whole entries. The sizes after it do the same.
+fn in_some(
+    kind: usize,
+    src: &[u8],
+    glyphs: &[u8],
+    lookups: &[u8],
+    rounds: usize,
+    out: &mut [u8],
+) -> Tried
+    requires { ⌜ Sound kind (now src) (now glyphs) (now lookups) ⌝ }
+    ensures { λ r. ⌜ UnlessShort r (now (out .entry)) (now (out .exit)) (written (now (out .entry)) (cut (mapEntries (now (glyphs .entry))) (mapEntries (now (lookups .entry))) (table kind (now (src .entry))))) ⌝ }
+{
+    if rounds != 0 {
+        return in_some(kind, src, glyphs, lookups, rounds - 1, out);
+    }
+    let mut t = [0u32; SOME_CELLS];
+    let mut area = [0u8; SOME_BYTES];
+    cut_in(kind, src, glyphs, lookups, &mut t, &mut area, out)
+}
+
+// The same with more scratch.
+fn in_more(
+    kind: usize,
+    src: &[u8],
+    glyphs: &[u8],
+    lookups: &[u8],
+    rounds: usize,
+    out: &mut [u8],
+) -> Tried
+    requires { ⌜ Sound kind (now src) (now glyphs) (now lookups) ⌝ }
+    ensures { λ r. ⌜ UnlessShort r (now (out .entry)) (now (out .exit)) (written (now (out .entry)) (cut (mapEntries (now (glyphs .entry))) (mapEntries (now (lookups .entry))) (table kind (now (src .entry))))) ⌝ }
+{
+    if rounds != 0 {
+        return in_more(kind, src, glyphs, lookups, rounds - 1, out);
+    }
+    let mut t = [0u32; MORE_CELLS];
+    let mut area = [0u8; MORE_BYTES];
+    cut_in(kind, src, glyphs, lookups, &mut t, &mut area, out)
+}
+
+// The same with much scratch.
+fn in_much(
+    kind: usize,
+    src: &[u8],
+    glyphs: &[u8],
+    lookups: &[u8],
+    rounds: usize,
+    out: &mut [u8],
+) -> Tried
+    requires { ⌜ Sound kind (now src) (now glyphs) (now lookups) ⌝ }
+    ensures { λ r. ⌜ UnlessShort r (now (out .entry)) (now (out .exit)) (written (now (out .entry)) (cut (mapEntries (now (glyphs .entry))) (mapEntries (now (lookups .entry))) (table kind (now (src .entry))))) ⌝ }
+{
+    if rounds != 0 {
+        return in_much(kind, src, glyphs, lookups, rounds - 1, out);
+    }
+    let mut t = [0u32; MUCH_CELLS];
+    let mut area = [0u8; MUCH_BYTES];
+    cut_in(kind, src, glyphs, lookups, &mut t, &mut area, out)
+}
+
+// The same with scratch that is enough for any source but a context by classes.
+fn in_all_but_classes(
+    kind: usize,
+    src: &[u8],
+    glyphs: &[u8],
+    lookups: &[u8],
+    rounds: usize,
+    out: &mut [u8],
+) -> Tried
+    requires { ⌜ Sound kind (now src) (now glyphs) (now lookups) × (byClasses kind (now src) ≡ false) ⌝ }
+    ensures { λ r. ⌜ NeverShort r (now (out .entry)) (now (out .exit)) (written (now (out .entry)) (cut (mapEntries (now (glyphs .entry))) (mapEntries (now (lookups .entry))) (table kind (now (src .entry))))) ⌝ }
+{
+    if rounds != 0 {
+        return in_all_but_classes(kind, src, glyphs, lookups, rounds - 1, out);
+    }
+    let mut t = [0u32; CELLS_BUT_CLASSES];
+    let mut area = [0u8; BYTES];
+    cut_in(kind, src, glyphs, lookups, &mut t, &mut area, out)
+}
+
+// The same with scratch that is enough for any source.
+fn in_all(
+    kind: usize,
+    src: &[u8],
+    glyphs: &[u8],
+    lookups: &[u8],
+    rounds: usize,
+    out: &mut [u8],
+) -> Tried
+    requires { ⌜ Sound kind (now src) (now glyphs) (now lookups) ⌝ }
+    ensures { λ r. ⌜ NeverShort r (now (out .entry)) (now (out .exit)) (written (now (out .entry)) (cut (mapEntries (now (glyphs .entry))) (mapEntries (now (lookups .entry))) (table kind (now (src .entry))))) ⌝ }
+{
+    if rounds != 0 {
+        return in_all(kind, src, glyphs, lookups, rounds - 1, out);
+    }
+    let mut t = [0u32; CELLS];
+    let mut area = [0u8; BYTES];
+    cut_in(kind, src, glyphs, lookups, &mut t, &mut area, out)
+}
+
+// Whether a source of this kind is a context by classes.
+fn by_classes(kind: usize, src: &[u8]) -> bool
+    ensures { λ r. ⌜ r ≡ byClasses kind (now (src .entry)) ⌝ }
+{
+    if 2 < kind {
+        return false;
+    }
+    word_at(src, 0) == 2
+}
+
+// With scratch that is enough for any source of this kind and format.
+fn in_most(kind: usize, src: &[u8], glyphs: &[u8], lookups: &[u8], out: &mut [u8]) -> Tried
+    requires { ⌜ Sound kind (now src) (now glyphs) (now lookups) ⌝ }
+    ensures { λ r. ⌜ NeverShort r (now (out .entry)) (now (out .exit)) (written (now (out .entry)) (cut (mapEntries (now (glyphs .entry))) (mapEntries (now (lookups .entry))) (table kind (now (src .entry))))) ⌝ }
+{
+    if by_classes(kind, src) {
+        return in_all(kind, src, glyphs, lookups, glyphs.len() % 4, out);
+    }
+    in_all_but_classes(kind, src, glyphs, lookups, glyphs.len() % 4, out)
+}
+
+// With one of the sizes that are not enough for any source: 0 is little scratch, 1 some, 2 more, and any other much.
+fn in_size(
+    size: usize,
+    kind: usize,
+    src: &[u8],
+    glyphs: &[u8],
+    lookups: &[u8],
+    out: &mut [u8],
+) -> Tried
+    requires { ⌜ Sound kind (now src) (now glyphs) (now lookups) ⌝ }
+    ensures { λ r. ⌜ UnlessShort r (now (out .entry)) (now (out .exit)) (written (now (out .entry)) (cut (mapEntries (now (glyphs .entry))) (mapEntries (now (lookups .entry))) (table kind (now (src .entry))))) ⌝ }
+{
+    match size {
+        0 => in_little(kind, src, glyphs, lookups, out),
+        1 => in_some(kind, src, glyphs, lookups, glyphs.len() % 4, out),
+        2 => in_more(kind, src, glyphs, lookups, glyphs.len() % 4, out),
+        _ => in_much(kind, src, glyphs, lookups, glyphs.len() % 4, out),
+    }
+}
+
+// How many cells the cut is likely to use; no more than a guess, which saves the clearing of scratch.
+fn likely_cells(kind: usize, src: &[u8], glyphs: &[u8], lookups: &[u8]) -> usize {
+    let n = glyphs.len() / 4;
+    let in_maps = cells(lookups) + cells(glyphs) + n + 1;
+    if by_classes(kind, src) {
+        return in_maps + 3 * n + 256;
+    }
+    in_maps
+}
+
+// How many bytes of area it is likely to use: not much more than the source has, and not more than some for each glyph, few for a context by coverages.
+fn likely_bytes(kind: usize, src: &[u8], glyphs: &[u8]) -> usize {
+    if kind <= 2 && word_at(src, 0) == 3 {
+        return 2 * (glyphs.len() / 4) + 512;
+    }
+    if glyphs.len() < src.len() / 32 {
+        return 32 * glyphs.len();
+    }
+    src.len() / 2 * 3
+}
+
+// The size to begin with, as `in_size` has them: the first that is likely to do, and never the largest, since its clearing takes long.
+fn likely_size(kind: usize, src: &[u8], glyphs: &[u8], lookups: &[u8]) -> usize {
+    let cells = likely_cells(kind, src, glyphs, lookups);
+    let bytes = likely_bytes(kind, src, glyphs);
+    if cells <= LITTLE_CELLS && bytes <= LITTLE_BYTES {
+        return 0;
+    }
+    if cells <= SOME_CELLS && bytes <= SOME_BYTES {
+        return 1;
+    }
+    if cells <= MORE_CELLS && bytes <= MORE_BYTES {
+        return 2;
+    }
+    3
+}
+
+// What is left of a sound source of this kind, handed over if there is room, with scratch of our own: of the size that is likely to do, and the next one where that is too short.
+pub fn cut_own(kind: usize, src: &[u8], glyphs: &[u8], lookups: &[u8], out: &mut [u8]) -> Laid
+    requires { ⌜ Sound kind (now src) (now glyphs) (now lookups) ⌝ }
+    ensures { λ r. ⌜ outcomeOf r (now (out .exit)) ≡ written (now (out .entry)) (cut (mapEntries (now (glyphs .entry))) (mapEntries (now (lookups .entry))) (table kind (now (src .entry)))) ⌝ }
+{
+    let mut size = likely_size(kind, src, glyphs, lookups);
+    while size < 4 {
+        if let Tried::Became(laid) = in_size(size, kind, src, glyphs, lookups, out) {
+            return laid;
+        }
+        size += 1;
+    }
+    let Tried::Became(laid) = in_most(kind, src, glyphs, lookups, out) else {
+        return Laid::Nothing;
+    };
+    laid
+}
+
+// The same with lent scratch whose content is arbitrary, and with our own where that is too short.
+pub fn cut_lent(
+    kind: usize,
+    src: &[u8],
+    glyphs: &[u8],
+    lookups: &[u8],
+    t: &mut [u32],
+    area: &mut [u8],
+    out: &mut [u8],
+) -> Laid
+    requires { ⌜ Sound kind (now src) (now glyphs) (now lookups) ⌝ }
+    ensures { λ r. ⌜ outcomeOf r (now (out .exit)) ≡ written (now (out .entry)) (cut (mapEntries (now (glyphs .entry))) (mapEntries (now (lookups .entry))) (table kind (now (src .entry)))) ⌝ }
+{
+    let Tried::Became(laid) = cut_in(kind, src, glyphs, lookups, t, area, out) else {
+        return cut_own(kind, src, glyphs, lookups, out);
+    };
+    laid
+}

@@ -1,0 +1,111 @@
+-- From the sets that are kept to the table that is handed over.
+use Prim.Native.Nat.{ℕ, _+_, _-_, _*_, _≤_, _<_}
+use mathlib.Core.Path.{_≡_, refl, sym, ap, _∙_}
+use mathlib.Core.Option.{Option, none, some}
+use mathlib.Core.List.{List, [], _∷_, _++_}
+use native.Mathlib.Omega.{arith}
+use lib.ListN.{length, length-append, length-map}
+use Rattle.meaning.specs.Words.{flat}
+use Rattle.meaning.specs.Cut.{glyphsOf}
+use Rattle.meaning.specs.Layout.{offsets, blocks, coverageWords, setsLayout}
+use Rattle.meaning.specs.Subset.{Outcome, refused, limit, laidInto}
+use Rattle.tried.specs.declared.Tried.{Tried}
+use Rattle.area.specs.Part.{part, news}
+use Rattle.area.specs.Closed.{members}
+use Rattle.rule_sets.specs.declared.Maps.{Maps}
+use Rattle.kept_sets.specs.Sorts.{moreOf, headerSize, wordsIn}
+use Rattle.kept_sets.specs.Kept.{wordsOf, Ready, Done, WroteKept, keptIn}
+use Rattle.kept_sets.specs.declared.Sort.{Sort}
+use Rattle.kept_sets.specs.declared.Sets.{Sets}
+use Rattle.kept_table.specs.Table.{areaMost, layoutOf, tableOf, Finishes, Finished}
+use Rattle.kept_table.specs.Answers.{laidWords, NoRoom, Answered, words-over}
+
+-- the sets and the coverage are part of their table
+table-most : (more cov : List ℕ) (bs : List (Option (List ℕ))) → length (blocks bs) + length cov ≤ length (setsLayout 1 (some cov ∷ []) more bs)
+unfolding setsLayout offsets blocks
+table-most more cov bs =
+    let first = 6 + 2 * length more + 2 * length bs in
+    omega (arith, length-append more (length bs ∷ (offsets first bs ++ (blocks bs ++ (cov ++ [])))), length-append (offsets first bs) (blocks bs ++ (cov ++ [])), length-append (blocks bs) (cov ++ []), length-append cov [])
+
+module _ (sort : Sort) where
+  -- of no sets there is no table
+  table-none : (ks : List (ℕ × List ℕ)) → length ks ≡ 0 → tableOf sort ks ≡ none
+  unfolding tableOf
+  table-none [] e = refl
+  table-none (k ∷ ks) e = absurd (omega arith)
+
+  table-some : (ks : List (ℕ × List ℕ)) → (length ks ≡ 0 → ⊥) → tableOf sort ks ≡ some (layoutOf sort (glyphsOf ks) (wordsOf ks))
+  unfolding tableOf
+  table-some [] z = absurd (z refl)
+  table-some (k ∷ ks) z = refl
+
+  -- what sets take is part of what their table takes
+  table-sets : (ks : List (ℕ × List ℕ)) → length (blocks (members (wordsOf ks))) ≤ length (wordsIn (tableOf sort ks))
+  unfolding tableOf wordsIn blocks
+  table-sets [] = omega arith
+  table-sets (k ∷ ks) = omega (arith, table-most (moreOf sort) (coverageWords (glyphsOf (k ∷ ks))) (members (wordsOf (k ∷ ks))))
+
+words-some : (ws : List ℕ) → wordsIn (some ws) ≡ ws
+unfolding wordsIn
+words-some ws = refl
+
+laid-some : (out ws : List ℕ) → laidWords out (some ws) ≡ laidInto out (flat ws)
+unfolding laidWords
+laid-some out ws = refl
+
+-- nothing is left
+pub laid-none : (out : List ℕ) {o : Option (List ℕ)} → o ≡ none → refused out 8 ≡ laidWords out o
+unfolding laidWords
+laid-none out e = rw e refl
+
+-- there is no room
+pub answered-short : {a b n : ℕ} {r : Tried} {out : List ℕ} {words : Option (List ℕ)} → NoRoom b r → b ≡ a → n ≤ limit → a < 2 * length (wordsIn words) + 3 * n → Answered (⊥) out words a r out
+answered-short {out = out} {words} h e l o = record { answer = (rw e at h) .refuses (words-over out words l o) }
+
+module _ {sort : Sort} {s t₀ : List ℕ} {maps : Maps} {at m : ℕ} {area₀ t area : List ℕ} {r : Sets} (a : Ready sort s t₀ maps at m) (w : WroteKept sort s t₀ maps at m area₀ t area r) where
+  abbrev kept : List (ℕ × List ℕ)
+  kept = keptIn sort s t₀ maps at m
+
+  -- there is no room for the sets
+  pub short-sets : length area < r .end → length area₀ < 2 * length (wordsIn (tableOf sort kept)) + 3 * length s
+  short-sets l = omega (arith, w .full (omega (arith, w .same)), table-sets sort kept)
+
+  module _ (l : r .end ≤ length area) where
+    done : Done sort s t₀ maps at m t area (r .count) (r .end)
+    done = w .done (omega (arith, w .same))
+
+    -- none is kept
+    pub none-kept : r .count ≡ 0 → tableOf sort kept ≡ none
+    none-kept z = table-none sort kept (done .count ∙ z)
+
+    module _ (z : r .count ≡ 0 → ⊥) {first : ℕ} (e : first ≡ headerSize sort + 2 * m) where
+      -- the table can be put together
+      pub may-finish : length area₀ ≤ areaMost → Finishes sort t at (r .count) first (r .end) area
+      unfolding limit
+      may-finish b = record {
+        some-set = omega arith;
+        fits = omega (arith, done .few, a .fits, w .size);
+        behind = omega (arith, done .few, e);
+        near = omega (arith, a .few, a .short, e);
+        start = omega (arith, done .placed .place, e);
+        room = l;
+        short = omega (arith, b, w .same);
+      }
+
+      module _ {after : List ℕ} {end : ℕ} (f : Finished sort t at (r .count) first (r .end) area after end) where
+        table-is-some : tableOf sort kept ≡ some (layoutOf sort (glyphsOf kept) (wordsOf kept))
+        table-is-some = table-some sort kept (λ n. z (sym (done .count) ∙ n))
+
+        -- there is no room for the coverage
+        pub short-table : length after < end → length area₀ < 2 * length (wordsIn (tableOf sort kept)) + 3 * length s
+        short-table k =
+            let c : length (coverageWords (news t at (r .count))) ≡ length (coverageWords (glyphsOf kept)) = ap (λ (g : List ℕ). length (coverageWords g)) (done .glyphs) in
+            let n : length (wordsIn (tableOf sort kept)) ≡ length (layoutOf sort (glyphsOf kept) (wordsOf kept)) = ap (λ (o : Option (List ℕ)). length (wordsIn o)) table-is-some ∙ ap length (words-some (layoutOf sort (glyphsOf kept) (wordsOf kept))) in
+            omega (arith, f .full (omega (arith, f .same)), w .same, done .placed .place, a .few, c, n, table-most (moreOf sort) (coverageWords (glyphsOf kept)) (members (wordsOf kept)))
+
+        -- what is handed over is the table
+        pub table-laid : end ≤ length after → {head : ℕ} → head ≡ headerSize sort + 2 * r .count → (out₀ : List ℕ) {o : Outcome} → o ≡ laidInto out₀ (part after 0 head ++ part after first (end - first)) → o ≡ laidWords out₀ (tableOf sort kept)
+        table-laid k u out₀ h =
+            let p = rw (← e) at (done .placed) in
+            let v = f .table (wordsOf kept) (length-map kept (λ x. x .1) ∙ done .count) p (omega (arith, f .same)) in
+            h ∙ ap (λ (i : ℕ). laidInto out₀ (part after 0 i ++ part after first (end - first))) u ∙ ap (laidInto out₀) (v ∙ ap (λ (g : List ℕ). flat (layoutOf sort g (wordsOf kept))) (done .glyphs)) ∙ sym (laid-some out₀ (layoutOf sort (glyphsOf kept) (wordsOf kept))) ∙ ap (laidWords out₀) (sym table-is-some)

@@ -1,0 +1,45 @@
+-- The table that kept sets make, and how it stands in the area.
+use Prim.Native.Nat.{ℕ, _+_, _-_, _*_, _≤_, _<_}
+use mathlib.Core.Path.{_≡_}
+use mathlib.Core.Option.{Option, none, some}
+use mathlib.Core.List.{List, [], _∷_, _++_}
+use lib.ListN.{length}
+use Rattle.meaning.specs.Words.{flat}
+use Rattle.meaning.specs.Cut.{glyphsOf}
+use Rattle.meaning.specs.Layout.{coverageWords, setsLayout}
+use Rattle.area.specs.Part.{part, news}
+use Rattle.area.specs.Closed.{members}
+use Rattle.kept_sets.specs.Sorts.{moreOf, headerSize}
+use Rattle.kept_sets.specs.Kept.{wordsOf, Placed}
+use Rattle.kept_sets.specs.declared.Sort.{Sort}
+
+-- the bytes of an area that are enough for any source, four times the limit; no more are used
+abbrev pub areaMost : ℕ
+areaMost = 262144
+
+-- the words of the table of these sets, which these glyphs index
+abbrev pub layoutOf : Sort → List ℕ → List (List ℕ) → List ℕ
+layoutOf sort gs bs = setsLayout 1 (some (coverageWords gs) ∷ []) (moreOf sort) (members bs)
+
+-- the words of the table of kept sets, if one is kept
+unfoldable pub tableOf : Sort → List (ℕ × List ℕ) → Option (List ℕ)
+tableOf sort [] = none
+tableOf sort (e ∷ ks) = some (layoutOf sort (glyphsOf (e ∷ ks)) (wordsOf (e ∷ ks)))
+
+-- what is asked of k sets that stand from `first` up to p: there is one, and the gap before `first` is not too wide
+pub record Finishes (sort : Sort) (t : List ℕ) (notes k first p : ℕ) (area : List ℕ) : Type 0 where
+  pub some-set : 0 < k
+  pub fits : notes + k ≤ length t
+  pub behind : headerSize sort + 2 * k ≤ first
+  pub near : first ≤ headerSize sort + 2 * k + 65536
+  pub start : first ≤ p
+  pub room : p ≤ length area
+  pub short : length area ≤ areaMost
+
+-- Whatever sets stand there: the head of their table stands at the front and the rest from `first` up to r, or the area is too short for the coverage.
+pub record Finished (sort : Sort) (t : List ℕ) (notes k first p : ℕ) (before after : List ℕ) (r : ℕ) : Type 0 where
+  pub same : length after ≡ length before
+  pub start : r ≤ length before → p ≤ r
+  pub table : (bs : List (List ℕ)) → length bs ≡ k → Placed (headerSize sort) first bs before p → r ≤ length before
+      → part after 0 (headerSize sort + 2 * k) ++ part after first (r - first) ≡ flat (layoutOf sort (news t notes k) bs)
+  pub full : length before < r → length before < p + 2 * length (coverageWords (news t notes k))

@@ -1,0 +1,109 @@
+// The table of the kept sets of format 1: the sets are written into the area, the table is put together around them, and it is handed over to the buffer.
+use area::hand_over;
+use area::lessen;
+use area::put_three;
+use area::put_two;
+use area::write_cover;
+use kept_sets::Sort;
+use kept_sets::header_size;
+use kept_sets::write_kept;
+use room::Laid;
+use rule_sets::Maps;
+use tried::Tried;
+ghost use mathlib.Core.List.{[], _∷_, _++_};
+ghost use Prim.Native.Nat.{_≤_};
+ghost use lib.ListN.{length};
+ghost use Rattle.laws.specs.Written.{Wrote};
+ghost use Rattle.rule_sets.specs.Left.{mapsIn};
+ghost use Rattle.kept_sets.specs.Sorts.{moreOf, headerSize, Told};
+ghost use Rattle.kept_sets.specs.Kept.{Ready, keptIn};
+ghost use Rattle.kept_table.specs.Table.{areaMost, Finishes, Finished, tableOf};
+ghost use Rattle.kept_table.specs.Answers.{NoRoom, Answered};
+
+// The bytes of an area that are enough for any source: four times the limit. No more are used.
+pub const AREA: usize = 262144;
+
+// Where the notes of the retained covered glyphs stand in the cells, and how many there are.
+pub struct Notes {
+    pub at: usize,
+    pub count: usize,
+}
+
+// The words before the offsets of the sets; the place after them.
+fn write_header(sort: Sort, area: &mut [u8], cover: usize, k: usize) -> usize
+    requires { ⌜ headerSize sort ≤ length (now area) ⌝ }
+    ensures { λ r. ⌜ Wrote (now (area .entry)) 0 (1 ∷ cover ∷ (moreOf sort ++ (k ∷ []))) (now (area .exit)) r ⌝ }
+{
+    match sort {
+        Sort::Rules(_) => put_three(area, 0, 1, cover, k),
+        Sort::Ligatures => put_three(area, 0, 1, cover, k),
+        Sort::Pairs(f) => {
+            let p = put_three(area, 0, 1, cover, f.n1);
+            put_two(area, p, f.n2, k)
+        }
+    }
+}
+
+// The table of the `k` kept sets, which stand from `first` up to `p`, with their places written as their offsets: the offsets without the gap before `first`, the coverage behind the sets, and the header; the place after it.
+fn finish(
+    sort: Sort,
+    t: &[u32],
+    notes: usize,
+    k: usize,
+    first: usize,
+    p: usize,
+    area: &mut [u8],
+) -> usize
+    requires { ⌜ Finishes sort (now t) notes k first p (now area) ⌝ }
+    ensures { λ r. ⌜ Finished sort (now (t .entry)) notes k first p (now (area .entry)) (now (area .exit)) r ⌝ }
+{
+    let slots = header_size(sort);
+    let gap = first - (slots + 2 * k);
+    lessen(area, slots, k, gap);
+    let end = write_cover(t, notes, k, area, p);
+    write_header(sort, area, p - gap, k);
+    end
+}
+
+// There is no room in the area: it is too short; or it has what is enough for any source, and then the layout is over the limit.
+fn no_room(area: &[u8]) -> Tried
+    ensures { λ r. ⌜ NoRoom (length (now (area .entry))) r ⌝ }
+{
+    if area.len() < AREA {
+        return Tried::Short;
+    }
+    Tried::Became(Laid::TooBig)
+}
+
+// What is left of a table, whose retained covered glyphs are noted, laid into the buffer if it is not over the limit and the buffer is not shorter. `told` says where the fields that stay stand in a pair record; for other sorts it has marks at the places of members that are known to go.
+pub fn write_table(
+    sort: Sort,
+    src: &[u8],
+    told: &mut [u8],
+    t: &mut [u32],
+    notes: Notes,
+    maps: Maps,
+    area: &mut [u8],
+    out: &mut [u8],
+) -> Tried
+    requires { ⌜ Ready sort (now src) (now t) maps (notes .at) (notes .count) × (length (now area) ≤ areaMost) × Told sort (mapsIn (now t) maps) (now src) (now told) ⌝ }
+    ensures { λ r. ⌜ Answered ⊥ (now (out .entry)) (tableOf sort (keptIn sort (now (src .entry)) (now (t .entry)) maps (notes .at) (notes .count))) (length (now (area .entry))) r (now (out .exit)) ⌝ }
+{
+    let m = notes.count;
+    let sets = write_kept(sort, src, told, t, notes.at, m, maps, area);
+    let p = sets.end;
+    let k = sets.count;
+    if area.len() < p {
+        return no_room(area);
+    }
+    if k == 0 {
+        return Tried::Became(Laid::Nothing);
+    }
+    let slots = header_size(sort);
+    let first = slots + 2 * m;
+    let end = finish(sort, t, notes.at, k, first, p, area);
+    if area.len() < end {
+        return no_room(area);
+    }
+    Tried::Became(hand_over(area, slots + 2 * k, first, end, out))
+}

@@ -1,3 +1,0 @@
-pub mod Below
-pub mod Forms
-pub mod Found

@@ -1,3 +1,0 @@
-pub mod Retained
-pub mod Cover
-pub mod Few

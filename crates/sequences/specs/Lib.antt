@@ -1,2 +1,0 @@
-pub mod Renumbered
-pub mod Served

@@ -1,0 +1,16 @@
+-- `subset::too_long` meets its contract. Assumes nothing.
+use mathlib.Core.Path.{refl}
+use borrow.Author.Needs.{needs}
+use Rattle.meaning.specs.Subset.{limit}
+use Rattle.subset.proofs.too_long.Statement.{statement}
+use Rattle.subset.proofs.too_long.Tie as tie
+
+returns : tie.Need-returns
+unfolding limit
+returns c = refl
+
+pub too-long-spec : {M : Type 1} → statement M
+too-long-spec =
+    tie.close
+    (tie.spec
+    returns)

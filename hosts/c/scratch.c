@@ -1,0 +1,97 @@
+/* Holds the call with lent scratch to the call without: the same answer and the
+ * same buffer, for one piece of scratch of many lengths and of each alignment,
+ * from none to more than enough, whatever it holds; and nothing beside the
+ * piece is written. */
+#include <stdio.h>
+#include <stdlib.h>
+#include <string.h>
+#include "gillcurtain.h"
+
+enum { ROOM = 512, BESIDE = 64, GLYPHS = 3000, FILL = 0xA5 };
+
+/* A context by glyph, one by class, a chained one by coverages, ligatures and pairs, of glyphs 1 to 4. */
+static const uint8_t by_glyph[] = {
+  0, 1, 0, 28, 0, 2, 0, 10, 0, 10, 0, 1, 0, 4, 0, 3, 0, 1, 0, 2, 0, 3, 0, 1, 0, 0, 0, 0, 0, 1, 0, 2, 0, 1, 0, 4
+};
+static const uint8_t by_class[] = {
+  0, 2, 0, 26, 0, 32, 0, 2, 0, 0, 0, 12, 0, 1, 0, 4, 0, 2, 0, 1, 0, 1, 0, 0, 0, 0, 0, 1, 0, 1, 0, 1, 0, 1, 0, 1, 0, 2, 0, 1, 0, 1
+};
+static const uint8_t by_cover[] = {
+  0, 3, 0, 1, 0, 20, 0, 1, 0, 20, 0, 1, 0, 20, 0, 1, 0, 0, 0, 0, 0, 2, 0, 1, 0, 1, 0, 4, 0, 0
+};
+static const uint8_t ligatures[] = { 0, 1, 0, 18, 0, 1, 0, 8, 0, 1, 0, 4, 0, 4, 0, 2, 0, 2, 0, 1, 0, 1, 0, 1 };
+static const uint8_t pairs[] = { 0, 1, 0, 22, 0, 4, 0, 0, 0, 1, 0, 12, 0, 2, 0, 1, 0, 9, 0, 4, 0, 7, 0, 1, 0, 1, 0, 2 };
+
+static const struct { const char *name; unsigned kind; const uint8_t *at; size_t len; } sources[] = {
+  { "by glyph", GILLCURTAIN_CONTEXT, by_glyph, sizeof by_glyph },
+  { "by class", GILLCURTAIN_CONTEXT, by_class, sizeof by_class },
+  { "by cover", GILLCURTAIN_CHAINED, by_cover, sizeof by_cover },
+  { "ligatures", GILLCURTAIN_LIGATURE, ligatures, sizeof ligatures },
+  { "pairs", GILLCURTAIN_PAIR, pairs, sizeof pairs },
+  { "cut short", GILLCURTAIN_PAIR, pairs, sizeof pairs - 1 }
+};
+static const size_t lengths[] = {
+  0, 1, 2, 3, 4, 5, 7, 8, 9, 100, 101, 1000, 4099, 20000, 65536, 300001, 524288, GILLCURTAIN_SCRATCH - 4,
+  GILLCURTAIN_SCRATCH, GILLCURTAIN_SCRATCH + 1001
+};
+static const uint8_t lookups[] = { 0, 0, 0, 5 };
+static uint8_t glyphs[4 * GLYPHS];
+
+/* The map of the glyphs 1 to `n` to one more each; its length. */
+static size_t one_more (size_t n)
+{
+  for (size_t i = 0; i < n; i++)
+  {
+    uint8_t *entry = glyphs + 4 * i;
+    entry[0] = (i + 1) >> 8, entry[1] = (i + 1) & 255, entry[2] = (i + 2) >> 8, entry[3] = (i + 2) & 255;
+  }
+  return 4 * n;
+}
+
+/* Whether bytes are all as they were filled. */
+static int filled (const uint8_t *at, size_t n)
+{
+  while (n && *at == FILL) at++, n--;
+  return n == 0;
+}
+
+/* Whether the call with the piece of scratch answers as the one without, into a buffer of `room` bytes. */
+static int same (unsigned which, size_t glyphs_len, uint8_t *scratch, size_t len, size_t room)
+{
+  uint8_t plain[ROOM], with[ROOM];
+  memset (plain, FILL, ROOM);
+  memset (with, FILL, ROOM);
+  memset (scratch - BESIDE, FILL, len + 2 * BESIDE);
+  uint64_t expected = gillcurtain_subset (sources[which].kind, sources[which].at, sources[which].len,
+                                          glyphs, glyphs_len, lookups, sizeof lookups, plain, room);
+  uint64_t result = gillcurtain_subset_with (sources[which].kind, sources[which].at, sources[which].len,
+                                             glyphs, glyphs_len, lookups, sizeof lookups, scratch, len, with, room);
+  if (result == expected && !memcmp (plain, with, ROOM)
+      && filled (scratch - BESIDE, BESIDE) && filled (scratch + len, BESIDE)) return 1;
+  printf ("%s, %zu glyphs, scratch of %zu bytes, buffer of %zu: answer %u, length %zu\n", sources[which].name,
+          glyphs_len / 4, len, room, gillcurtain_number (result), gillcurtain_length (result));
+  return 0;
+}
+
+int main (void)
+{
+  static const size_t maps[] = { 0, 2, 4, 20, GLYPHS }, rooms[] = { 0, 20, ROOM };
+  uint8_t *piece = malloc (GILLCURTAIN_SCRATCH + 1001 + 4 + 2 * BESIDE);
+  unsigned calls = 0, faults = 0;
+  if (!piece) { perror ("malloc"); return 1; }
+  for (unsigned m = 0; m < sizeof maps / sizeof *maps; m++)
+  {
+    size_t glyphs_len = one_more (maps[m]);
+    for (unsigned which = 0; which < sizeof sources / sizeof *sources; which++)
+      for (unsigned l = 0; l < sizeof lengths / sizeof *lengths; l++)
+        for (unsigned shift = 0; shift < 4; shift++, calls++)
+          faults += !same (which, glyphs_len, piece + BESIDE + shift, lengths[l], rooms[calls % 3]);
+  }
+  uint8_t out[ROOM];
+  size_t glyphs_len = one_more (4);
+  uint64_t none = gillcurtain_subset_with (GILLCURTAIN_PAIR, pairs, sizeof pairs, glyphs, glyphs_len, NULL, 0, NULL, 0, out, ROOM);
+  if (gillcurtain_number (none) != GILLCURTAIN_KEPT) { printf ("no scratch: answer %u\n", gillcurtain_number (none)); faults++; }
+  printf ("%u calls with lent scratch answered as without\n", calls - faults);
+  free (piece);
+  return faults != 0;
+}
