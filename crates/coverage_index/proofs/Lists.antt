@@ -1,6 +1,6 @@
 -- The index of a glyph among listed glyphs.
 use Prim.Native.Nat.{ℕ, zero, suc, _+_, _*_, _≤_, _<_}
-use mathlib.Core.Path.{_≡_, refl, _∙_}
+use mathlib.Core.Path.{_≡_, refl}
 use mathlib.Core.Bool.{true}
 use mathlib.Core.Option.{none, some}
 use mathlib.Core.List.{List, [], _∷_}
@@ -11,7 +11,7 @@ use borrow.Author.Tests.{eq-eqb, ne-eqb}
 use Rattle.meaning.specs.Words.{word, words, ascends, bind}
 use Rattle.laws.specs.Left.{words-length, words-at}
 use Rattle.laws.specs.Ascends.{ascends-rest, ascends-rise}
-use Rattle.halving.specs.Rising.{Rising, Reached}
+use Rattle.halving.specs.Rising.{Reached}
 use Rattle.halving.specs.Columns.{list-rising}
 use Rattle.coverage_index.specs.Index.{indexOf, coveredOf, SoundList}
 use Rattle.coverage_index.specs.declared.Covered.the-variants.{At, Not}

@@ -4,7 +4,6 @@ use mathlib.Core.Path.{_≡_}
 use mathlib.Core.List.{List}
 use native.Mathlib.Decide.{decLt}
 use native.Mathlib.Omega.{arith}
-use lib.ListN.{length}
 use Rattle.meaning.specs.Words.{word}
 use Rattle.halving.specs.Rising.{Rising, Reached}
 

@@ -14,7 +14,7 @@ use Rattle.meaning.specs.Parts.{rangesAscend}
 use Rattle.laws.specs.Runs.{both}
 use Rattle.laws.specs.Left.{words-length, words-at}
 use Rattle.laws.specs.Ascends.{ascends-rise, map-length, map-key}
-use Rattle.halving.specs.Rising.{Rising, Reached}
+use Rattle.halving.specs.Rising.{Rising}
 
 -- glyphs that are listed
 pub list-rising : (s : List ℕ) (at n : ℕ) → at + 2 * n ≤ length s → ascends (words s at n) ≡ true → Rising s at 2 n
