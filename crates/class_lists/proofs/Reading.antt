@@ -3,15 +3,17 @@ use Prim.Native.Nat.{ℕ, zero, suc, _+_, _-_, _*_, _≤_, _<_}
 use mathlib.Core.Path.{_≡_, refl, sym, _∙_}
 use mathlib.Core.Bool.{true}
 use mathlib.Core.List.{List, _∷_}
+use native.Mathlib.Decide.{decLt}
 use native.Mathlib.Omega.{arith}
 use lib.ListN.{getD, List·getD-eq-default}
 use lib.Dec.{leb}
-use borrow.Author.Tests.{leb-true}
 use Rattle.meaning.specs.Words.{word, words, triples, find}
 use Rattle.meaning.specs.Parts.{rangesAscend, rangeClasses, classOf}
 use Rattle.laws.specs.Runs.{both}
 use Rattle.laws.specs.Left.{words-length, words-at, triples-left, triples-all, triples-none}
 use Rattle.laws.specs.ClassesLeft.{array-low, array-at, ranges-rest, range-after, range-in, range-before}
+use Rattle.halving.specs.Rising as halving
+use Rattle.halving.specs.Columns.{ranges-least, end-place}
 use Rattle.class_lists.specs.Tables.{arrayAt}
 use Rattle.class_lists.specs.Stretches.{Ranges, Passed, Reached, Stretched}
 
@@ -31,21 +33,6 @@ module _ (s : List ℕ) (at : ℕ) {first x : ℕ} (f : first ≡ word s (at + 2
 
     pub array-in : {c : ℕ} → x - first < n → (c ≡ word s (at + 6 + 2 * (x - first))) × (c < 65536) → (c ≡ classOf (arrayAt s at) x) × (c < 65536)
     array-in l g = (g .0 ∙ sym (at-place ∙ words-at s (at + 6) n (x - first) l), g .1)
-
--- ranges that ascend from `low` on end there or later
-end-least : (s : List ℕ) (k n at low : ℕ) → k < n → rangesAscend low (triples s at n) ≡ true → low ≤ word s (at + 6 * k + 2)
-unfolding triples rangesAscend
-end-least s k zero at low d h = absurd (omega arith)
-end-least s zero (suc n) at low d h =
-    let e : at + 6 * 0 + 2 ≡ at + 2 = omega arith in
-    let p = both (leb low (word s at)) _ h in
-    let q = both (leb (word s at) (word s (at + 2))) _ (p .1) in
-    rw e (omega (arith, leb-true low (word s at) (p .0), leb-true (word s at) (word s (at + 2)) (q .0)))
-end-least s (suc k) (suc n) at low d h =
-    let e : at + 6 * suc k ≡ at + 6 + 6 * k = omega arith in
-    let p = both (leb low (word s at)) _ h in
-    let q = both (leb (word s at) (word s (at + 2))) _ (p .1) in
-    rw e (omega (arith, leb-true low (word s at) (p .0), leb-true (word s at) (word s (at + 2)) (q .0), end-least s k n (at + 6) (word s (at + 2) + 1) (omega arith) (q .1)))
 
 -- What is kept where ranges are passed: those that are left ascend, and say of the glyph x what all say.
 pub record Walking (s : List ℕ) (at n x i : ℕ) : Type 0 where
@@ -82,7 +69,8 @@ module _ {s : List ℕ} {at n x : ℕ} where
         let a = word s (at + 6 * i) in
         let p = both (leb a last) _ (both (leb 0 a) _ rise-now .1) in
         let e : at + 6 * (i + 1) + 6 * d ≡ at + 6 * (i + 1 + d) = omega arith in
-        omega (arith, rw e at (end-least s d (n - (i + 1)) (at + 6 * (i + 1)) (last + 1) (omega arith) (p .1)))
+        let r = rw e at (ranges-least s d (n - (i + 1)) (at + 6 * (i + 1)) (last + 1) (omega arith) (p .1)) in
+        omega (arith, r .0, r .1)
 
     module _ {first : ℕ} (f : first ≡ word s (at + 6 * i)) where
       -- before it
@@ -155,31 +143,14 @@ module _ {s : List ℕ} {at n x r : ℕ} (h : Ranges s at n) (k : Reached s at n
       passed = λ y m i q. let d : i ≡ r = omega arith in rw (d, ← e) m;
     }
 
--- What the search for that range keeps: those before lo are passed, and the one at hi, if it is one, ends at the glyph x or later.
-pub record Searching (s : List ℕ) (at n x lo hi : ℕ) : Type 0 where
-  pub order : lo ≤ hi
-  pub within : hi ≤ n
-  pub passed : Passed s at x lo
-  pub ends : hi < n → x ≤ word s (at + 6 * hi + 2)
-
-module _ {s : List ℕ} {at n x : ℕ} where
-  pub searching-all : {lo : ℕ} → (lo ≤ n) × Passed s at x lo → Searching s at n x lo n
-  searching-all h = record { order = h .0; within = omega arith; passed = h .1; ends = λ l. absurd (omega arith) }
-
-  module _ {lo hi mid last : ℕ} (k : Searching s at n x lo hi) (m : (lo ≤ mid) × (mid < hi)) (e : last ≡ word s (at + 6 * mid + 2)) where
-    pub searching-up : last < x → Searching s at n x (mid + 1) hi
-    searching-up g = record {
-      order = omega arith;
-      within = k .within;
-      passed = λ i f. let q : i ≡ mid = omega arith in rw (q, ← e) g;
-      ends = k .ends;
-    }
-
-    pub searching-down : x ≤ last → Searching s at n x lo mid
-    searching-down g = record { order = m .0; within = omega (arith, k .within); passed = k .passed; ends = λ l. omega arith }
-
-  -- nothing is left between the two
-  pub searching-end : {lo hi : ℕ} → Searching s at n x lo hi → hi ≤ lo → Reached s at n x lo
-  searching-end {lo} {hi} k h =
-      let e : hi ≡ lo = omega (arith, k .order) in
-      record { within = omega (arith, k .order, k .within); passed = k .passed; ends = rw e at (k .ends) }
+-- what the search answers, where the range before the `from`-th ends before the glyph
+pub range-reached : {s : List ℕ} {at n from x r : ℕ} → Passed s at x from → halving.Reached s (at + 2) 6 n from x r → Reached s at n x r
+range-reached {s} {at} {n} {from} {x} {r} p h = record {
+  within = h .most;
+  passed = λ k e. step k e (decLt k from);
+  ends = λ l. omega (arith, end-place s at r, h .above l);
+}
+  where
+    step : (k : ℕ) → k + 1 ≡ r → Dec (k < from) → word s (at + 6 * k + 2) < x
+    step k e (yes l) = p k (omega (arith, h .least))
+    step k e (no l) = omega (arith, end-place s at k, h .below k (omega arith) (omega arith))

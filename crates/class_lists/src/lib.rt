@@ -1,5 +1,5 @@
 // The class of each retained glyph, in cells: one for each entry of the glyph map, in order.
-// Map and class table both ascend, so that one walk over both finds the classes: it costs the map's entries and the ranges that are passed, never a range's glyphs.
+// Map and class table both ascend, so that one walk over the map finds the classes: each search begins where the last one ended, and halves. It costs the map's entries, never a range's glyphs, and of the ranges only those that a search looks at.
 use wire::word_inside;
 ghost use mathlib.Core.Path.{_≡_};
 ghost use mathlib.Core.Bool.{true};
@@ -62,35 +62,13 @@ struct Stretch {
     next: usize,
 }
 
-// Which of the places from `lo` up to `hi` to look at next: the first one while it is before `near`, else the middle one.
-fn probe(lo: usize, hi: usize, near: usize) -> usize
-    requires { ⌜ lo < hi ⌝ }
-    ensures { λ r. ⌜ (lo ≤ r) × (r < hi) ⌝ }
-{
-    if lo < near {
-        return lo;
-    }
-    lo + (hi - lo) / 2
-}
-
 // The first of the `n` class ranges from `at` on that ends at the glyph or later; `n` if none does. Those before `from` end before it.
-// The search looks at four ranges one by one, then it halves.
+// It is mostly close: the search looks at four ranges one by one, then it halves.
 fn reach(src: &[u8], at: usize, n: usize, from: usize, glyph: usize) -> usize
     requires { ⌜ Ranges (now src) at n × (from ≤ n) × Passed (now src) at glyph from ⌝ }
     ensures { λ r. ⌜ Reached (now (src .entry)) at n glyph r ⌝ }
 {
-    let mut lo = from;
-    let mut hi = n;
-    let near = from + 4;
-    while lo < hi {
-        let mid = probe(lo, hi, near);
-        if word_inside(src, at + 6 * mid + 2) < glyph {
-            lo = mid + 1;
-        } else {
-            hi = mid;
-        }
-    }
-    lo
+    halving::reach(src, at + 2, 6, n, from, from + 4, glyph)
 }
 
 // The stretch that begins with the glyph, by the first of the `n` class ranges from `at` on that ends there or later. Those before `from` end before it.

@@ -1,12 +1,14 @@
 -- The entries of a glyph map, whose old numbers ascend: found by halving, and passed over where they lie below a coverage.
 use Prim.Native.Nat.{ℕ, zero, suc, _+_, _*_, _/_, _≤_, _<_}
-use mathlib.Core.Path.{_≡_, ap, _∙_}
+use mathlib.Core.Path.{_≡_, refl, ap, _∙_}
 use mathlib.Core.Bool.{true}
+use mathlib.Core.Option.{none}
 use mathlib.Core.List.{List, [], _∷_}
 use native.Mathlib.Decide.{decLt}
 use native.Mathlib.Nat.{zero-add}
 use native.Mathlib.Omega.{arith}
 use lib.ListN.{length}
+use borrow.Author.Tests.{ne-eqb}
 use Rattle.meaning.specs.Words.{word, entries, keys, find, ascends}
 use Rattle.meaning.specs.Maps.{mapEntries}
 use Rattle.laws.specs.Stands.{All}
@@ -14,8 +16,15 @@ use Rattle.laws.specs.Runs.{Up}
 use Rattle.laws.specs.Left.{entries-left, entries-all, entries-none}
 use Rattle.laws.specs.Ascends.{ascends-rest, ascends-rise, map-length, map-key}
 use Rattle.laws.specs.SoundGood.{ascends-up}
+use Rattle.halving.specs.Rising as halving
 use Rattle.meet.specs.Met.{met, entry-below}
 use Rattle.meet.specs.Walks.{rest, Reached}
+
+-- no entry is below the lowest
+pub find-below : (b low : ℕ) (es : List (ℕ × ℕ)) → b < low → Up low (keys es) → find es b ≡ none
+unfolding find keys
+find-below b low [] h u = refl
+find-below b low ((o, v) ∷ es) h u = rw (ne-eqb o b (omega (arith, u .0))) (find-below b (o + 1) es (omega (arith, u .0)) (u .1))
 
 module _ (m : List ℕ) where
   -- the first of the entries that are left, none at the end, and all at the start
@@ -69,38 +78,12 @@ module _ (m : List ℕ) (good : ascends (keys (mapEntries m)) ≡ true) where
           rw (rest-cons m e g) (l g, u .1)
       step (no g) = rw (rest-end m e (omega arith)) tt
 
--- What halving keeps: the entries from `from` up to lo are below v, and the one at hi is not.
-pub record Searching (m : List ℕ) (from v lo hi : ℕ) : Type 0 where
-  pub least : from ≤ lo
-  pub order : lo ≤ hi
-  pub most : hi ≤ length m / 4
-  pub below : (k : ℕ) → from ≤ k → k < lo → word m (4 * k) < v
-  pub above : hi < length m / 4 → v ≤ word m (4 * hi)
-
-module _ {m : List ℕ} {from v : ℕ} where
-  pub searching-all : {hi : ℕ} → from ≤ hi → hi ≡ length m / 4 → Searching m from v from hi
-  searching-all h e = record { least = omega arith; order = h; most = omega arith; below = λ k l g. absurd (omega arith); above = λ l. absurd (omega arith) }
-
-  module _ {lo hi mid w : ℕ} (c : Searching m from v lo hi) (p : (lo ≤ mid) × (mid < hi)) (e : w ≡ word m (4 * mid)) where
-    pub searching-up : ascends (keys (mapEntries m)) ≡ true → w < v → Searching m from v (mid + 1) hi
-    searching-up good h = record {
-      least = omega (arith, c .least, p .0);
-      order = omega (arith, p .1);
-      most = c .most;
-      below = λ k l g. upto k g (decLt k mid);
-      above = c .above;
-    }
-      where
-        upto : (k : ℕ) → k < mid + 1 → Dec (k < mid) → word m (4 * k) < v
-        upto k g (yes l) = omega (arith, map-rises m good k mid l (omega (arith, p .1, c .most)))
-        upto k g (no l) =
-            let q : k ≡ mid = omega arith in
-            rw q (omega arith)
-
-    pub searching-down : v ≤ w → Searching m from v lo mid
-    searching-down h = record { least = c .least; order = p .0; most = omega (arith, p .1, c .most); below = c .below; above = λ l. omega arith }
-
-  pub searching-end : {lo hi : ℕ} → Searching m from v lo hi → hi ≤ lo → Reached m from v lo
-  searching-end {lo} {hi} c h =
-      let e : lo ≡ hi = omega (arith, c .order) in
-      record { least = c .least; most = omega (arith, c .most); below = c .below; above = rw e (c .above) }
+module _ {m : List ℕ} {from v r : ℕ} where
+  -- what the search in the map answers
+  pub map-reached : halving.Reached m 0 4 (length m / 4) from v r → Reached m from v r
+  map-reached h = record {
+    least = h .least;
+    most = h .most;
+    below = λ k l g. rw zero-add at (h .below k l g);
+    above = λ l. rw zero-add at (h .above l);
+  }

@@ -16,7 +16,7 @@ use Rattle.laws.specs.SoundGood.{coverage-up}
 use Rattle.fold.specs.Cells.{folded}
 use Rattle.fold.specs.declared.Map.{Map}
 use Rattle.meet.specs.Met.{met, Met, Meets, met-same, met-few}
-use Rattle.meet.specs.Walks.{MeetsList, MeetsRanges}
+use Rattle.meet.specs.Walks.{MeetsList, MeetsRanges, MeetsEntries}
 
 -- what lies inside
 pub inside-fits : (s : List ℕ) (at n : ℕ) → inside s at n ≡ true → at + n ≤ length s
@@ -41,6 +41,9 @@ module _ {s : List ℕ} {at : ℕ} {glyphs : List ℕ} {m : Map} {t : List ℕ} 
   entries-count : length (mapEntries glyphs) ≡ length glyphs / 4
   unfolding mapEntries
   entries-count = entries-length glyphs 0 (length glyphs / 4)
+
+  pub entries-ask : MeetsEntries s at glyphs t to
+  entries-ask = record { sound = a .sound; ascend = a .ascend; room = omega (arith, a .room) }
 
   module _ {f n : ℕ} (ef : f ≡ word s at) (en : n ≡ word s (at + 2)) where
     pub list-asks : f ≡ 1 → n < 65536 → MeetsList s (at + 4) n m t to

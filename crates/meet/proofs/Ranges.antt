@@ -8,7 +8,7 @@ use native.Mathlib.Nat.{add-zero, zero-add}
 use native.Mathlib.Omega.{arith}
 use lib.ListN.{length, set}
 use lib.Dec.{leb, ltb, eqb}
-use borrow.Author.Tests.{eq-eqb, ne-eqb, eqb-true, leb-true, ltb-true, ltb-false, lt-ltb, le-ltb}
+use borrow.Author.Tests.{eq-eqb, eqb-true, leb-true, ltb-true, ltb-false, lt-ltb, le-ltb}
 use Rattle.meaning.specs.Words.{word, triples, keys, find, bind, push, upFrom, ascends}
 use Rattle.meaning.specs.Maps.{mapEntries}
 use Rattle.meaning.specs.Parts.{span, rangeGlyphs, rangesAscend, rangesCount}
@@ -19,14 +19,8 @@ use Rattle.fold.specs.Cells.{Kept, kept-all, kept-more, kept-set}
 use Rattle.area.specs.Part.{part, part-append, notes}
 use Rattle.meet.specs.Met.{met, Met, entry-below, met-none}
 use Rattle.meet.specs.Walks.{rest, Reached, upTo, past, MeetsRange, InRange, MeetsRanges}
-use Rattle.meet.proofs.Entries.{rest-cons, rest-end, rest-all, rest-up, skip-entries, map-rises}
+use Rattle.meet.proofs.Entries.{find-below, rest-cons, rest-end, rest-all, rest-up, skip-entries, map-rises}
 use Rattle.meet.proofs.Lists.{noteOf, notes-store, notes-kept}
-
--- no entry is below the lowest
-find-below : (b low : ℕ) (es : List (ℕ × ℕ)) → b < low → Up low (keys es) → find es b ≡ none
-unfolding find keys
-find-below b low [] h u = refl
-find-below b low ((o, v) ∷ es) h u = rw (ne-eqb o b (omega (arith, u .0))) (find-below b (o + 1) es (omega (arith, u .0)) (u .1))
 
 -- glyphs below the entries are not met
 met-skip : (es : List (ℕ × ℕ)) (j b n : ℕ) (cov : List ℕ) → Up (b + n) (keys es) → met (find es) j (upFrom b n ++ cov) ≡ met (find es) (j + n) cov

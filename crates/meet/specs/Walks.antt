@@ -7,7 +7,7 @@ use lib.ListN.{length}
 use lib.Dec.{ltb}
 use Rattle.meaning.specs.Words.{word, words, entries, triples, keys, ascends}
 use Rattle.meaning.specs.Maps.{mapEntries}
-use Rattle.meaning.specs.Parts.{rangesAscend, rangesCount}
+use Rattle.meaning.specs.Parts.{rangesAscend, rangesCount, coverageSound}
 use Rattle.fold.specs.Cells.{folded, Inside, Kept}
 use Rattle.fold.specs.declared.Map.{Map}
 use Rattle.area.specs.Part.{notes}
@@ -64,3 +64,9 @@ pub record MeetsList (s : List ℕ) (at n : ℕ) (m : Map) (t : List ℕ) (to : 
   pub cells : Inside t m
   pub behind : m .at + m .mask < to
   pub room : to + length (met (folded t m) 0 (words s at n)) < length t
+
+-- what a walk over the entries asks: the coverage is sound, the old numbers of the map ascend, and there are cells for them
+pub record MeetsEntries (s : List ℕ) (at : ℕ) (m t : List ℕ) (to : ℕ) : Type 0 where
+  pub sound : coverageSound s at ≡ true
+  pub ascend : ascends (keys (mapEntries m)) ≡ true
+  pub room : to + length m / 4 ≤ length t

@@ -1,4 +1,6 @@
 // Where a glyph map meets a coverage: the covered glyphs that the map has, noted in cells.
+use coverage_index::Covered;
+use coverage_index::index_of;
 use fold::Map;
 use fold::entry;
 use wire::word_inside;
@@ -14,37 +16,19 @@ ghost use Rattle.meaning.specs.Cut.{unlessEmpty, newCoverage};
 ghost use Rattle.meet.specs.Answered.{answered, SeeksRanges, Seeks};
 ghost use Rattle.fold.specs.Cells.{folded, Inside};
 ghost use Rattle.meet.specs.Met.{Met, Meets};
-ghost use Rattle.meet.specs.Walks.{MeetsList, MeetsRanges, MeetsRange, InRange, Reached};
+ghost use Rattle.meet.specs.Walks.{MeetsList, MeetsRanges, MeetsEntries, MeetsRange, InRange, Reached};
 
-// Which of the places from `lo` up to `hi` to look at next: the first one while it is before `near`, else the middle one.
-fn probe(lo: usize, hi: usize, near: usize) -> usize
-    requires { ⌜ lo < hi ⌝ }
-    ensures { λ r. ⌜ (lo ≤ r) × (r < hi) ⌝ }
-{
-    if lo < near {
-        return lo;
-    }
-    lo + (hi - lo) / 2
-}
+// A coverage with more than this many glyphs, or ranges, for each entry of the map is asked for the entries; a shorter one is walked.
+// A question reads a word for each halving, and a walk reads each glyph or range: timed side by side, a question took as long as walking four ranges or eight glyphs.
+const LONG: usize = 8;
 
 // The first entry of the map, from the entry `from` on, whose old number is `value` or more; the number of entries if none is.
-// It looks at four entries one by one, then it halves.
+// It is mostly close: the search looks at four entries one by one, then it halves.
 fn reach(glyphs: &[u8], from: usize, value: usize) -> usize
     requires { ⌜ (from ≤ length (now glyphs) / 4) × (ascends (keys (mapEntries (now glyphs))) ≡ true) ⌝ }
     ensures { λ r. ⌜ Reached (now (glyphs .entry)) from value r ⌝ }
 {
-    let mut lo = from;
-    let mut hi = glyphs.len() / 4;
-    let near = from + 4;
-    while lo < hi {
-        let mid = probe(lo, hi, near);
-        if word_inside(glyphs, 4 * mid) < value {
-            lo = mid + 1;
-        } else {
-            hi = mid;
-        }
-    }
-    lo
+    halving::reach(glyphs, 0, 4, glyphs.len() / 4, from, from + 4, value)
 }
 
 // The `n` listed glyphs from `at` on that the map has, noted from `to` on; how many. Each is noted, and the place moves on if the map has it, so that no branch waits for the answer.
@@ -116,12 +100,35 @@ fn meet_ranges(src: &[u8], at: usize, n: usize, glyphs: &[u8], t: &mut [u32], to
     k
 }
 
+// The glyphs of the map that the coverage at `at` has, noted from `to` on; how many. The coverage is asked for one entry after the other.
+fn meet_entries(src: &[u8], at: usize, glyphs: &[u8], t: &mut [u32], to: usize) -> usize
+    requires { ⌜ MeetsEntries (now src) at (now glyphs) (now t) to ⌝ }
+    ensures { λ r. ⌜ Met (find (mapEntries (now (glyphs .entry)))) (coverage (now (src .entry)) at) (now (t .entry)) to (now (t .exit)) r ⌝ }
+{
+    let mut k = 0;
+    let mut e = 0;
+    while e < glyphs.len() / 4 {
+        match index_of(src, at, word_inside(glyphs, 4 * e)) {
+            Covered::At(i) => {
+                t[to + k] = (i * 65536 + word_inside(glyphs, 4 * e + 2)) as u32;
+                k += 1;
+            }
+            Covered::Not => {}
+        }
+        e += 1;
+    }
+    k
+}
+
 // The retained glyphs of the coverage at `at`, in order, noted in the cells from `to` on, each as its coverage index times 65,536, plus its new number; how many. `m` holds the glyph map.
 pub fn meet(src: &[u8], at: usize, glyphs: &[u8], m: Map, t: &mut [u32], to: usize) -> usize
     requires { ⌜ Meets (now src) at (now glyphs) m (now t) to ⌝ }
     ensures { λ r. ⌜ Met (find (mapEntries (now (glyphs .entry)))) (coverage (now (src .entry)) at) (now (t .entry)) to (now (t .exit)) r ⌝ }
 {
     let n = word_inside(src, at + 2);
+    if glyphs.len() / 4 < n / LONG {
+        return meet_entries(src, at, glyphs, t, to);
+    }
     if word_inside(src, at) == 1 {
         return meet_list(src, at + 4, n, m, t, to);
     }

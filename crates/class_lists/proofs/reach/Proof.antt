@@ -1,49 +1,22 @@
-use Prim.Native.Nat.{_-_}
-use Rattle.class_lists.proofs.Reading.{Searching, searching-all, searching-up, searching-down, searching-end}
 use borrow.Author.Needs.{needs}
+use Rattle.halving.specs.Columns.{ends-rising}
+use Rattle.class_lists.proofs.Reading.{range-reached}
 use Rattle.class_lists.proofs.reach.Statement.{statement}
 use Rattle.class_lists.proofs.reach.Tie as tie
 
-abbrev Inv-loop : tie.InvT-loop
-Inv-loop src at n from glyph lo₀ hi₀ near lo hi = Searching src at n glyph lo hi
+reach-requires : tie.Need-reach-requires
+reach-requires c κs =
+    let p = c .before in
+    (ends-rising (p .args .src .now) (p .args .at) (p .args .n) (p .pre .0 .inside) (p .pre .0 .rise), p .pre .1)
 
-abbrev μ-loop : tie.MeasureT-loop
-μ-loop src at n from glyph lo₀ hi₀ near lo hi = hi - lo
-
-loop-holds : tie.Need-loop-holds Inv-loop μ-loop
-loop-holds c = searching-all (c .before .pre .1, c .before .pre .2)
-
-loop-again : tie.Need-loop-again Inv-loop μ-loop
-loop-again c =
-    let w = c .before in
-    let m = w .before in
-    searching-up (m .before .before .loop .inv) (m .probe .ensures) (w .word-inside .ensures .0) (c .if1 .taken)
-
-loop-again-2 : tie.Need-loop-again-2 Inv-loop μ-loop
-loop-again-2 c =
-    let w = c .before in
-    let m = w .before in
-    searching-down (m .before .before .loop .inv) (m .probe .ensures) (w .word-inside .ensures .0) (c .if1 .left)
-
-returns : tie.Need-returns Inv-loop μ-loop
-returns c = searching-end (c .before .loop .inv) (c .loop-test .left)
+returns : tie.Need-returns
+returns c = range-reached (c .before .before .pre .2) (c .reach .ensures)
 
 pub reach-spec : {M : Type 1} → statement M
 reach-spec =
     tie.close
     (tie.spec
-    Inv-loop
-    μ-loop
-    (λ c. search needs)
-    loop-holds
-    (λ c κs. search needs)
     (λ c. search needs)
     (λ c. search needs)
-    (λ c. search needs)
-    (λ c κs. search needs)
-    (λ c. search needs)
-    (λ c. search needs)
-    loop-again
-    (λ c. search needs)
-    loop-again-2
+    reach-requires
     returns)
