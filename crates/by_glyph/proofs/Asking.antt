@@ -17,6 +17,7 @@ use Rattle.meaning.specs.Fault.{faultThrough, coverageFault, pairSetFault, enou
 use Rattle.meaning.specs.Cut.{RuleMaps, cut, standIn}
 use Rattle.meaning.specs.Layout.{block, tableWords}
 use Rattle.laws.specs.Stands.{All}
+use Rattle.laws.specs.Through.{Opt}
 use Rattle.laws.specs.Runs.{both}
 use Rattle.laws.specs.SoundGood.{part-sound, lowest-none, header-good}
 use Rattle.numbers.specs.Alike.{Alike, holds-alike}
@@ -42,7 +43,7 @@ use Rattle.kept_sets.specs.declared.Sort.{Sort}
 use Rattle.kept_sets.specs.declared.Sort.the-variants.{Rules, Ligatures, Pairs}
 use Rattle.kept_table.specs.Table.{areaMost, tableOf}
 use Rattle.by_glyph.specs.Asked.{SoundSets, MapsLaid, keptFrom}
-use Rattle.kept_table.specs.Answers.{Answered, answered-as, answered-said}
+use Rattle.kept_table.specs.Answers.{ByCover, Answered, answered-as, answered-said}
 use Rattle.by_glyph.specs.Whole.{cellsMost}
 use Rattle.by_glyph.specs.PairTables.{pairTable, pairFault, pairsOf, oneMap, AnsweredPairs, sound-pairs, pairs-cut}
 
@@ -294,10 +295,10 @@ module _ {g t₀ t : List ℕ} {m : Map} (a : Laid g t₀ t 0 m) (z : m .mask �
 
 -- With few cells behind the maps, the lent ones were few; so what is answered behind the maps is answered of all.
 module _ {g t₀ t : List ℕ} {m : Map} (a : Laid g t₀ t 0 m) (u : ascends (keys (mapEntries g)) ≡ true) (bytes : (i : ℕ) → getD g i 0 < 256)
-    {out₀ : List ℕ} {words : Option (List ℕ)} {n : ℕ} {r : Tried} {out : List ℕ} (left : Option Table) (e : words ≡ block tableWords left) where
+    {out₀ : List ℕ} {words : Option (List ℕ)} {n : ℕ} {r : Tried} {out : List ℕ} (left : Option Table) (fit : Opt ByCover left) (e : words ≡ block tableWords left) where
   pub one-answered : Answered (length t ≤ m .mask + 1 + length g / 4) out₀ words n r out → Tries (length t₀ < cellsMost) (n < areaMost) r out₀ out (written out₀ left)
-  one-answered = answered-as (λ h. omega (arith, h, few-entries g u bytes, a .kept .size, a .few u)) left e
+  one-answered = answered-as (λ h. omega (arith, h, few-entries g u bytes, a .kept .size, a .few u)) left fit e
 
   pub two-answered : {l t₂ : List ℕ} {k : Map} → Laid l t t₂ (m .mask + 1) k → ascends (keys (mapEntries l)) ≡ true → Answered (length t₂ ≤ m .mask + k .mask + 2 + length g / 4) out₀ words n r out
       → Tries (length t₀ < cellsMost) (n < areaMost) r out₀ out (written out₀ left)
-  two-answered b v = answered-as (λ h. omega (arith, h, few-entries g u bytes, a .kept .size, b .kept .size, a .few u, b .few v)) left e
+  two-answered b v = answered-as (λ h. omega (arith, h, few-entries g u bytes, a .kept .size, b .kept .size, a .few u, b .few v)) left fit e

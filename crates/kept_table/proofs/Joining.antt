@@ -1,14 +1,18 @@
 -- From the sets that are kept to the table that is handed over.
 use Prim.Native.Nat.{ℕ, _+_, _-_, _*_, _≤_, _<_}
 use mathlib.Core.Path.{_≡_, refl, sym, ap, _∙_}
+use mathlib.Core.Bool.{Bool, true, false}
 use mathlib.Core.Option.{Option, none, some}
 use mathlib.Core.List.{List, [], _∷_, _++_}
 use native.Mathlib.Omega.{arith}
-use lib.ListN.{length, length-append, length-map}
+use lib.ListN.{length, getD, length-append, length-map}
+use lib.Dec.{leb, ltb}
+use borrow.Author.Tests.{leb-true, leb-false, lt-ltb, le-ltb}
 use Rattle.meaning.specs.Words.{flat}
 use Rattle.meaning.specs.Cut.{glyphsOf}
 use Rattle.meaning.specs.Layout.{offsets, blocks, coverageWords, setsLayout}
-use Rattle.meaning.specs.Subset.{Outcome, refused, limit, laidInto}
+use Rattle.meaning.specs.Subset.{Outcome, refused, limit}
+use Rattle.room.specs.Laid.{laidAs}
 use Rattle.tried.specs.declared.Tried.{Tried}
 use Rattle.area.specs.Part.{part, news}
 use Rattle.area.specs.Closed.{members}
@@ -26,6 +30,19 @@ unfolding setsLayout offsets blocks
 table-most more cov bs =
     let first = 6 + 2 * length more + 2 * length bs in
     omega (arith, length-append more (length bs ∷ (offsets first bs ++ (blocks bs ++ (cov ++ [])))), length-append (offsets first bs) (blocks bs ++ (cov ++ [])), length-append (blocks bs) (cov ++ []), length-append cov [])
+
+-- at most the highest number of a word
+pub at-most : (n : ℕ) → leb n 65535 ≡ ltb n 65536
+at-most n = step (leb n 65535) refl
+  where
+    step : (b : Bool) → leb n 65535 ≡ b → b ≡ ltb n 65536
+    step true e = sym (lt-ltb n 65536 (omega (arith, leb-true n 65535 e)))
+    step false e = sym (le-ltb n 65536 (omega (arith, leb-false n 65535 e)))
+
+-- the second word of a table is the coverage's offset
+pub cover-word : (more cov : List ℕ) (bs : List (Option (List ℕ))) → getD (setsLayout 1 (some cov ∷ []) more bs) 1 0 ≡ 6 + 2 * length more + 2 * length bs + 2 * length (blocks bs)
+unfolding setsLayout offsets
+cover-word more cov bs = omega arith
 
 module _ (sort : Sort) where
   -- of no sets there is no table
@@ -49,7 +66,7 @@ words-some : (ws : List ℕ) → wordsIn (some ws) ≡ ws
 unfolding wordsIn
 words-some ws = refl
 
-laid-some : (out ws : List ℕ) → laidWords out (some ws) ≡ laidInto out (flat ws)
+laid-some : (out ws : List ℕ) → laidWords out (some ws) ≡ laidAs (ltb (getD ws 1 0) 65536) out (flat ws)
 unfolding laidWords
 laid-some out ws = refl
 
@@ -104,8 +121,13 @@ module _ {sort : Sort} {s t₀ : List ℕ} {maps : Maps} {at m : ℕ} {area₀ t
             omega (arith, f .full (omega (arith, f .same)), w .same, done .placed .place, a .few, c, n, table-most (moreOf sort) (coverageWords (glyphsOf kept)) (members (wordsOf kept)))
 
         -- what is handed over is the table
-        pub table-laid : end ≤ length after → {head : ℕ} → head ≡ headerSize sort + 2 * r .count → (out₀ : List ℕ) {o : Outcome} → o ≡ laidInto out₀ (part after 0 head ++ part after first (end - first)) → o ≡ laidWords out₀ (tableOf sort kept)
-        table-laid k u out₀ h =
+        pub table-laid : end ≤ length after → {head : ℕ} → head ≡ headerSize sort + 2 * r .count → {fits : Bool} → fits ≡ ltb (r .end - (first - head)) 65536
+            → (out₀ : List ℕ) {o : Outcome} → o ≡ laidAs fits out₀ (part after 0 head ++ part after first (end - first)) → o ≡ laidWords out₀ (tableOf sort kept)
+        table-laid k {head} u {fits} q out₀ h =
             let p = rw (← e) at (done .placed) in
             let v = f .table (wordsOf kept) (length-map kept (λ x. x .1) ∙ done .count) p (omega (arith, f .same)) in
-            h ∙ ap (λ (i : ℕ). laidInto out₀ (part after 0 i ++ part after first (end - first))) u ∙ ap (laidInto out₀) (v ∙ ap (λ (g : List ℕ). flat (layoutOf sort g (wordsOf kept))) (done .glyphs)) ∙ sym (laid-some out₀ (layoutOf sort (glyphsOf kept) (wordsOf kept))) ∙ ap (laidWords out₀) (sym table-is-some)
+            let many : length (members (wordsOf kept)) ≡ r .count = length-map (wordsOf kept) (λ b. some b) ∙ length-map kept (λ x. x .1) ∙ done .count in
+            let second : r .end - (first - head) ≡ getD (layoutOf sort (glyphsOf kept) (wordsOf kept)) 1 0 = omega (arith, cover-word (moreOf sort) (coverageWords (glyphsOf kept)) (members (wordsOf kept)), many, done .placed .place, done .few, e, u) in
+            let test : fits ≡ ltb (getD (layoutOf sort (glyphsOf kept) (wordsOf kept)) 1 0) 65536 = q ∙ ap (λ (n : ℕ). ltb n 65536) second in
+            h ∙ ap (λ (i : ℕ). laidAs fits out₀ (part after 0 i ++ part after first (end - first))) u ∙ ap (laidAs fits out₀) (v ∙ ap (λ (g : List ℕ). flat (layoutOf sort g (wordsOf kept))) (done .glyphs))
+            ∙ ap (λ (t : Bool). laidAs t out₀ (flat (layoutOf sort (glyphsOf kept) (wordsOf kept)))) test ∙ sym (laid-some out₀ (layoutOf sort (glyphsOf kept) (wordsOf kept))) ∙ ap (laidWords out₀) (sym table-is-some)
