@@ -5,7 +5,7 @@ use mathlib.Core.Bool.{Bool, true, false}
 use mathlib.Core.Option.{Option}
 use mathlib.Core.List.{List, [], _∷_, _++_}
 use native.Mathlib.Omega.{arith}
-use lib.ListN.{length, take}
+use lib.ListN.{length}
 use lib.Seq.{length-take-le}
 use Rattle.meaning.specs.Words.{flat}
 use Rattle.meaning.specs.Cut.{trim}
@@ -25,7 +25,7 @@ use Rattle.tried.specs.declared.Tried.the-variants.{Short, Became}
 use Rattle.room.specs.declared.Laid.the-variants.{TooBig}
 use Rattle.class_layouts.specs.Tail.{tailBlocks, tailFit}
 use Rattle.class_layouts.specs.Table.{tableInto, Finishes, Finished}
-use Rattle.class_layouts.specs.Written.{enoughBytes, mostClasses, NoRoom, Writes, leftInto}
+use Rattle.class_layouts.specs.Written.{enoughBytes, NoRoom, Writes, leftInto}
 use Rattle.class_layouts.specs.declared.Prepared.{Prepared}
 use Rattle.class_layouts.proofs.Laying.{fit-first}
 use Rattle.class_layouts.proofs.Finishing.{tail-many}
