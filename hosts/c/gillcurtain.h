@@ -58,9 +58,9 @@ enum gillcurtain_answer {
   GILLCURTAIN_PAST_RULE = 12    /* a record's sequence index is not below its rule's input count */
 };
 
-/* The stack, in bytes, that a call may use at most: 4 MiB. hosts/c/limits.c
+/* The stack, in bytes, that a call may use at most: 3.5 MiB. hosts/c/limits.c
  * holds calls that go deep to it. */
-#define GILLCURTAIN_STACK (16u << 18)
+#define GILLCURTAIN_STACK (14u << 18)
 
 /* The same where GILLCURTAIN_SCRATCH bytes of scratch are lent. */
 #define GILLCURTAIN_LITTLE_STACK (1u << 18)
@@ -68,7 +68,7 @@ enum gillcurtain_answer {
 /* The scratch that is enough for any call: so many cells of 32 bits, so many
  * bytes of area, and both in one piece. */
 #define GILLCURTAIN_CELLS 655360u
-#define GILLCURTAIN_AREA 1048576u
+#define GILLCURTAIN_AREA 655360u
 #define GILLCURTAIN_SCRATCH (4u * GILLCURTAIN_CELLS + GILLCURTAIN_AREA)
 
 /* Cuts `source`, a subtable of this kind. `glyphs` and `lookups` are maps:

@@ -15,14 +15,14 @@ pub const PAIR: u64 = 4;
 /// The stack, in bytes, that [`subset`] may use at most. The main thread has more on most systems; a
 /// thread that Rust starts has 2 MiB, so ask for more with `std::thread::Builder::stack_size` where
 /// fonts come from anywhere. With too little, the call ends the process at the stack's guard page.
-pub const STACK: usize = 16 << 18;
+pub const STACK: usize = 14 << 18;
 
 /// The stack, in bytes, that a call of [`Subsetter::new`] may use at most: less than any thread has.
 pub const LITTLE_STACK: usize = 1 << 18;
 
 /// The scratch that is enough for any call: so many cells of 32 bits, and so many bytes of area.
 const CELLS: usize = 655_360;
-const AREA: usize = 1_048_576;
+const AREA: usize = 655_360;
 
 /// What comes back. Where several refusals apply, the first of them in this order is given.
 #[derive(Clone, Copy, Debug, PartialEq, Eq)]
@@ -111,7 +111,7 @@ pub struct Subsetter {
 }
 
 impl Subsetter {
-    /// With scratch that is enough for any call: 3.5 MiB.
+    /// With scratch that is enough for any call: 3.125 MiB.
     pub fn new() -> Subsetter {
         Subsetter { cells: vec![0; CELLS], area: vec![0; AREA] }
     }

@@ -254,7 +254,7 @@ front-length {n} t h = sym (length-take-le n t (h .first))
 front-short : {n c : ℕ} (t : List ℕ) → Least (length t) c n → length (take n t) < c → length t < c
 front-short {n} {c} t h l = omega (arith, front-length t h, h .one (omega (arith, front-length t h)))
 
-pub front-tries : {n k : ℕ} (t area : List ℕ) (r : Tried) (out after : List ℕ) (made : Outcome) → Least (length t) 655360 n → Least (length area) 1048576 k
+pub front-tries : {n k : ℕ} (t area : List ℕ) (r : Tried) (out after : List ℕ) (made : Outcome) → Least (length t) 655360 n → Least (length area) enoughBytes k
     → Tries (length (take n t) < enoughCells) (length (take k area) < enoughBytes) r out after made → Tries (length t < enoughCells) (length area < enoughBytes) r out after made
 front-tries {n} {k} t area r out after made h g =
     tries-less (length (take n t) < enoughCells) (length (take k area) < enoughBytes) (length t < enoughCells) (length area < enoughBytes) r out after made (front-short t h) (front-short area g)

@@ -1,4 +1,4 @@
--- What is handed over is what is left; and where there is no room for it, it is over the limit.
+-- What is handed over is what is left; and where there is no room for it, an offset or a count doesn't fit a word.
 use Prim.Native.Nat.{ℕ, _+_, _-_, _*_, _≤_, _<_}
 use mathlib.Core.Path.{_≡_, refl, sym, ap, _∙_, subst}
 use mathlib.Core.Bool.{Bool, true, false}
@@ -11,9 +11,7 @@ use Rattle.meaning.specs.Words.{flat}
 use Rattle.meaning.specs.Cut.{trim}
 use Rattle.meaning.specs.Layout.{blocks, setsLayout}
 use Rattle.meaning.specs.Subset.{Outcome, refused, limit}
-use Rattle.room.specs.Laid.{laidAs, laid-over, laid-unfit}
-use Rattle.laws.specs.Stands.{flat-length}
-use Rattle.laws.specs.SetsTable.{table-size}
+use Rattle.room.specs.Laid.{laidAs, laid-unfit}
 use Rattle.area.specs.Part.{part}
 use Rattle.class_maps.specs.SlotWalk.{trim-words}
 use Rattle.class_slots.specs.Sets.{slotsAt, slots-near}
@@ -27,14 +25,14 @@ use Rattle.class_layouts.specs.Tail.{tailBlocks, tailFit}
 use Rattle.class_layouts.specs.Table.{tableInto, Finishes, Finished}
 use Rattle.class_layouts.specs.Written.{enoughBytes, NoRoom, Writes, leftInto}
 use Rattle.class_layouts.specs.declared.Prepared.{Prepared}
-use Rattle.class_layouts.proofs.Laying.{fit-first}
+use Rattle.class_layouts.proofs.Laying.{fit-first, fit-end}
 use Rattle.class_layouts.proofs.Finishing.{tail-many}
 
 -- no room
-pub too-short : {n : ℕ} → n < 1048576 → NoRoom n Short
+pub too-short : {n : ℕ} → n < enoughBytes → NoRoom n Short
 too-short h = record { told = λ out made k. (h, refl) }
 
-pub too-big : {n : ℕ} → 1048576 ≤ n → NoRoom n (Became TooBig)
+pub too-big : {n : ℕ} → enoughBytes ≤ n → NoRoom n (Became TooBig)
 too-big h = record { told = λ out made k. k h }
 
 pub room-told : {n m : ℕ} {r : Tried} {out : List ℕ} {made : Outcome} → NoRoom n r → n ≡ m → (enoughBytes ≤ n → refused out 9 ≡ made) → Tries ⊥ (m < enoughBytes) r out out made
@@ -71,17 +69,12 @@ module _ (tail bs : List (Option (List ℕ))) where
       step [] z = absurd (omega arith)
       step (b ∷ l) z = refl
 
-  -- how many bytes it takes
-  left-size : length (flat (setsLayout 2 tail [] (trim bs))) ≡ 4 + 2 * length tail + 2 * length (trim bs) + 2 * length (blocks bs) + 2 * length (blocks tail)
-  left-size = omega (arith, flat-length (setsLayout 2 tail [] (trim bs)), table-size 2 tail [] (trim bs), ap length (trim-words bs))
-
-  -- it is over the limit, if what follows the sets fits words
-  left-over : (out : List ℕ) → 0 < length (trim bs) → (tailFit coverPlace tail ≡ true → 262144 < 4 + 2 * length tail + 2 * length (trim bs) + 2 * length (blocks bs) + 2 * length (blocks tail)) → refused out 9 ≡ tableInto out tail (trim bs)
-  unfolding limit
-  left-over out z h = sym (left-some out z ∙ step (tailFit coverPlace tail) h)
+  -- what follows the sets doesn't fit words
+  left-unfit : (out : List ℕ) → 0 < length (trim bs) → (tailFit coverPlace tail ≡ true → ⊥) → refused out 9 ≡ tableInto out tail (trim bs)
+  left-unfit out z h = sym (left-some out z ∙ step (tailFit coverPlace tail) h)
     where
-      step : (t : Bool) → (t ≡ true → 262144 < 4 + 2 * length tail + 2 * length (trim bs) + 2 * length (blocks bs) + 2 * length (blocks tail)) → laidAs t out (flat (setsLayout 2 tail [] (trim bs))) ≡ refused out 9
-      step true h = laid-over true out (flat (setsLayout 2 tail [] (trim bs))) (omega (arith, left-size, h refl))
+      step : (t : Bool) → (t ≡ true → ⊥) → laidAs t out (flat (setsLayout 2 tail [] (trim bs))) ≡ refused out 9
+      step true h = absurd (h refl)
       step false h = laid-unfit out (flat (setsLayout 2 tail [] (trim bs)))
 
 module _ {chained : Bool} {s t : List ℕ} {p : Prepared} {area₀ : List ℕ} (a : Writes chained s t p area₀) {area : List ℕ} {r : Slots} (w : WroteSlots chained s t (p .maps) (p .marks) area₀ area r) (out : List ℕ) where
@@ -99,10 +92,8 @@ module _ {chained : Bool} {s t : List ℕ} {p : Prepared} {area₀ : List ℕ} (
   unfolding limit
   short-slots l b =
       let f = w .full (omega (arith, w .same)) in
-      let near = slots-near chained in
-      let u : 262144 < slotsAt chained + 2 + 2 * length (blocks bs) = omega (arith, f, many, a .few, a .ready .short, w .same, near) in
-      let z = trim-some tb bs (omega (arith, u, near)) in
-      left-over tb bs out z (λ q. omega (arith, u, z, tail-many chained t (p .tail)))
+      let u : 65535 < 2 * length (blocks bs) = omega (arith, f, many, a .few, a .ready .short, w .same, slots-near chained) in
+      left-unfit tb bs out (trim-some tb bs (omega (arith, u))) (λ q. omega (arith, u, fit-first (coverPlace tb bs) _ _ q .0, ap length (trim-words bs)))
 
   module _ (l : r .end ≤ length area) where
     filled : Filled chained s t (p .maps) (p .marks) area r
@@ -139,9 +130,10 @@ module _ {chained : Bool} {s t : List ℕ} {p : Prepared} {area₀ : List ℕ} (
         -- there is no room for what follows the sets
         pub short-table : length after < end → enoughBytes ≤ length after → refused out 9 ≡ leftInto out chained s t p
         short-table k b =
-            left-over tb bs out (omega (arith, long)) (λ q.
+            left-unfit tb bs out (omega (arith, long)) (λ q.
             let g = f .full (omega (arith, f .same)) (rw cover-is at q) in
-            omega (arith, g, ends, a .few, f .same, slots-near chained, tail-many chained t (p .tail)))
+            let e = fit-end (coverPlace tb bs) tb (omega (arith, fit-first (coverPlace tb bs) _ _ q .0)) q in
+            omega (arith, g, e, cover-is, a .few, f .same))
 
         module _ (k : end ≤ length after) where
           -- where the table ends

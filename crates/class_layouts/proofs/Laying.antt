@@ -43,6 +43,24 @@ fit-first q b bs h =
 and-true : (a b : Bool) → a ≡ true → b ≡ true → a && b ≡ true
 and-true a b h k = rw (h, k) refl
 
+-- the blocks after the first fit behind it
+fit-rest : (q : ℕ) (b : List ℕ) (bs : List (Option (List ℕ))) → tailFit q (some b ∷ bs) ≡ true → tailFit (q + 2 * length b) bs ≡ true
+unfolding tailFit shortBlocks offsets wordsFit every
+fit-rest q b bs h =
+    let t = both (ltb q 65536 && wordsFit (offsets (q + 2 * length b) bs)) (leb (length b) 65538 && shortBlocks bs) h in
+    and-true (wordsFit (offsets (q + 2 * length b) bs)) (shortBlocks bs) (both (ltb q 65536) _ (t .0) .1) (both (leb (length b) 65538) _ (t .1) .1)
+
+fit-null : (q : ℕ) (bs : List (Option (List ℕ))) → tailFit q (none ∷ bs) ≡ true → tailFit q bs ≡ true
+unfolding tailFit shortBlocks offsets wordsFit every
+fit-null q bs h = h
+
+-- blocks that fit end soon: the last of them starts at 65,535 at the latest, and takes 131,076 bytes at most
+pub fit-end : (q : ℕ) (bs : List (Option (List ℕ))) → q ≤ 196611 → tailFit q bs ≡ true → q + 2 * length (blocks bs) ≤ 196611
+unfolding blocks
+fit-end q [] l h = omega arith
+fit-end q (none ∷ bs) l h = fit-end q bs l (fit-null q bs h)
+fit-end q (some b ∷ bs) l h = omega (arith, fit-end (q + 2 * length b) bs (omega (arith, fit-first q b bs h)) (fit-rest q b bs h), length-append b (blocks bs))
+
 and-assoc : (a b c : Bool) → a && (b && c) ≡ (a && b) && c
 and-assoc true b c = refl
 and-assoc false b c = refl

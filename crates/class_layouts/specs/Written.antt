@@ -13,15 +13,15 @@ use Rattle.class_layouts.specs.Tail.{tailBlocks, TailIn}
 use Rattle.class_layouts.specs.Table.{tableInto}
 use Rattle.class_layouts.specs.declared.Prepared.{Prepared}
 
--- bytes that are enough for any source: where they are too few, the layout is over the limit
+-- bytes that are enough for any source: where they are too few, an offset or a count of the layout doesn't fit a word
 abbrev pub enoughBytes : ℕ
-enoughBytes = 1048576
+enoughBytes = 655360
 
 -- the most surviving classes
 abbrev pub mostClasses : ℕ
 mostClasses = 65536
 
--- What is answered where an area of n bytes has no room: it is too short, or the layout is over the limit, if an area that is long enough says so.
+-- What is answered where an area of n bytes has no room: it is too short, or the layout is too big, if an area that is long enough says so.
 pub record NoRoom (n : ℕ) (r : Tried) : Type 0 where
   pub told : (out : List ℕ) (made : Outcome) → (enoughBytes ≤ n → refused out 9 ≡ made) → Tries ⊥ (n < enoughBytes) r out out made
 

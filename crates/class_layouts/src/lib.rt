@@ -27,8 +27,8 @@ ghost use Rattle.class_layouts.specs.Tail.{tableBlock, tableBlocks, tail
 ghost use Rattle.class_layouts.specs.Table.{Finishes, Finished};
 ghost use Rattle.class_layouts.specs.Written.{enoughBytes, NoRoom, Writes, leftInto};
 
-// The number of bytes of an area that is enough for any source: where they are too few, the layout is over the limit.
-pub const BYTES: usize = 4 * LIMIT;
+// The number of bytes of an area that is enough for any source: where they are too few, an offset or a count of the layout doesn't fit a word.
+pub const BYTES: usize = 5 * LIMIT / 2;
 
 // The most bytes of a class table whose count fits a word.
 const LONGEST: usize = 131076;
@@ -146,7 +146,7 @@ fn finish(
     end
 }
 
-// What is answered where the area has no room: it is too short, or, if it is long enough for any layout that is not over the limit, this one is over.
+// What is answered where the area has no room: it is too short, or, if it is long enough for any layout that is not too big, this one is too big.
 fn no_room(area: &[u8]) -> Tried
     ensures { λ r. ⌜ NoRoom (length (now (area .entry))) r ⌝ }
 {

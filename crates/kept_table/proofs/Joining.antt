@@ -22,7 +22,7 @@ use Rattle.kept_sets.specs.Kept.{wordsOf, Ready, Done, WroteKept, keptIn}
 use Rattle.kept_sets.specs.declared.Sort.{Sort}
 use Rattle.kept_sets.specs.declared.Sets.{Sets}
 use Rattle.kept_table.specs.Table.{areaMost, layoutOf, tableOf, Finishes, Finished}
-use Rattle.kept_table.specs.Answers.{laidWords, NoRoom, Answered, words-over}
+use Rattle.kept_table.specs.Answers.{laidWords, NoRoom, Answered, words-over, words-unfit}
 
 -- the sets and the coverage are part of their table
 table-most : (more cov : List ℕ) (bs : List (Option (List ℕ))) → length (blocks bs) + length cov ≤ length (setsLayout 1 (some cov ∷ []) more bs)
@@ -56,11 +56,11 @@ module _ (sort : Sort) where
   table-some [] z = absurd (z refl)
   table-some (k ∷ ks) z = refl
 
-  -- what sets take is part of what their table takes
-  table-sets : (ks : List (ℕ × List ℕ)) → length (blocks (members (wordsOf ks))) ≤ length (wordsIn (tableOf sort ks))
+  -- the sets stand before the coverage
+  table-sets : (ks : List (ℕ × List ℕ)) → 2 * length (blocks (members (wordsOf ks))) ≤ getD (wordsIn (tableOf sort ks)) 1 0
   unfolding tableOf wordsIn blocks
   table-sets [] = omega arith
-  table-sets (k ∷ ks) = omega (arith, table-most (moreOf sort) (coverageWords (glyphsOf (k ∷ ks))) (members (wordsOf (k ∷ ks))))
+  table-sets (k ∷ ks) = omega (arith, cover-word (moreOf sort) (coverageWords (glyphsOf (k ∷ ks))) (members (wordsOf (k ∷ ks))))
 
 words-some : (ws : List ℕ) → wordsIn (some ws) ≡ ws
 unfolding wordsIn
@@ -76,16 +76,17 @@ unfolding laidWords
 laid-none out e = rw e refl
 
 -- there is no room
-pub answered-short : {a b n : ℕ} {r : Tried} {out : List ℕ} {words : Option (List ℕ)} → NoRoom b r → b ≡ a → n ≤ limit → a < 2 * length (wordsIn words) + 3 * n → Answered (⊥) out words a r out
-answered-short {out = out} {words} h e l o = record { answer = (rw e at h) .refuses (words-over out words l o) }
+pub answered-short : {a b : ℕ} {r : Tried} {out : List ℕ} {words : Option (List ℕ)} → NoRoom b r → b ≡ a → (areaMost ≤ a → refused out 9 ≡ laidWords out words) → Answered (⊥) out words a r out
+answered-short h e o = record { answer = (rw e at h) .refuses o }
 
 module _ {sort : Sort} {s t₀ : List ℕ} {maps : Maps} {at m : ℕ} {area₀ t area : List ℕ} {r : Sets} (a : Ready sort s t₀ maps at m) (w : WroteKept sort s t₀ maps at m area₀ t area r) where
   abbrev kept : List (ℕ × List ℕ)
   kept = keptIn sort s t₀ maps at m
 
   -- there is no room for the sets
-  pub short-sets : length area < r .end → length area₀ < 2 * length (wordsIn (tableOf sort kept)) + 3 * length s
-  short-sets l = omega (arith, w .full (omega (arith, w .same)), table-sets sort kept)
+  pub short-sets : (out : List ℕ) → length area < r .end → areaMost ≤ length area₀ → refused out 9 ≡ laidWords out (tableOf sort kept)
+  unfolding limit
+  short-sets out l = words-unfit out (tableOf sort kept) (omega (arith, w .full (omega (arith, w .same)), a .short, table-sets sort kept))
 
   module _ (l : r .end ≤ length area) where
     done : Done sort s t₀ maps at m t area (r .count) (r .end)
@@ -114,11 +115,11 @@ module _ {sort : Sort} {s t₀ : List ℕ} {maps : Maps} {at m : ℕ} {area₀ t
         table-is-some = table-some sort kept (λ n. z (sym (done .count) ∙ n))
 
         -- there is no room for the coverage
-        pub short-table : length after < end → length area₀ < 2 * length (wordsIn (tableOf sort kept)) + 3 * length s
-        short-table k =
+        pub short-table : (out : List ℕ) → length after < end → areaMost ≤ length area₀ → refused out 9 ≡ laidWords out (tableOf sort kept)
+        short-table out k =
             let c : length (coverageWords (news t at (r .count))) ≡ length (coverageWords (glyphsOf kept)) = ap (λ (g : List ℕ). length (coverageWords g)) (done .glyphs) in
             let n : length (wordsIn (tableOf sort kept)) ≡ length (layoutOf sort (glyphsOf kept) (wordsOf kept)) = ap (λ (o : Option (List ℕ)). length (wordsIn o)) table-is-some ∙ ap length (words-some (layoutOf sort (glyphsOf kept) (wordsOf kept))) in
-            omega (arith, f .full (omega (arith, f .same)), w .same, done .placed .place, a .few, c, n, table-most (moreOf sort) (coverageWords (glyphsOf kept)) (members (wordsOf kept)))
+            words-over out (tableOf sort kept) (a .short) (omega (arith, f .full (omega (arith, f .same)), w .same, done .placed .place, a .few, c, n, table-most (moreOf sort) (coverageWords (glyphsOf kept)) (members (wordsOf kept))))
 
         -- what is handed over is the table
         pub table-laid : end ≤ length after → {head : ℕ} → head ≡ headerSize sort + 2 * r .count → {fits : Bool} → fits ≡ ltb (r .end - (first - head)) 65536

@@ -13,9 +13,9 @@ use Rattle.kept_sets.specs.Sorts.{moreOf, headerSize}
 use Rattle.kept_sets.specs.Kept.{wordsOf, Placed}
 use Rattle.kept_sets.specs.declared.Sort.{Sort}
 
--- the bytes of an area that are enough for any source, four times the limit; no more are used
+-- the bytes of an area that are enough for any source, five halves of the limit; no more are used
 abbrev pub areaMost : ℕ
-areaMost = 1048576
+areaMost = 655360
 
 -- the words of the table of these sets, which these glyphs index
 abbrev pub layoutOf : Sort → List ℕ → List (List ℕ) → List ℕ

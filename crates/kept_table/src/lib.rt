@@ -24,8 +24,8 @@ ghost use Rattle.kept_sets.specs.Kept.{Ready, keptIn};
 ghost use Rattle.kept_table.specs.Table.{areaMost, Finishes, Finished, tableOf};
 ghost use Rattle.kept_table.specs.Answers.{NoRoom, Answered};
 
-// The bytes of an area that are enough for any source: four times the limit. No more are used.
-pub const AREA: usize = 4 * LIMIT;
+// The bytes of an area that are enough for any source: five halves of the limit. No more are used.
+pub const AREA: usize = 5 * LIMIT / 2;
 
 // Where the notes of the retained covered glyphs stand in the cells, and how many there are.
 pub struct Notes {
@@ -77,7 +77,7 @@ fn cover_fits(head: usize, first: usize, p: usize) -> bool
     p - (first - head) <= HIGHEST
 }
 
-// There is no room in the area: it is too short; or it has what is enough for any source, and then the layout is over the limit.
+// There is no room in the area: it is too short; or it has what is enough for any source, and then the layout is too big.
 fn no_room(area: &[u8]) -> Tried
     ensures { λ r. ⌜ NoRoom (length (now (area .entry))) r ⌝ }
 {

@@ -24,7 +24,7 @@ add-cut-pair-sets c = omega (arith, c .before .before .before .before .lay .ensu
 cut-pair-sets-requires : tie.Need-cut-pair-sets-requires
 cut-pair-sets-requires c κs =
     let a = c .before .before .before .before .before .before .before .before .before .before .before .before .before .before .before in
-    (pairs-asked _ (a .pre .1) (a .pre .0), one-laid (c .before .before .before .before .before .before .lay .ensures) (c .before .before .before .if2 .left) (a .pre .2), a .pre .3, λ z. c .before .before .before .before .before .before .before .before .if1 .left (c .before .before .before .before .before .before .before .before .before .word-inside .ensures .0 ∙ z))
+    (pairs-asked _ (λ i. omega (arith, c .before .before .before .before .before .before .before .before .before .before .before .before .before .before .shared-slice-known .given i)) (a .pre .1) (a .pre .0), one-laid (c .before .before .before .before .before .before .lay .ensures) (c .before .before .before .if2 .left) (a .pre .2), a .pre .3, λ z. c .before .before .before .before .before .before .before .before .if1 .left (c .before .before .before .before .before .before .before .before .before .word-inside .ensures .0 ∙ z))
 
 returns-3 : tie.Need-returns-3
 returns-3 c =

@@ -10,7 +10,7 @@ returns : tie.Need-returns
 returns c =
     let a = c .before .before .before .before .before .before .before .before .before .before .before .before .before .before .before .before .before .before .pre .0 in
     let w = c .before .before .before .before .before .before .before .before .before .write-kept .ensures in
-    answered-short (c .no-room .ensures) (w .same) (a .short) (short-sets a w (c .before .before .if1 .taken))
+    answered-short (c .no-room .ensures) (w .same) (short-sets a w _ (c .before .before .if1 .taken))
 
 returns-2 : tie.Need-returns-2
 returns-2 c = record { answer = laid-none _ (none-kept (c .before .before .before .before .before .before .before .before .before .before .before .before .before .before .before .before .before .pre .0) (c .before .before .before .before .before .before .before .before .write-kept .ensures) (c .before .if1 .left) (c .if2 .taken)) }
@@ -23,7 +23,7 @@ returns-3 c =
     let a = c .before .before .before .before .before .before .before .before .before .before .before .before .before .before .before .before .before .before .before .before .before .before .before .before .before .before .pre .0 in
     let w = c .before .before .before .before .before .before .before .before .before .before .before .before .before .before .before .before .before .write-kept .ensures in
     let f = c .before .before .before .before .before .finish .ensures in
-    answered-short (c .no-room2 .ensures) (f .same ∙ w .same) (a .short) (short-table a w (c .before .before .before .before .before .before .before .before .before .before .if1 .left) (c .before .before .before .before .before .before .before .before .before .if2 .left) (omega (arith, c .before .before .before .before .before .before .before .before .header-size .ensures .0)) f (c .before .before .if3 .taken))
+    answered-short (c .no-room2 .ensures) (f .same ∙ w .same) (short-table a w (c .before .before .before .before .before .before .before .before .before .before .if1 .left) (c .before .before .before .before .before .before .before .before .before .if2 .left) (omega (arith, c .before .before .before .before .before .before .before .before .header-size .ensures .0)) f _ (c .before .before .if3 .taken))
 
 mul-head : tie.Need-mul-head
 mul-head c =
