@@ -20,7 +20,7 @@
 #include "hbx.h"
 #endif
 
-enum { TRAILER = 30, ROOM = 65536 };
+enum { TRAILER = 30, ROOM = 262144 };
 
 /* A job's parts, and what each way of cutting needs beside them. */
 struct part { const uint8_t *at; size_t len; };

@@ -21,13 +21,13 @@ static const char *const meaning[] = {
   [GILLCURTAIN_BAD_KIND] = "the kind is none of 1 to 4",
   [GILLCURTAIN_BAD_GLYPHS] = "the glyph map is not good",
   [GILLCURTAIN_BAD_LOOKUPS] = "the lookup map is not good",
-  [GILLCURTAIN_LONG_SOURCE] = "the source is over 65,536 bytes",
+  [GILLCURTAIN_LONG_SOURCE] = "the source is over 262,144 bytes",
   [GILLCURTAIN_BAD_FORMAT] = "the kind has no such format",
   [GILLCURTAIN_MALFORMED] = "the source is malformed",
   [GILLCURTAIN_DEVICE] = "a value format asks for a device table",
   [GILLCURTAIN_PAST_RULE] = "a record points past its rule",
   [GILLCURTAIN_NOTHING] = "nothing survives",
-  [GILLCURTAIN_TOO_BIG] = "the result is over 65,536 bytes",
+  [GILLCURTAIN_TOO_BIG] = "the result is over 262,144 bytes, or an offset or a count in it over 65,535",
   [GILLCURTAIN_NO_ROOM] = "the buffer is too short"
 };
 

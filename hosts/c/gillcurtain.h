@@ -48,19 +48,19 @@ enum gillcurtain_answer {
   GILLCURTAIN_BAD_KIND = 1,
   GILLCURTAIN_BAD_GLYPHS = 2,
   GILLCURTAIN_BAD_LOOKUPS = 3,
-  GILLCURTAIN_LONG_SOURCE = 4,  /* over 65,536 bytes */
+  GILLCURTAIN_LONG_SOURCE = 4,  /* over 262,144 bytes */
   GILLCURTAIN_BAD_FORMAT = 5,
   GILLCURTAIN_MALFORMED = 6,    /* the length is the place: where the lowest faulty part starts */
   GILLCURTAIN_DEVICE = 7,       /* a device table or variation index */
   GILLCURTAIN_NOTHING = 8,      /* nothing survives */
-  GILLCURTAIN_TOO_BIG = 9,      /* the small subtable would be over 65,536 bytes */
+  GILLCURTAIN_TOO_BIG = 9,      /* it would be over 262,144 bytes, or an offset or a count over 65,535 */
   GILLCURTAIN_NO_ROOM = 10,     /* `out` is too short; the length is what is needed */
   GILLCURTAIN_PAST_RULE = 12    /* a record's sequence index is not below its rule's input count */
 };
 
-/* The stack, in bytes, that a call may use at most: 3 MiB. hosts/c/limits.c
+/* The stack, in bytes, that a call may use at most: 3.5 MiB. hosts/c/limits.c
  * holds calls that go deep to it. */
-#define GILLCURTAIN_STACK (12u << 18)
+#define GILLCURTAIN_STACK (14u << 18)
 
 /* The same where GILLCURTAIN_SCRATCH bytes of scratch are lent. */
 #define GILLCURTAIN_LITTLE_STACK (1u << 18)
@@ -68,7 +68,7 @@ enum gillcurtain_answer {
 /* The scratch that is enough for any call: so many cells of 32 bits, so many
  * bytes of area, and both in one piece. */
 #define GILLCURTAIN_CELLS 655360u
-#define GILLCURTAIN_AREA 262144u
+#define GILLCURTAIN_AREA 655360u
 #define GILLCURTAIN_SCRATCH (4u * GILLCURTAIN_CELLS + GILLCURTAIN_AREA)
 
 /* Cuts `source`, a subtable of this kind. `glyphs` and `lookups` are maps:

@@ -15,14 +15,14 @@ pub const PAIR: u64 = 4;
 /// The stack, in bytes, that [`subset`] may use at most. The main thread has more on most systems; a
 /// thread that Rust starts has 2 MiB, so ask for more with `std::thread::Builder::stack_size` where
 /// fonts come from anywhere. With too little, the call ends the process at the stack's guard page.
-pub const STACK: usize = 12 << 18;
+pub const STACK: usize = 14 << 18;
 
 /// The stack, in bytes, that a call of [`Subsetter::new`] may use at most: less than any thread has.
 pub const LITTLE_STACK: usize = 1 << 18;
 
 /// The scratch that is enough for any call: so many cells of 32 bits, and so many bytes of area.
 const CELLS: usize = 655_360;
-const AREA: usize = 262_144;
+const AREA: usize = 655_360;
 
 /// What comes back. Where several refusals apply, the first of them in this order is given.
 #[derive(Clone, Copy, Debug, PartialEq, Eq)]
@@ -111,7 +111,7 @@ pub struct Subsetter {
 }
 
 impl Subsetter {
-    /// With scratch that is enough for any call: 2.75 MiB.
+    /// With scratch that is enough for any call: 3.125 MiB.
     pub fn new() -> Subsetter {
         Subsetter { cells: vec![0; CELLS], area: vec![0; AREA] }
     }
@@ -215,12 +215,12 @@ impl fmt::Display for Answer {
             Answer::BadKind => "the kind is none of 1 to 4",
             Answer::BadGlyphs => "the glyph map is not good",
             Answer::BadLookups => "the lookup map is not good",
-            Answer::LongSource => "the source is over 65,536 bytes",
+            Answer::LongSource => "the source is over 262,144 bytes",
             Answer::BadFormat => "the kind has no such format",
             Answer::Device => "a value format asks for a device table",
             Answer::PastRule => "a record points past its rule",
             Answer::Nothing => "nothing survives",
-            Answer::TooBig => "the result is over 65,536 bytes",
+            Answer::TooBig => "the result is over 262,144 bytes, or an offset or a count in it over 65,535",
         };
         f.write_str(said)
     }

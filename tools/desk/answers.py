@@ -1,6 +1,8 @@
 """The kinds, and the answers in words."""
 
-LIMIT = 65536
+# The most bytes of a source and of a layout, and those of a job file.
+LIMIT = 262144
+JOB_LIMIT = 65536
 KINDS = {1: "context", 2: "chained context", 3: "ligature", 4: "pair"}
 
 # Each answer: when it is given, and what to do about it.
@@ -12,7 +14,7 @@ ANSWERS = {
         "Sort the map by old id and list each id once; new ids have to rise with the old ones."),
     3: ("lookup map length not a multiple of 4, or its old column not strictly increasing",
         "Sort the map by old id and list each old id once; new ids are free."),
-    4: ("source over 65,536 bytes",
+    4: ("source over 262,144 bytes",
         "Split the subtable, or close the gaps between its parts. Calls only: no job file can hold such a source."),
     5: ("the first two bytes stand and hold a format the kind hasn't",
         "Contexts have formats 1 to 3, ligatures and pairs format 1. Check the kind, and where the table starts."),
@@ -22,10 +24,10 @@ ANSWERS = {
     7: ("pair value format has a bit of 0x00F0",
         "The pairs have device or variation offsets, which are not covered. Take these out of the font first."),
     8: ("nothing survives", "No fault: leave this subtable out of the label's font."),
-    9: ("the plain layout is over 65,536 bytes",
+    9: ("the plain layout is over 262,144 bytes, or an offset or a count in it over 65,535",
         "Parts that the source shares are written out for each use. Retain fewer glyphs, or split the subtable."),
     10: ("the buffer is shorter than the plain layout",
-         "Lend a buffer of the length returned. Calls only: the program lends 65,536 bytes, which is always enough."),
+         "Lend a buffer of the length returned. Calls only: the program lends 262,144 bytes, which is always enough."),
     11: ("job file faulty (program only)",
          "`tools/job show` says why, and `tools/job make` makes sound ones. Was the file cut, or something added?"),
     12: ("a record points past its rule",

@@ -1,6 +1,6 @@
 """The commands of tools/job that start from a font: lookups, from-font and font."""
 import bisect, concurrent.futures, os, pathlib, re, subprocess, sys, tempfile, threading
-from .answers import ANSWERS, KINDS, LIMIT
+from .answers import ANSWERS, JOB_LIMIT, KINDS
 from .fonts import Font
 from .job_commands import write_job
 from .jobs import build_job, entry_bytes, split_job
@@ -103,8 +103,8 @@ def from_font(args):
         raise Trouble(f"{font.name}: the subtable is of {what}, which is not covered")
     glyphs, maps = font_maps(font, [args.table], args)
     job = build_job(one.kind, one.source(), glyphs, maps[args.table])
-    if len(job) > LIMIT:
-        raise Trouble(f"the job would have {len(job)} bytes, more than {LIMIT}: the subtable {len(one.source())}, the "
+    if len(job) > JOB_LIMIT:
+        raise Trouble(f"the job would have {len(job)} bytes, more than {JOB_LIMIT}: the subtable {len(one.source())}, the "
                       f"glyph map {len(glyphs)}; retain fewer glyphs, or call the library, which has no such limit")
     write_job(args.output, job)
 
@@ -151,7 +151,7 @@ def cut_all(command, jobs):
     bar = Bar(len(jobs))
 
     def run(job):
-        answer = run_label(command, job) if len(job) <= LIMIT else (None, b"")
+        answer = run_label(command, job) if len(job) <= JOB_LIMIT else (None, b"")
         bar.step()
         return answer
 

@@ -1,6 +1,6 @@
 """Maps and job files."""
 import itertools, struct
-from .answers import LIMIT
+from .answers import JOB_LIMIT
 from .words import Trouble, hex_bytes, number, ranges_text
 
 TRAILER, TAG = 30, b"LSJ1"
@@ -68,8 +68,8 @@ def split_job(data):
         return {"size": len(data), "parts": {}, "faults": [f"{len(data)} bytes, and the trailer takes {TRAILER}"]}
     kind, *numbers, tag = struct.unpack_from(">H6I4s", data, end)
     job = {"size": len(data), "trailer": end, "kind": kind, "parts": {}, "faults": []}
-    if len(data) > LIMIT:
-        job["faults"].append(f"{len(data)} bytes, more than {LIMIT}")
+    if len(data) > JOB_LIMIT:
+        job["faults"].append(f"{len(data)} bytes, more than {JOB_LIMIT}")
     if tag != TAG:
         where = f", which stands {len(data) - data.rfind(TAG) - 4} bytes before the end" if TAG in data else ""
         job["faults"].append(f"the last four bytes are {tag.hex()}, not 4c534a31, the tag LSJ1{where}")

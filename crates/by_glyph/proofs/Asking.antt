@@ -17,6 +17,7 @@ use Rattle.meaning.specs.Fault.{faultThrough, coverageFault, pairSetFault, enou
 use Rattle.meaning.specs.Cut.{RuleMaps, cut, standIn}
 use Rattle.meaning.specs.Layout.{block, tableWords}
 use Rattle.laws.specs.Stands.{All}
+use Rattle.laws.specs.Through.{Opt}
 use Rattle.laws.specs.Runs.{both}
 use Rattle.laws.specs.SoundGood.{part-sound, lowest-none, header-good}
 use Rattle.numbers.specs.Alike.{Alike, holds-alike}
@@ -42,7 +43,7 @@ use Rattle.kept_sets.specs.declared.Sort.{Sort}
 use Rattle.kept_sets.specs.declared.Sort.the-variants.{Rules, Ligatures, Pairs}
 use Rattle.kept_table.specs.Table.{areaMost, tableOf}
 use Rattle.by_glyph.specs.Asked.{SoundSets, MapsLaid, keptFrom}
-use Rattle.kept_table.specs.Answers.{Answered, answered-as, answered-said}
+use Rattle.kept_table.specs.Answers.{ByCover, Answered, answered-as, answered-said}
 use Rattle.by_glyph.specs.Whole.{cellsMost}
 use Rattle.by_glyph.specs.PairTables.{pairTable, pairFault, pairsOf, oneMap, AnsweredPairs, sound-pairs, pairs-cut}
 
@@ -116,11 +117,17 @@ module _ (good : Bool) (slot : ℕ) (faultAt : ℕ → Option ℕ) (s : List ℕ
       let c : coverageSound s (word s 2) ≡ true = rw e at (cover-sound e z) in
       rw e (leb-true (length (coverage s (word s 2))) (word s slot) (rw (ne-eqb (word s 2) 0 (λ w. z (e ∙ w)), c) at (g (header-good s good 0 slot faultAt h .0))))
 
+-- a word is less than 65,536
+word-small : (m : List ℕ) → ((i : ℕ) → getD m i 0 < 256) → (at : ℕ) → word m at < 65536
+unfolding word
+word-small m h at = omega (arith, h at, h (at + 1))
+
 -- so the source is sound
-module _ (s : List ℕ) (l : length s ≤ limit) where
+module _ (s : List ℕ) (bytes : (i : ℕ) → getD s i 0 < 256) (l : length s ≤ limit) where
   pub rules-asked : (chained : Bool) → headerFault (enough s (word s 4)) 0 4 (setFaultOf (Rules chained) s) s ≡ none → SoundSets (Rules chained) s
   rules-asked chained h = record {
     short = l;
+    counted = word-small s bytes 4;
     header = header-inside (enough s (word s 4)) 4 (setFaultOf (Rules chained) s) s h;
     cover = λ z. cover-sound (enough s (word s 4)) 4 (setFaultOf (Rules chained) s) s h refl z;
     enough = λ z. sets-enough (enough s (word s 4)) 4 (setFaultOf (Rules chained) s) s h (λ e. e) refl z;
@@ -130,6 +137,7 @@ module _ (s : List ℕ) (l : length s ≤ limit) where
   pub ligatures-asked : headerFault (enough s (word s 4)) 0 4 (setFaultOf Ligatures s) s ≡ none → SoundSets Ligatures s
   ligatures-asked h = record {
     short = l;
+    counted = word-small s bytes 4;
     header = header-inside (enough s (word s 4)) 4 (setFaultOf Ligatures s) s h;
     cover = λ z. cover-sound (enough s (word s 4)) 4 (setFaultOf Ligatures s) s h refl z;
     enough = λ z. sets-enough (enough s (word s 4)) 4 (setFaultOf Ligatures s) s h (λ e. e) refl z;
@@ -143,6 +151,7 @@ module _ (s : List ℕ) (l : length s ≤ limit) where
       let faultAt = pairSetFault (fieldCount (word s 4)) (fieldCount (word s 6)) s in
       record {
         short = l;
+        counted = word-small s bytes 8;
         header = header-inside good 8 faultAt s h;
         cover = λ z. cover-sound good 8 faultAt s h refl z;
         enough = λ z. sets-enough good 8 faultAt s h (λ e. both (eqb (word s 6 / 256) 0) (enough s (word s 8)) (both (eqb (word s 4 / 256) 0) _ e .1) .1) refl z;
@@ -168,6 +177,7 @@ module _ {sort : Sort} {s glyphs t₀ : List ℕ} {maps : Maps} {notes : ℕ} (a
     may-write = record {
       short = a .short;
       few = omega (arith, noted-few h, many, a .header);
+      counted = omega (arith, noted-few h, many, a .counted);
       fits = omega (arith, h .fits, h .kept .size);
       reaches = λ i j. record {
         inside = omega (arith, noted-index h i j, many, a .header);
@@ -235,10 +245,6 @@ module _ {s glyphs t₀ : List ℕ} {g : Map} {notes : ℕ} (a : SoundSets (pair
       answered-said (λ x. absurd x) (ap (tableOf (Pairs f)) (kept-said sound l z e h) ∙ pairs-cut glyphs s (oneMap g) (l .holds) f new z sound) (w .answered)
 
 -- A map whose old numbers ascend has 65,536 entries at most.
-word-small : (m : List ℕ) → ((i : ℕ) → getD m i 0 < 256) → (at : ℕ) → word m at < 65536
-unfolding word
-word-small m h at = omega (arith, h at, h (at + 1))
-
 map-least : (m : List ℕ) → ascends (keys (mapEntries m)) ≡ true → (k : ℕ) → k < length m / 4 → k ≤ word m (4 * k)
 map-least m good zero h = omega arith
 map-least m good (suc k) h = omega (arith, map-least m good k (omega arith), map-rises m good k (suc k) (omega arith) h)
@@ -294,10 +300,10 @@ module _ {g t₀ t : List ℕ} {m : Map} (a : Laid g t₀ t 0 m) (z : m .mask �
 
 -- With few cells behind the maps, the lent ones were few; so what is answered behind the maps is answered of all.
 module _ {g t₀ t : List ℕ} {m : Map} (a : Laid g t₀ t 0 m) (u : ascends (keys (mapEntries g)) ≡ true) (bytes : (i : ℕ) → getD g i 0 < 256)
-    {out₀ : List ℕ} {words : Option (List ℕ)} {n : ℕ} {r : Tried} {out : List ℕ} (left : Option Table) (e : words ≡ block tableWords left) where
+    {out₀ : List ℕ} {words : Option (List ℕ)} {n : ℕ} {r : Tried} {out : List ℕ} (left : Option Table) (fit : Opt ByCover left) (e : words ≡ block tableWords left) where
   pub one-answered : Answered (length t ≤ m .mask + 1 + length g / 4) out₀ words n r out → Tries (length t₀ < cellsMost) (n < areaMost) r out₀ out (written out₀ left)
-  one-answered = answered-as (λ h. omega (arith, h, few-entries g u bytes, a .kept .size, a .few u)) left e
+  one-answered = answered-as (λ h. omega (arith, h, few-entries g u bytes, a .kept .size, a .few u)) left fit e
 
   pub two-answered : {l t₂ : List ℕ} {k : Map} → Laid l t t₂ (m .mask + 1) k → ascends (keys (mapEntries l)) ≡ true → Answered (length t₂ ≤ m .mask + k .mask + 2 + length g / 4) out₀ words n r out
       → Tries (length t₀ < cellsMost) (n < areaMost) r out₀ out (written out₀ left)
-  two-answered b v = answered-as (λ h. omega (arith, h, few-entries g u bytes, a .kept .size, b .kept .size, a .few u, b .few v)) left e
+  two-answered b v = answered-as (λ h. omega (arith, h, few-entries g u bytes, a .kept .size, b .kept .size, a .few u, b .few v)) left fit e

@@ -31,9 +31,10 @@ use Rattle.by_glyph.specs.Whole.{glyphContext, ligatureTable}
 abbrev pub countOf : Sort → List ℕ → ℕ
 countOf sort s = word s (headerSize sort - 2)
 
--- A source that the check let through: it is not over the limit, its offsets lie inside, its coverage is sound and has a set for each glyph, and the sets are sound.
+-- A source that the check let through: it is not over the limit, its count is a word, its offsets lie inside, its coverage is sound and has a set for each glyph, and the sets are sound.
 pub record SoundSets (sort : Sort) (s : List ℕ) : Type 0 where
   pub short : length s ≤ limit
+  pub counted : countOf sort s < 65536
   pub header : headerSize sort + 2 * countOf sort s ≤ length s
   pub cover : (word s 2 ≡ 0 → ⊥) → coverageSound s (word s 2) ≡ true
   pub enough : (word s 2 ≡ 0 → ⊥) → length (coverage s (word s 2)) ≤ countOf sort s

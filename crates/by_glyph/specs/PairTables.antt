@@ -63,12 +63,13 @@ module _ (s : List ℕ) (f : Formats) (e : f .f1 ≡ word s 4) (h : f .f2 ≡ wo
   same-fault at q = rw (e, h) q
 
   pub sound-pairs : SoundSets (pairsOf s) s → SoundSets (Pairs f) s
-  sound-pairs a = record { short = a .short; header = a .header; cover = a .cover; enough = a .enough; sets = λ i l z. same-fault _ (a .sets i l z) }
+  sound-pairs a = record { short = a .short; counted = a .counted; header = a .header; cover = a .cover; enough = a .enough; sets = λ i l z. same-fault _ (a .sets i l z) }
 
   pub ready-pairs : {t : List ℕ} {maps : Maps} {at m : ℕ} → Ready (pairsOf s) s t maps at m → Ready (Pairs f) s t maps at m
   ready-pairs a = record {
     short = a .short;
     few = a .few;
+    counted = a .counted;
     fits = a .fits;
     reaches = λ i l. record { inside = a .reaches i l .inside; sound = λ z. same-fault _ (a .reaches i l .sound z) };
     inside = a .inside;

@@ -26,7 +26,7 @@ pub record Least (a b r : ℕ) : Type 0 where
   pub one : r < b → r ≡ a
 
 -- a front of the area that is enough, or all of it
-module _ {n : ℕ} (area : List ℕ) (h : Least (length area) 262144 n) where
+module _ {n : ℕ} (area : List ℕ) (h : Least (length area) areaMost n) where
   pub front-length : n ≡ length (take n area)
   front-length = sym (length-take-le n area (h .first))
 

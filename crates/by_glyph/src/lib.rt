@@ -6,6 +6,7 @@ use kept_table::AREA;
 use kept_table::Notes;
 use kept_table::write_table;
 use meet::meet;
+use member_sets::PLACES;
 use member_sets::crowded;
 use pair_formats::new_formats;
 use pair_sets::kept_places;
@@ -20,7 +21,7 @@ ghost use mathlib.Core.Option.{none};
 ghost use mathlib.Core.List.{[]};
 ghost use Prim.Native.Nat.{_+_, _/_, _≤_, _<_};
 ghost use lib.ListN.{length};
-ghost use Rattle.meaning.specs.Words.{word, ascends, keys};
+ghost use Rattle.meaning.specs.Words.{word, ascends, keys, values};
 ghost use Rattle.meaning.specs.Maps.{mapEntries};
 ghost use Rattle.meaning.specs.Fault.{headerFault, enough};
 ghost use Rattle.meaning.specs.Cut.{cut};
@@ -54,7 +55,7 @@ fn write_shared(
     if rounds != 0 {
         return write_shared(sort, src, t, notes, maps, rounds - 1, area, out);
     }
-    let mut dead = [0u8; LIMIT];
+    let mut dead = [0u8; PLACES];
     write_table(sort, src, &mut dead, t, notes, maps, area, out)
 }
 
@@ -90,7 +91,7 @@ fn cut_sets(
 
 // The same from the source and the map's list on, for ligatures.
 fn cut_ligatures(src: &[u8], glyphs: &[u8], t: &mut [u32], area: &mut [u8], out: &mut [u8]) -> Tried
-    requires { ⌜ (headerFault (enough (now src) (word (now src) 4)) 0 4 (setFaultOf Ligatures (now src)) (now src) ≡ none) × (length (now src) ≤ limit) × (ascends (keys (mapEntries (now glyphs))) ≡ true) × (length (now area) ≤ areaMost) ⌝ }
+    requires { ⌜ (headerFault (enough (now src) (word (now src) 4)) 0 4 (setFaultOf Ligatures (now src)) (now src) ≡ none) × (length (now src) ≤ limit) × (ascends (keys (mapEntries (now glyphs))) ≡ true) × (length (now area) ≤ areaMost) × (ascends (values (mapEntries (now glyphs))) ≡ true) ⌝ }
     ensures { λ r. ⌜ Tries (length (now (t .entry)) < cellsMost) (length (now (area .entry)) < areaMost) r (now (out .entry)) (now (out .exit)) (written (now (out .entry)) (cut (mapEntries (now (glyphs .entry))) [] (ligatureTable (now (src .entry))))) ⌝ }
 {
     if word_inside(src, 2) == 0 {
@@ -120,7 +121,7 @@ fn cut_contexts(
     area: &mut [u8],
     out: &mut [u8],
 ) -> Tried
-    requires { ⌜ (headerFault (enough (now src) (word (now src) 4)) 0 4 (setFaultOf (Rules chained) (now src)) (now src) ≡ none) × (length (now src) ≤ limit) × (ascends (keys (mapEntries (now glyphs))) ≡ true) × (ascends (keys (mapEntries (now lookups))) ≡ true) × (length (now area) ≤ areaMost) ⌝ }
+    requires { ⌜ (headerFault (enough (now src) (word (now src) 4)) 0 4 (setFaultOf (Rules chained) (now src)) (now src) ≡ none) × (length (now src) ≤ limit) × (ascends (keys (mapEntries (now glyphs))) ≡ true) × (ascends (keys (mapEntries (now lookups))) ≡ true) × (length (now area) ≤ areaMost) × (ascends (values (mapEntries (now glyphs))) ≡ true) ⌝ }
     ensures { λ r. ⌜ Tries (length (now (t .entry)) < cellsMost) (length (now (area .entry)) < areaMost) r (now (out .entry)) (now (out .exit)) (written (now (out .entry)) (cut (mapEntries (now (glyphs .entry))) (mapEntries (now (lookups .entry))) (glyphContext chained (now (src .entry))))) ⌝ }
 {
     if word_inside(src, 2) == 0 {
@@ -214,7 +215,7 @@ fn cut_pair_sets(
 
 // The same from the source and the map's list on.
 fn cut_pairs(src: &[u8], glyphs: &[u8], t: &mut [u32], area: &mut [u8], out: &mut [u8]) -> Tried
-    requires { ⌜ (pairFault (now src) ≡ none) × (length (now src) ≤ limit) × (ascends (keys (mapEntries (now glyphs))) ≡ true) × (length (now area) ≤ areaMost) ⌝ }
+    requires { ⌜ (pairFault (now src) ≡ none) × (length (now src) ≤ limit) × (ascends (keys (mapEntries (now glyphs))) ≡ true) × (length (now area) ≤ areaMost) × (ascends (values (mapEntries (now glyphs))) ≡ true) ⌝ }
     ensures { λ r. ⌜ Tries (length (now (t .entry)) < cellsMost) (length (now (area .entry)) < areaMost) r (now (out .entry)) (now (out .exit)) (written (now (out .entry)) (cut (mapEntries (now (glyphs .entry))) [] (pairTable (now (src .entry))))) ⌝ }
 {
     if word_inside(src, 2) == 0 {
@@ -238,10 +239,10 @@ fn least(a: usize, b: usize) -> usize
     b
 }
 
-// What is left of a sound table of ligatures under a glyph map, laid into the buffer if it is not over the limit and the buffer is not shorter. `t` and `area` are scratch, whatever they hold.
+// What is left of a sound table of ligatures under a glyph map, laid into the buffer if it is not too big and the buffer is not shorter. `t` and `area` are scratch, whatever they hold.
 // The buffer is untouched where nothing is left, where there is no room, and where the scratch is too short.
 pub fn ligatures(src: &[u8], glyphs: &[u8], t: &mut [u32], area: &mut [u8], out: &mut [u8]) -> Tried
-    requires { ⌜ (headerFault (enough (now src) (word (now src) 4)) 0 4 (setFaultOf Ligatures (now src)) (now src) ≡ none) × (length (now src) ≤ limit) × (ascends (keys (mapEntries (now glyphs))) ≡ true) ⌝ }
+    requires { ⌜ (headerFault (enough (now src) (word (now src) 4)) 0 4 (setFaultOf Ligatures (now src)) (now src) ≡ none) × (length (now src) ≤ limit) × (ascends (keys (mapEntries (now glyphs))) ≡ true) × (ascends (values (mapEntries (now glyphs))) ≡ true) ⌝ }
     ensures { λ r. ⌜ Tries (length (now (t .entry)) < cellsMost) (length (now (area .entry)) < areaMost) r (now (out .entry)) (now (out .exit)) (written (now (out .entry)) (cut (mapEntries (now (glyphs .entry))) [] (ligatureTable (now (src .entry))))) ⌝ }
 {
     let bytes = least(area.len(), AREA);
@@ -258,7 +259,7 @@ pub fn contexts(
     area: &mut [u8],
     out: &mut [u8],
 ) -> Tried
-    requires { ⌜ (headerFault (enough (now src) (word (now src) 4)) 0 4 (setFaultOf (Rules chained) (now src)) (now src) ≡ none) × (length (now src) ≤ limit) × (ascends (keys (mapEntries (now glyphs))) ≡ true) × (ascends (keys (mapEntries (now lookups))) ≡ true) ⌝ }
+    requires { ⌜ (headerFault (enough (now src) (word (now src) 4)) 0 4 (setFaultOf (Rules chained) (now src)) (now src) ≡ none) × (length (now src) ≤ limit) × (ascends (keys (mapEntries (now glyphs))) ≡ true) × (ascends (keys (mapEntries (now lookups))) ≡ true) × (ascends (values (mapEntries (now glyphs))) ≡ true) ⌝ }
     ensures { λ r. ⌜ Tries (length (now (t .entry)) < cellsMost) (length (now (area .entry)) < areaMost) r (now (out .entry)) (now (out .exit)) (written (now (out .entry)) (cut (mapEntries (now (glyphs .entry))) (mapEntries (now (lookups .entry))) (glyphContext chained (now (src .entry))))) ⌝ }
 {
     let bytes = least(area.len(), AREA);
@@ -267,7 +268,7 @@ pub fn contexts(
 
 // The same of a sound table of pairs by glyph, under a glyph map.
 pub fn pairs(src: &[u8], glyphs: &[u8], t: &mut [u32], area: &mut [u8], out: &mut [u8]) -> Tried
-    requires { ⌜ (pairFault (now src) ≡ none) × (length (now src) ≤ limit) × (ascends (keys (mapEntries (now glyphs))) ≡ true) ⌝ }
+    requires { ⌜ (pairFault (now src) ≡ none) × (length (now src) ≤ limit) × (ascends (keys (mapEntries (now glyphs))) ≡ true) × (ascends (values (mapEntries (now glyphs))) ≡ true) ⌝ }
     ensures { λ r. ⌜ Tries (length (now (t .entry)) < cellsMost) (length (now (area .entry)) < areaMost) r (now (out .entry)) (now (out .exit)) (written (now (out .entry)) (cut (mapEntries (now (glyphs .entry))) [] (pairTable (now (src .entry))))) ⌝ }
 {
     let bytes = least(area.len(), AREA);

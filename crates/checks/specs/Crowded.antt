@@ -16,9 +16,9 @@ unfoldable pub membersAt : List ℕ → List ℕ → ℕ
 membersAt s [] = 0
 membersAt s (p ∷ ps) = word s p + membersAt s ps
 
--- the n sets whose offsets stand from `slot` on have more than one member for each eight bytes of a source of 1,024 to 65,536 bytes
+-- the n sets whose offsets stand from `slot` on have more than one member for each eight bytes of a source of 1,024 to 262,144 bytes
 abbrev pub crowds : List ℕ → ℕ → ℕ → Bool
-crowds s slot n = leb 1024 (length s) && (leb (length s) 65536 && ltb (length s) (8 * membersAt s (words s slot n)))
+crowds s slot n = leb 1024 (length s) && (leb (length s) 262144 && ltb (length s) (8 * membersAt s (words s slot n)))
 
 -- What counting them keeps: those counted so far and those of the sets that are left are all.
 pub record Counting (s : List ℕ) (slot n total i : ℕ) : Type 0 where
@@ -47,11 +47,11 @@ module _ (s : List ℕ) (slot n : ℕ) where
   pub crowds-short : length s < 1024 → false ≡ crowds s slot n
   crowds-short h = rw (lt-leb 1024 (length s) h) refl
 
-  pub crowds-long : 1024 ≤ length s → 65536 < length s → false ≡ crowds s slot n
-  crowds-long g h = rw (le-leb 1024 (length s) g, lt-leb (length s) 65536 h) refl
+  pub crowds-long : 1024 ≤ length s → 262144 < length s → false ≡ crowds s slot n
+  crowds-long g h = rw (le-leb 1024 (length s) g, lt-leb (length s) 262144 h) refl
 
-  pub crowds-by : 1024 ≤ length s → length s ≤ 65536 → {total : ℕ} → total ≡ membersAt s (words s slot n) → ltb (length s) (8 * total) ≡ crowds s slot n
-  crowds-by g h e = rw (le-leb 1024 (length s) g, le-leb (length s) 65536 h, ← e) refl
+  pub crowds-by : 1024 ≤ length s → length s ≤ 262144 → {total : ℕ} → total ≡ membersAt s (words s slot n) → ltb (length s) (8 * total) ≡ crowds s slot n
+  crowds-by g h e = rw (le-leb 1024 (length s) g, le-leb (length s) 262144 h, ← e) refl
 
-  pub crowds-small : crowds s slot n ≡ true → length s ≤ 65536
-  crowds-small e = leb-true (length s) 65536 (both (leb (length s) 65536) _ (both (leb 1024 (length s)) _ e .1) .0)
+  pub crowds-small : crowds s slot n ≡ true → length s ≤ 262144
+  crowds-small e = leb-true (length s) 262144 (both (leb (length s) 262144) _ (both (leb 1024 (length s)) _ e .1) .0)

@@ -21,8 +21,10 @@ ghost use Rattle.checks.specs.Seen.{Seen};
 ghost use Rattle.checks.specs.Crowded.{membersAt, crowds};
 ghost use Rattle.checks.specs.Parts.{faultOfPart, byGlyphFault, byClassFault, ligaturesFault, pairFields, pairsFault};
 
-// The places of a source: a mark for each says which parts were visited.
+// The places that one offset leads to, and those that two lead to, where rules start: a mark for each says what was visited.
 const PLACES: usize = 65536;
+
+const RULE_PLACES: usize = 131072;
 
 // How many offsets pay for marks: fewer reach 2^26 members at most, which are soon checked.
 const MANY: usize = 2048;
@@ -65,7 +67,7 @@ fn check_once(part: Part, src: &[u8], at: usize, low: Fault, marks: &mut [u8]) -
     lowest(low, found)
 }
 
-// The lowest fault among the parts that `n` offsets from `slot` on reach; a null offset reaches none. Where `marks`, which has no mark yet, is as long as the source, a part is checked once, however many offsets reach it.
+// The lowest fault among the parts that `n` offsets from `slot` on reach; a null offset reaches none. Where `marks`, which has no mark yet, has a place for each that an offset can lead to, a part is checked once, however many offsets reach it.
 fn check_each(part: Part, src: &[u8], slot: usize, n: usize, marks: &mut [u8]) -> Fault
     requires { ⌜ (slot + 2 * n < 0x1_0000_0000_0000) × Seen (faultOfPart part (now src)) Sound (now marks) ⌝ }
     ensures { λ r. ⌜ r ≡ faultOf (faultThrough (faultOfPart part (now (src .entry))) (now (src .entry)) 0 slot n) ⌝ }
@@ -83,7 +85,7 @@ fn check_each(part: Part, src: &[u8], slot: usize, n: usize, marks: &mut [u8]) -
     low
 }
 
-// The same with a mark for each place of a source. It calls itself as `shared_within` does.
+// The same with a mark for each place that an offset can lead to. It calls itself as `shared_within` does.
 fn check_shared(part: Part, src: &[u8], slot: usize, n: usize, rounds: usize) -> Fault
     requires { ⌜ slot + 2 * n < 0x1_0000_0000_0000 ⌝ }
     ensures { λ r. ⌜ r ≡ faultOf (faultThrough (faultOfPart part (now (src .entry))) (now (src .entry)) 0 slot n) ⌝ }
@@ -277,7 +279,7 @@ fn members(src: &[u8], slot: usize, n: usize) -> usize
     total
 }
 
-// Whether these sets have more than one member for each eight bytes of a source of 1,024 to 65,536 bytes, so that they share members or have such as say next to nothing. Then it pays to mark each rule that was asked.
+// Whether these sets have more than one member for each eight bytes of a source of 1,024 to 262,144 bytes, so that they share members or have such as say next to nothing. Then it pays to mark each rule that was asked.
 fn crowded(src: &[u8], slot: usize, n: usize) -> bool
     requires { ⌜ (slot < 65536) × (n < 65536) ⌝ }
     ensures { λ r. ⌜ r ≡ crowds (now (src .entry)) slot n ⌝ }
@@ -285,7 +287,7 @@ fn crowded(src: &[u8], slot: usize, n: usize) -> bool
     if src.len() < 1024 {
         return false;
     }
-    if 65536 < src.len() {
+    if 262144 < src.len() {
         return false;
     }
     src.len() < 8 * members(src, slot, n)
@@ -300,7 +302,7 @@ fn shared_within(chained: bool, src: &[u8], slot: usize, n: usize, rounds: usize
     if rounds != 0 {
         return shared_within(chained, src, slot, n, rounds - 1);
     }
-    let mut marks = [0u8; PLACES];
+    let mut marks = [0u8; RULE_PLACES];
     gsubgpos::sets_within(chained, src, slot, n, &mut marks)
 }
 

@@ -7,26 +7,26 @@ use mathlib.Core.List.{List, _∷_, map}
 use native.Mathlib.Decide.{decLt}
 use native.Mathlib.Omega.{arith}
 use lib.ListN.{length}
-use Rattle.meaning.specs.Words.{word, keys}
+use Rattle.meaning.specs.Words.{word}
 use Rattle.meaning.specs.Maps.{mapEntries}
 use Rattle.meaning.specs.Parts.{coverage}
 use Rattle.meaning.specs.Tables.{classContext}
 use Rattle.meaning.specs.Cut.{cut, cutSet, newCoverage, slots}
 use Rattle.meaning.specs.Layout.{block, coverageWords, ruleWords, setWords}
 use Rattle.meaning.specs.Subset.{Outcome, limit, written}
+use Rattle.laws.specs.CutGood.{Values}
 use Rattle.laws.specs.SoundGood.{coverage-up}
 use Rattle.fold.specs.Cells.{Holds, kept-more}
 use Rattle.fold.specs.declared.Map.{Map}
 use Rattle.area.specs.Part.{news, notes}
 use Rattle.numbers.specs.Alike.{holds-alike, set-alike}
 use Rattle.rule_sets.specs.Left.{mapsIn}
-use Rattle.class_slots.specs.Slots.{slotBlocks}
+use Rattle.class_slots.specs.Slots.{slotBlocks, present-few}
 use Rattle.tried.specs.Tries.{Tries, tries-less}
 use Rattle.tried.specs.declared.Tried.{Tried}
 use Rattle.tried.specs.declared.Tried.the-variants.{FewCells}
 use Rattle.class_layouts.specs.Tail.{tableBlock, tableBlocks, tailBlocks}
-use Rattle.class_layouts.specs.Table.{wordsInto}
-use Rattle.class_layouts.specs.Written.{enoughBytes, Writes, leftIn}
+use Rattle.class_layouts.specs.Written.{enoughBytes, Writes, leftInto}
 use Rattle.class_contexts.specs.Same.{Same, kept-same, part-alike, inside-same, holds-same, present-same}
 use Rattle.class_contexts.specs.Sides.{newTable, TableFor, Asks, SideIn, Sided, InputIn, InputLaid}
 use Rattle.class_contexts.specs.Meaning.{backAt, inputAt, aheadAt, tailOf, rulesMaps, blocksOf, cut-words, slots-alike}
@@ -36,7 +36,6 @@ use Rattle.class_layouts.specs.declared.Noted.{Noted}
 use Rattle.class_contexts.specs.declared.Side.{Side}
 use Rattle.class_contexts.specs.declared.Input.{Input}
 use Rattle.class_layouts.specs.declared.Prepared.{Prepared}
-use Rattle.class_contexts.proofs.FewClasses.{classes-few}
 
 -- What stands in cells stays where only cells behind it change.
 module _ {glyphs s : List ℕ} {at : ℕ} {t u : List ℕ} {end : ℕ} (k : Same 0 end t u) where
@@ -71,7 +70,7 @@ too-few {n} {m} h l = step (decLt n m)
     step (no d) = absurd (h (omega arith))
 
 pub few-cells : {chained : Bool} {s glyphs : List ℕ} {l : Map} {t area out : List ℕ} → length t < 655360 → CutsInto chained s glyphs l t area FewCells out out
-few-cells h = record { cuts = λ {es = es} o. (h, refl) }
+few-cells h = record { cuts = λ {es = es} o v. (h, refl) }
 
 module _ {chained : Bool} {s glyphs : List ℕ} {l : Map} {noted : Noted} {t₀ area : List ℕ} (a : Cuts chained s glyphs l noted t₀ area) where
   -- the input
@@ -157,7 +156,7 @@ module _ {chained : Bool} {s glyphs : List ℕ} {l : Map} {noted : Noted} {t₀ 
                   few = u .few;
                   number = input-in .count ∙ sym (ap length (input-in .held));
                 };
-                few = omega (arith, input-in .count, classes-few s (λ z. a .classed (sym ei ∙ z)) (rw ei (a .sound .input)) (a .sound .short) (keys g));
+                few = omega (arith, input-in .count, ap length (input-in .held), present-few t₃ (i .map .at) 0 (i .map .mask + 1), u .few);
                 tail-in = record {
                   cover = omega (arith, a .inside, all .size);
                   covered = a .covered;
@@ -188,8 +187,8 @@ module _ {chained : Bool} {s glyphs : List ℕ} {l : Map} {noted : Noted} {t₀ 
                   step true k p q r = rw (p, q, r)
                   step false k p q r = rw q
 
-              pub cut-into : {p : Prepared} (r : Tried) (out after : List ℕ) → p ≡ preparedOf l noted i b d → Tries ⊥ (length area < enoughBytes) r out after (wordsInto out (leftIn chained s t₃ p)) → CutsInto chained s glyphs l t₀ area r out after
-              cut-into r out after e h = record { cuts = λ {es = es} o. tries-less ⊥ (length area < enoughBytes) (length t₀ < enoughCells) (length area < enoughBytes) r out after (written out (cut g es (classContext chained s))) (λ f. absurd f) (λ f. f) (subst (λ (x : Outcome). Tries ⊥ (length area < enoughBytes) r out after x) (ap (λ (q : Prepared). wordsInto out (leftIn chained s t₃ q)) e ∙ said es o) h) }
+              pub cut-into : {p : Prepared} (r : Tried) (out after : List ℕ) → p ≡ preparedOf l noted i b d → Tries ⊥ (length area < enoughBytes) r out after (leftInto out chained s t₃ p) → CutsInto chained s glyphs l t₀ area r out after
+              cut-into r out after e h = record { cuts = λ {es = es} o v. tries-less ⊥ (length area < enoughBytes) (length t₀ < enoughCells) (length area < enoughBytes) r out after (written out (cut g es (classContext chained s))) (λ f. absurd f) (λ f. f) (subst (λ (x : Outcome). Tries ⊥ (length area < enoughBytes) r out after x) (ap (λ (q : Prepared). leftInto out chained s t₃ q) e ∙ said es o v) h) }
                 where
-                  said : (es : List (ℕ × ℕ)) → Holds t₀ l es → wordsInto out (leftIn chained s t₃ prepared) ≡ written out (cut g es (classContext chained s))
-                  said es o = rw (tail-is, blocks-are o) (sym (cut-words chained s g es (a .covers) (a .classed) out))
+                  said : (es : List (ℕ × ℕ)) → Holds t₀ l es → Values es → leftInto out chained s t₃ prepared ≡ written out (cut g es (classContext chained s))
+                  said es o v = rw (tail-is, blocks-are o) (sym (cut-words chained s g es (a .good) (a .glyphs-good) v (a .covers) (a .classed) out))

@@ -1,5 +1,5 @@
 -- From the check and the maps' lists to the cells of both maps, and how many cells are enough.
-use Prim.Native.Nat.{ℕ, zero, suc, _+_, _-_, _*_, _/_, _≤_, _<_}
+use Prim.Native.Nat.{ℕ, zero, suc, _+_, _-_, _*_, _/_, _≤_, _<_, _%_}
 use mathlib.Core.Path.{_≡_, refl, sym, ap, _∙_}
 use mathlib.Core.Bool.{Bool, true, false, cond, _&&_}
 use mathlib.Core.Option.{Option, none, some}
@@ -10,20 +10,24 @@ use native.Mathlib.Numerals.{add-one}
 use native.Mathlib.Omega.{arith}
 use lib.ListN.{length, getD, take}
 use lib.Seq.{length-take-le}
+use lib.Dec.{eqb}
 use borrow.Author.Tests.{ne-eqb}
-use Rattle.meaning.specs.Words.{word, inside, find, push, mapSome, isSome, keys, ascends, member}
-use Rattle.meaning.specs.Maps.{mapEntries}
+use Rattle.meaning.specs.Words.{word, inside, find, push, mapSome, isSome, keys, values, ascends, member}
+use Rattle.meaning.specs.Maps.{mapEntries, goodGlyphs}
 use Rattle.meaning.specs.Parts.{coverage, coverageSound, classesSound}
 use Rattle.meaning.specs.Tables.{Rule, reach, classContext}
 use Rattle.meaning.specs.Fault.{faultThrough, coverageFault, classesFault, ruleFault, setFault, headerFault, contextFault}
 use Rattle.meaning.specs.Cut.{cut, cutSet, heldBy, newCoverage, retained, slots, keepSlot, trim}
 use Rattle.meaning.specs.Layout.{block, ruleWords, setWords}
-use Rattle.meaning.specs.Subset.{Outcome, limit, written}
+use Rattle.meaning.specs.Subset.{Outcome, limit, written, refused}
 use Rattle.laws.specs.Runs.{both}
 use Rattle.laws.specs.Left.{entries-length}
 use Rattle.laws.specs.Through.{Opt}
 use Rattle.laws.specs.Ascends.{glyphs-ascend}
-use Rattle.laws.specs.SoundGood.{part-sound, one-good, header-good, coverage-up}
+use Rattle.laws.specs.ReadsBack.{Good}
+use Rattle.laws.specs.CutGood.{GoodMap}
+use Rattle.laws.specs.CallBack.{good-map, map-values}
+use Rattle.laws.specs.SoundGood.{Bytes, part-sound, one-good, header-good, coverage-up, class-context-good}
 use Rattle.fold.specs.Cells.{Holds, holds-kept}
 use Rattle.fold.specs.Laid.{Laid}
 use Rattle.fold.specs.declared.Map.{Map}
@@ -37,7 +41,7 @@ use Rattle.tried.specs.Tries.{Tries, tries-less}
 use Rattle.tried.specs.declared.Tried.{Tried}
 use Rattle.tried.specs.declared.Tried.the-variants.{Became}
 use Rattle.room.specs.declared.Laid.the-variants.{Nothing}
-use Rattle.class_layouts.specs.Table.{tableOf, tableLeft, wordsInto}
+use Rattle.class_layouts.specs.Table.{tableInto}
 use Rattle.class_layouts.specs.Written.{enoughBytes}
 use Rattle.class_contexts.specs.Meaning.{inputAt, setsOf, SoundContext, rulesMaps, cut-words}
 use Rattle.class_contexts.specs.Cutting.{enoughCells, Sound, Begins, Cuts, CutsInto, Least}
@@ -118,6 +122,19 @@ map-size : (m : List ℕ) → length (mapEntries m) ≡ length m / 4
 unfolding mapEntries
 map-size m = entries-length m 0 (length m / 4)
 
+-- a context of format 2 without a fault is a good table
+context-good : (chained : Bool) (s : List ℕ) → Bytes s → contextFault chained s ≡ none → word s 0 ≡ 2 → Good (classContext chained s)
+unfolding contextFault
+context-good true s b h e = class-context-good s b true (rw e at h)
+context-good false s b h e = class-context-good s b false (rw e at h)
+
+-- both columns of a good glyph map ascend
+good-glyphs : (g : List ℕ) → Bytes g → goodGlyphs g ≡ true → GoodMap (mapEntries g)
+unfolding goodGlyphs
+good-glyphs g b h =
+    let q = both (ascends (keys (mapEntries g))) (ascends (values (mapEntries g))) (both (eqb (length g % 4) 0) _ h .1) in
+    good-map g b (q .0) (q .1)
+
 -- No covered glyph is retained: then no set is left.
 retained-none : (g : List (ℕ × ℕ)) (cov : List ℕ) → newCoverage g cov ≡ [] → retained g cov ≡ []
 unfolding newCoverage retained mapSome push isSome
@@ -148,13 +165,13 @@ module _ {chained : Bool} {s glyphs : List ℕ} {l m : Map} {t area : List ℕ} 
 
     -- no covered glyph is retained
     pub none-noted : {out : List ℕ} → k ≡ 0 → CutsInto chained s glyphs l t area (Became Nothing) out out
-    unfolding part tableOf heldBy
-    none-noted {out} z = record { cuts = λ {es = es} o. sym (cut-words chained s (mapEntries glyphs) es (a .covers) (a .classed) out ∙ ap (wordsInto out) (gone _ es)) }
+    unfolding part tableInto heldBy
+    none-noted {out} z = record { cuts = λ {es = es} o v. sym (cut-words chained s (mapEntries glyphs) es (a .good) (a .glyphs-good) v (a .covers) (a .classed) out ∙ gone _ es) }
       where
         empty : newCoverage (mapEntries glyphs) (coverage s (word s 2)) ≡ []
         empty = sym noted-is ∙ ap (λ (n : ℕ). news t₁ at n) z
 
-        gone : (tail : List (Option (List ℕ))) (es : List (ℕ × ℕ)) → tableLeft tail (map (block (setWords (ruleWords chained))) (slots (cutSet chained (rulesMaps chained s (mapEntries glyphs) es)) (heldBy (classesAt s (inputAt chained s)) (retained (mapEntries glyphs) (coverage s (word s 2)))) (setsOf chained s) (heldBy (classesAt s (inputAt chained s)) (keys (mapEntries glyphs))))) ≡ none
+        gone : (tail : List (Option (List ℕ))) (es : List (ℕ × ℕ)) → tableInto out tail (trim (map (block (setWords (ruleWords chained))) (slots (cutSet chained (rulesMaps chained s (mapEntries glyphs) es)) (heldBy (classesAt s (inputAt chained s)) (retained (mapEntries glyphs) (coverage s (word s 2)))) (setsOf chained s) (heldBy (classesAt s (inputAt chained s)) (keys (mapEntries glyphs)))))) ≡ refused out 8
         gone tail es = rw (retained-none (mapEntries glyphs) (coverage s (word s 2)) empty, ← (trim-blocks (setWords (ruleWords chained)) (slots (cutSet chained (rulesMaps chained s (mapEntries glyphs) es)) [] (setsOf chained s) (heldBy (classesAt s (inputAt chained s)) (keys (mapEntries glyphs))))), no-slots (cutSet chained (rulesMaps chained s (mapEntries glyphs) es)) (setsOf chained s) (heldBy (classesAt s (inputAt chained s)) (keys (mapEntries glyphs)))) refl
 
     few-noted : k ≤ length glyphs / 4
@@ -163,7 +180,9 @@ module _ {chained : Bool} {s glyphs : List ℕ} {l m : Map} {t area : List ℕ} 
     pub may-cut : (k ≡ 0 → ⊥) → Cuts chained s glyphs l (record { at = at; len = k }) t₁ area
     may-cut z = record {
       sound = a .sound;
+      good = a .good;
       map = a .map;
+      glyphs-good = a .glyphs-good;
       lookups = record { within = omega (arith, a .lookups .within, h .kept .size) };
       before = omega (arith, a .before);
       near = omega (arith, a .near, a .map .few, few-noted);
@@ -178,7 +197,7 @@ module _ {chained : Bool} {s glyphs : List ℕ} {l m : Map} {t area : List ℕ} 
     }
 
     pub cut-after : {r : Tried} {out after : List ℕ} → CutsInto chained s glyphs l t₁ area r out after → CutsInto chained s glyphs l t area r out after
-    cut-after {r} {out} {after} c = record { cuts = λ {es = es} o. rw (h .kept .size) at (c .cuts (holds-kept (h .kept) (omega (arith, a .before)) o)) }
+    cut-after {r} {out} {after} c = record { cuts = λ {es = es} o v. rw (h .kept .size) at (c .cuts (holds-kept (h .kept) (omega (arith, a .before)) o) v) }
 
 module _ {chained : Bool} {s glyphs lookups : List ℕ} (o : Sound chained s glyphs lookups) {t₀ t₁ : List ℕ} {l : Map} (a : Laid lookups t₀ t₁ 0 l) where
   -- too few cells for the lookups
@@ -206,11 +225,13 @@ module _ {chained : Bool} {s glyphs lookups : List ℕ} (o : Sound chained s gly
       lookups-held : Holds t₂ l (mapEntries lookups)
       lookups-held = holds-kept (b .kept) (omega (arith, a .place)) (a .holds zl)
 
-      pub may-begin : {area : List ℕ} {cover ia : ℕ} → length glyphs / 4 ≤ 65536 → cover ≡ word s 2 → (cover ≡ 0 → ⊥) → ia ≡ inputAt chained s → (ia ≡ 0 → ⊥) → length t₀ ≤ 0x1_0000_0000 → length area ≤ 0x1_0000_0000
+      pub may-begin : {area : List ℕ} {cover ia : ℕ} → Bytes s → Bytes glyphs → length glyphs / 4 ≤ 65536 → cover ≡ word s 2 → (cover ≡ 0 → ⊥) → ia ≡ inputAt chained s → (ia ≡ 0 → ⊥) → length t₀ ≤ 0x1_0000_0000 → length area ≤ 0x1_0000_0000
           → Begins chained s glyphs l m t₂ area
-      may-begin n e z f y k h = record {
+      may-begin bs bg n e z f y k h = record {
         sound = context-sound chained s (o .sound) (o .format) (o .source);
+        good = context-good chained s bs (o .sound) (o .format);
         map = record { good = o .glyphs-good; few = n };
+        glyphs-good = good-glyphs glyphs bg (o .glyphs-good);
         lookups = lookups-held .inside;
         before = omega (arith, a .place, b .place);
         holds = b .holds zm;
@@ -221,10 +242,10 @@ module _ {chained : Bool} {s glyphs lookups : List ℕ} (o : Sound chained s gly
         cells = omega (arith, a .kept .size, b .kept .size);
       }
 
-      pub maps-cut : {area : List ℕ} (r : Tried) (out after : List ℕ) → CutsInto chained s glyphs l t₂ area r out after
+      pub maps-cut : {area : List ℕ} (r : Tried) (out after : List ℕ) → Bytes lookups → CutsInto chained s glyphs l t₂ area r out after
           → Tries (length t₀ < 655360) (length area < enoughBytes) r out after (written out (cut (mapEntries glyphs) (mapEntries lookups) (classContext chained s)))
-      maps-cut {area} r out after c =
-          tries-less (length t₂ < 655360) (length area < enoughBytes) (length t₀ < 655360) (length area < enoughBytes) r out after (written out (cut (mapEntries glyphs) (mapEntries lookups) (classContext chained s))) (λ f. omega (arith, f, a .kept .size, b .kept .size)) (λ f. f) (c .cuts lookups-held)
+      maps-cut {area} r out after bl c =
+          tries-less (length t₂ < 655360) (length area < enoughBytes) (length t₀ < 655360) (length area < enoughBytes) r out after (written out (cut (mapEntries glyphs) (mapEntries lookups) (classContext chained s))) (λ f. omega (arith, f, a .kept .size, b .kept .size)) (λ f. f) (c .cuts lookups-held (map-values lookups bl))
 
 -- A front of the scratch that is long enough, or all of it.
 pub front-length : {n c : ℕ} (t : List ℕ) → Least (length t) c n → n ≡ length (take n t)
@@ -233,7 +254,7 @@ front-length {n} t h = sym (length-take-le n t (h .first))
 front-short : {n c : ℕ} (t : List ℕ) → Least (length t) c n → length (take n t) < c → length t < c
 front-short {n} {c} t h l = omega (arith, front-length t h, h .one (omega (arith, front-length t h)))
 
-pub front-tries : {n k : ℕ} (t area : List ℕ) (r : Tried) (out after : List ℕ) (made : Outcome) → Least (length t) 655360 n → Least (length area) 262144 k
-    → Tries (length (take n t) < enoughCells) (length (take k area) < enoughBytes) r out after made → Tries (length t < enoughCells) (length area < 262144) r out after made
+pub front-tries : {n k : ℕ} (t area : List ℕ) (r : Tried) (out after : List ℕ) (made : Outcome) → Least (length t) 655360 n → Least (length area) enoughBytes k
+    → Tries (length (take n t) < enoughCells) (length (take k area) < enoughBytes) r out after made → Tries (length t < enoughCells) (length area < enoughBytes) r out after made
 front-tries {n} {k} t area r out after made h g =
-    tries-less (length (take n t) < enoughCells) (length (take k area) < enoughBytes) (length t < enoughCells) (length area < 262144) r out after made (front-short t h) (front-short area g)
+    tries-less (length (take n t) < enoughCells) (length (take k area) < enoughBytes) (length t < enoughCells) (length area < enoughBytes) r out after made (front-short t h) (front-short area g)

@@ -1,4 +1,3 @@
-pub mod FewClasses
 pub mod Siding
 pub mod Cutting
 pub mod Entry

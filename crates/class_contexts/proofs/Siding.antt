@@ -4,9 +4,7 @@ use mathlib.Core.Path.{_≡_, refl, sym, ap, _∙_}
 use mathlib.Core.List.{List, map}
 use native.Mathlib.Omega.{arith}
 use lib.ListN.{length}
-use Rattle.meaning.specs.Words.{keys}
 use Rattle.meaning.specs.Maps.{mapEntries}
-use Rattle.meaning.specs.Cut.{heldBy}
 use Rattle.fold.specs.Cells.{Inside, Kept, kept-more}
 use Rattle.fold.specs.declared.Map.{Map}
 use Rattle.area.specs.Part.{notes}

@@ -12,6 +12,8 @@ use Rattle.meaning.specs.Tables.{classContext}
 use Rattle.meaning.specs.Fault.{contextFault}
 use Rattle.meaning.specs.Cut.{cut, newCoverage}
 use Rattle.meaning.specs.Subset.{limit, written}
+use Rattle.laws.specs.ReadsBack.{Good}
+use Rattle.laws.specs.CutGood.{GoodMap, Values}
 use Rattle.fold.specs.Cells.{Inside, Holds}
 use Rattle.fold.specs.declared.Map.{Map}
 use Rattle.area.specs.Part.{news}
@@ -49,7 +51,9 @@ preparedOf l noted i b a = record {
 -- what is asked where both maps lie in cells, that of the lookups first
 pub record Begins (chained : Bool) (s glyphs : List ℕ) (l m : Map) (t area : List ℕ) : Type 0 where
   pub sound : SoundContext chained s
+  pub good : Good (classContext chained s)
   pub map : Glyphs glyphs
+  pub glyphs-good : GoodMap (mapEntries glyphs)
   pub lookups : Inside t l
   pub before : l .at + l .mask < m .at
   pub holds : Holds t m (mapEntries glyphs)
@@ -62,7 +66,9 @@ pub record Begins (chained : Bool) (s glyphs : List ℕ) (l m : Map) (t area : L
 -- what is asked where the covered glyphs are noted in cells: there is one, and the cells of the lookup map stand before them
 pub record Cuts (chained : Bool) (s glyphs : List ℕ) (l : Map) (noted : Noted) (t area : List ℕ) : Type 0 where
   pub sound : SoundContext chained s
+  pub good : Good (classContext chained s)
   pub map : Glyphs glyphs
+  pub glyphs-good : GoodMap (mapEntries glyphs)
   pub lookups : Inside t l
   pub before : l .at + l .mask < noted .at
   pub near : noted .at + noted .len ≤ 196608
@@ -75,9 +81,9 @@ pub record Cuts (chained : Bool) (s glyphs : List ℕ) (l : Map) (noted : Noted)
   pub short : length area ≤ 0x1_0000_0000
   pub cells : length t ≤ 0x1_0000_0000
 
--- whatever lookup map the cells of l hold, what is left of the context is handed over
+-- whatever lookup map of words the cells of l hold, what is left of the context is handed over
 pub record CutsInto (chained : Bool) (s glyphs : List ℕ) (l : Map) (t area : List ℕ) (r : Tried) (out after : List ℕ) : Type 0 where
-  pub cuts : {es : List (ℕ × ℕ)} → Holds t l es → Tries (length t < enoughCells) (length area < enoughBytes) r out after (written out (cut (mapEntries glyphs) es (classContext chained s)))
+  pub cuts : {es : List (ℕ × ℕ)} → Holds t l es → Values es → Tries (length t < enoughCells) (length area < enoughBytes) r out after (written out (cut (mapEntries glyphs) es (classContext chained s)))
 
 -- r is the lesser of a and b
 pub record Least (a b r : ℕ) : Type 0 where

@@ -280,7 +280,7 @@ pub fn by_class(
     out: &mut [u8],
 ) -> Tried
     requires { ⌜ Sound chained (now src) (now glyphs) (now lookups) ⌝ }
-    ensures { λ r. ⌜ Tries (length (now (t .entry)) < enoughCells) (length (now (area .entry)) < 262144) r (now (out .entry)) (now (out .exit)) (written (now (out .entry)) (cut (mapEntries (now (glyphs .entry))) (mapEntries (now (lookups .entry))) (classContext chained (now (src .entry))))) ⌝ }
+    ensures { λ r. ⌜ Tries (length (now (t .entry)) < enoughCells) (length (now (area .entry)) < enoughBytes) r (now (out .entry)) (now (out .exit)) (written (now (out .entry)) (cut (mapEntries (now (glyphs .entry))) (mapEntries (now (lookups .entry))) (classContext chained (now (src .entry))))) ⌝ }
 {
     let cells = least(t.len(), CELLS);
     let bytes = least(area.len(), BYTES);

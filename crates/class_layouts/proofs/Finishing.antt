@@ -158,5 +158,6 @@ module _ {chained : Bool} {t : List ℕ} {tail : Tail} {r : Slots} {classes : �
           same = same₄;
           place = λ l. behind l .place;
           table = λ bs many u small left l. rw s at (whole l bs many u small left);
-          full = λ l. omega (arith, laid .full (omega (arith, same₂)), same₂);
+          near = λ l. laid .near (omega (arith, same₂));
+          full = λ l f. omega (arith, laid .full (omega (arith, same₂)) f, same₂);
         }

@@ -1,21 +1,18 @@
--- What is handed over is what is left; and where there is no room for it, it is over the limit.
+-- What is handed over is what is left; and where there is no room for it, an offset or a count doesn't fit a word.
 use Prim.Native.Nat.{ℕ, _+_, _-_, _*_, _≤_, _<_}
 use mathlib.Core.Path.{_≡_, refl, sym, ap, _∙_, subst}
-use mathlib.Core.Bool.{Bool}
-use mathlib.Core.Option.{Option, none, some}
+use mathlib.Core.Bool.{Bool, true, false}
+use mathlib.Core.Option.{Option}
 use mathlib.Core.List.{List, [], _∷_, _++_}
-use native.Mathlib.Decide.{decLt}
 use native.Mathlib.Omega.{arith}
-use lib.ListN.{length, length-append}
+use lib.ListN.{length}
 use lib.Seq.{length-take-le}
-use borrow.Author.Tests.{lt-ltb}
 use Rattle.meaning.specs.Words.{flat}
 use Rattle.meaning.specs.Cut.{trim}
 use Rattle.meaning.specs.Layout.{blocks, setsLayout}
-use Rattle.meaning.specs.Subset.{Outcome, refused, limit, laidInto}
-use Rattle.laws.specs.Stands.{flat-length}
-use Rattle.laws.specs.SetsTable.{table-size}
-use Rattle.area.specs.Part.{part, part-length}
+use Rattle.meaning.specs.Subset.{Outcome, refused, limit}
+use Rattle.room.specs.Laid.{laidAs, laid-unfit}
+use Rattle.area.specs.Part.{part}
 use Rattle.class_maps.specs.SlotWalk.{trim-words}
 use Rattle.class_slots.specs.Sets.{slotsAt, slots-near}
 use Rattle.class_slots.specs.Slots.{slotBlocks, blocks-many, Noted, Filled, WroteSlots}
@@ -24,30 +21,22 @@ use Rattle.tried.specs.Tries.{Tries}
 use Rattle.tried.specs.declared.Tried.{Tried}
 use Rattle.tried.specs.declared.Tried.the-variants.{Short, Became}
 use Rattle.room.specs.declared.Laid.the-variants.{TooBig}
-use Rattle.class_layouts.specs.Tail.{tailBlocks}
-use Rattle.class_layouts.specs.Table.{tableOf, tableLeft, wordsInto, Finishes, Finished}
-use Rattle.class_layouts.specs.Written.{enoughBytes, NoRoom, Writes, leftIn}
+use Rattle.class_layouts.specs.Tail.{tailBlocks, tailFit}
+use Rattle.class_layouts.specs.Table.{tableInto, Finishes, Finished}
+use Rattle.class_layouts.specs.Written.{enoughBytes, NoRoom, Writes, leftInto}
 use Rattle.class_layouts.specs.declared.Prepared.{Prepared}
+use Rattle.class_layouts.proofs.Laying.{fit-first, fit-end}
 use Rattle.class_layouts.proofs.Finishing.{tail-many}
 
 -- no room
-pub too-short : {n : ℕ} → n < 262144 → NoRoom n Short
+pub too-short : {n : ℕ} → n < enoughBytes → NoRoom n Short
 too-short h = record { told = λ out made k. (h, refl) }
 
-pub too-big : {n : ℕ} → 262144 ≤ n → NoRoom n (Became TooBig)
+pub too-big : {n : ℕ} → enoughBytes ≤ n → NoRoom n (Became TooBig)
 too-big h = record { told = λ out made k. k h }
 
 pub room-told : {n m : ℕ} {r : Tried} {out : List ℕ} {made : Outcome} → NoRoom n r → n ≡ m → (enoughBytes ≤ n → refused out 9 ≡ made) → Tries ⊥ (m < enoughBytes) r out out made
 room-told {n} {m} {r} {out} {made} h e k = subst (λ (i : ℕ). Tries ⊥ (i < enoughBytes) r out out made) e (h .told out made k)
-
--- bytes that are the same unless they are over the limit, and as many, are laid alike
-laid-same : (out xs ys : List ℕ) → length xs ≡ length ys → (length xs ≤ limit → xs ≡ ys) → laidInto out xs ≡ laidInto out ys
-unfolding laidInto
-laid-same out xs ys e f = step (decLt limit (length xs))
-  where
-    step : Dec (limit < length xs) → laidInto out xs ≡ laidInto out ys
-    step (yes h) = rw (lt-ltb limit (length xs) h, lt-ltb limit (length ys) (omega (arith, e))) refl
-    step (no h) = ap (laidInto out) (f (omega arith))
 
 -- What is left of slots.
 module _ (tail bs : List (Option (List ℕ))) where
@@ -60,30 +49,33 @@ module _ (tail bs : List (Option (List ℕ))) where
       step [] e = omega (arith, ap length e)
       step (b ∷ l) e = omega arith
 
-  left-none : length (trim bs) ≡ 0 → tableLeft tail bs ≡ none
-  unfolding tableOf
-  left-none z = step (trim bs) z
+  -- where the coverage stands
+  abbrev coverPlace : ℕ
+  coverPlace = 4 + 2 * length tail + 2 * length (trim bs) + 2 * length (blocks (trim bs))
+
+  left-none : (out : List ℕ) → length (trim bs) ≡ 0 → tableInto out tail (trim bs) ≡ refused out 8
+  unfolding tableInto
+  left-none out z = step (trim bs) z
     where
-      step : (l : List (Option (List ℕ))) → length l ≡ 0 → tableOf tail l ≡ none
+      step : (l : List (Option (List ℕ))) → length l ≡ 0 → tableInto out tail l ≡ refused out 8
       step [] z = refl
       step (b ∷ l) z = absurd (omega arith)
 
-  left-some : 0 < length (trim bs) → tableLeft tail bs ≡ some (setsLayout 2 tail [] (trim bs))
-  unfolding tableOf
-  left-some z = step (trim bs) z
+  left-some : (out : List ℕ) → 0 < length (trim bs) → tableInto out tail (trim bs) ≡ laidAs (tailFit coverPlace tail) out (flat (setsLayout 2 tail [] (trim bs)))
+  unfolding tableInto
+  left-some out z = step (trim bs) z
     where
-      step : (l : List (Option (List ℕ))) → 0 < length l → tableOf tail l ≡ some (setsLayout 2 tail [] l)
+      step : (l : List (Option (List ℕ))) → 0 < length l → tableInto out tail l ≡ laidAs (tailFit (4 + 2 * length tail + 2 * length l + 2 * length (blocks l)) tail) out (flat (setsLayout 2 tail [] l))
       step [] z = absurd (omega arith)
       step (b ∷ l) z = refl
 
-  -- how many bytes it takes
-  left-size : length (flat (setsLayout 2 tail [] (trim bs))) ≡ 4 + 2 * length tail + 2 * length (trim bs) + 2 * length (blocks bs) + 2 * length (blocks tail)
-  left-size = omega (arith, flat-length (setsLayout 2 tail [] (trim bs)), table-size 2 tail [] (trim bs), ap length (trim-words bs))
-
-  -- it is over the limit
-  left-over : (out : List ℕ) → 0 < length (trim bs) → 65536 < 4 + 2 * length tail + 2 * length (trim bs) + 2 * length (blocks bs) + 2 * length (blocks tail) → refused out 9 ≡ wordsInto out (tableLeft tail bs)
-  unfolding laidInto limit
-  left-over out z h = sym (ap (wordsInto out) (left-some z) ∙ rw (lt-ltb 65536 (length (flat (setsLayout 2 tail [] (trim bs)))) (omega (arith, left-size))) refl)
+  -- what follows the sets doesn't fit words
+  left-unfit : (out : List ℕ) → 0 < length (trim bs) → (tailFit coverPlace tail ≡ true → ⊥) → refused out 9 ≡ tableInto out tail (trim bs)
+  left-unfit out z h = sym (left-some out z ∙ step (tailFit coverPlace tail) h)
+    where
+      step : (t : Bool) → (t ≡ true → ⊥) → laidAs t out (flat (setsLayout 2 tail [] (trim bs))) ≡ refused out 9
+      step true h = absurd (h refl)
+      step false h = laid-unfit out (flat (setsLayout 2 tail [] (trim bs)))
 
 module _ {chained : Bool} {s t : List ℕ} {p : Prepared} {area₀ : List ℕ} (a : Writes chained s t p area₀) {area : List ℕ} {r : Slots} (w : WroteSlots chained s t (p .maps) (p .marks) area₀ area r) (out : List ℕ) where
   abbrev bs : List (Option (List ℕ))
@@ -96,14 +88,12 @@ module _ {chained : Bool} {s t : List ℕ} {p : Prepared} {area₀ : List ℕ} (
   many = blocks-many chained s t (p .maps) (p .marks) ∙ sym (a .ready .number)
 
   -- there is no room for the sets
-  pub short-slots : length area < r .end → enoughBytes ≤ length area → refused out 9 ≡ wordsInto out (leftIn chained s t p)
+  pub short-slots : length area < r .end → enoughBytes ≤ length area → refused out 9 ≡ leftInto out chained s t p
   unfolding limit
   short-slots l b =
       let f = w .full (omega (arith, w .same)) in
-      let near = slots-near chained in
-      let u : 65536 < slotsAt chained + 2 + 2 * length (blocks bs) = omega (arith, f, many, a .few, a .ready .short, w .same, near) in
-      let z = trim-some tb bs (omega (arith, u, near)) in
-      left-over tb bs out z (omega (arith, u, z, tail-many chained t (p .tail)))
+      let u : 65535 < 2 * length (blocks bs) = omega (arith, f, many, a .few, a .ready .short, w .same, slots-near chained) in
+      left-unfit tb bs out (trim-some tb bs (omega (arith, u))) (λ q. omega (arith, u, fit-first (coverPlace tb bs) _ _ q .0, ap length (trim-words bs)))
 
   module _ (l : r .end ≤ length area) where
     filled : Filled chained s t (p .maps) (p .marks) area r
@@ -113,8 +103,8 @@ module _ {chained : Bool} {s t : List ℕ} {p : Prepared} {area₀ : List ℕ} (
     long = ap length (filled .head) ∙ length-take-le (r .count) bs (filled .few)
 
     -- no slot is left
-    pub none-left : r .count ≡ 0 → refused out 8 ≡ wordsInto out (leftIn chained s t p)
-    none-left z = sym (ap (wordsInto out) (left-none tb bs (long ∙ z)))
+    pub none-left : r .count ≡ 0 → refused out 8 ≡ leftInto out chained s t p
+    none-left z = sym (left-none tb bs out (long ∙ z))
 
     module _ (z : r .count ≡ 0 → ⊥) where
       ends : r .end ≡ slotsAt chained + 2 * p .classes + 2 * length (blocks bs)
@@ -133,11 +123,17 @@ module _ {chained : Bool} {s t : List ℕ} {p : Prepared} {area₀ : List ℕ} (
       }
 
       module _ {after : List ℕ} {end : ℕ} (f : Finished chained tb r (p .classes) area after end) where
+        -- where the coverage stands
+        cover-is : coverPlace tb bs ≡ r .end - 2 * (p .classes - r .count)
+        cover-is = omega (arith, ends, long, filled .few, many, ap length (trim-words bs), tail-many chained t (p .tail))
+
         -- there is no room for what follows the sets
-        pub short-table : length after < end → enoughBytes ≤ length after → refused out 9 ≡ wordsInto out (leftIn chained s t p)
+        pub short-table : length after < end → enoughBytes ≤ length after → refused out 9 ≡ leftInto out chained s t p
         short-table k b =
-            let g = f .full (omega (arith, f .same)) in
-            left-over tb bs out (omega (arith, long)) (omega (arith, g, ends, a .few, f .same, slots-near chained, tail-many chained t (p .tail)))
+            left-unfit tb bs out (omega (arith, long)) (λ q.
+            let g = f .full (omega (arith, f .same)) (rw cover-is at q) in
+            let e = fit-end (coverPlace tb bs) tb (omega (arith, fit-first (coverPlace tb bs) _ _ q .0)) q in
+            omega (arith, g, e, cover-is, a .few, f .same))
 
         module _ (k : end ≤ length after) where
           -- where the table ends
@@ -148,17 +144,12 @@ module _ {chained : Bool} {s t : List ℕ} {p : Prepared} {area₀ : List ℕ} (
           first-near = omega (arith, place, ends)
 
           -- what is handed over is the table
-          pub table-laid : {at : ℕ} → at ≡ slotsAt chained → {o : Outcome} → o ≡ laidInto out (part after 0 (at + 2 * r .count) ++ part after (at + 2 * p .classes) (end - (at + 2 * p .classes))) → o ≡ wordsInto out (leftIn chained s t p)
-          unfolding limit
+          pub table-laid : {at : ℕ} → at ≡ slotsAt chained → {o : Outcome} → o ≡ laidAs true out (part after 0 (at + 2 * r .count) ++ part after (at + 2 * p .classes) (end - (at + 2 * p .classes))) → o ≡ leftInto out chained s t p
           table-laid {at} e h =
-              let head = slotsAt chained + 2 * r .count in
-              let first = slotsAt chained + 2 * p .classes in
-              let xs = part after 0 head ++ part after first (end - first) in
-              let ys = flat (setsLayout 2 tb [] (trim bs)) in
-              let size : length xs ≡ length ys =
-              omega (arith, length-append (part after 0 head) (part after first (end - first)), part-length after 0 head, part-length after first (end - first), left-size tb bs, long, place, ends, tail-many chained t (p .tail)) in
-              let same : length xs ≤ 65536 → xs ≡ ys = λ m.
-              f .table bs many (subst (λ (n : ℕ). Noted (slotsAt chained) (slotsAt chained + 2 * n) bs area (r .end)) many (filled .noted)) (omega (arith, m, size, left-size tb bs))
+              let fits = f .near (omega (arith, f .same, k)) in
+              let low = fit-first (r .end - 2 * (p .classes - r .count)) _ _ fits .0 in
+              let same = f .table bs many (subst (λ (n : ℕ). Noted (slotsAt chained) (slotsAt chained + 2 * n) bs area (r .end)) many (filled .noted)) (omega (arith, low, ends, filled .few, many))
               (ap blocks (sym (filled .head)) ∙ trim-words bs) (omega (arith, f .same, k)) ∙ ap (λ (l : List (Option (List ℕ))). flat (setsLayout 2 tb [] l)) (sym (filled .head)) in
-              h ∙ ap (λ (i : ℕ). laidInto out (part after 0 (i + 2 * r .count) ++ part after (i + 2 * p .classes) (end - (i + 2 * p .classes)))) e
-              ∙ laid-same out xs ys size same ∙ sym (ap (wordsInto out) (left-some tb bs (omega (arith, long))))
+              let test : true ≡ tailFit (coverPlace tb bs) tb = sym (ap (λ (n : ℕ). tailFit n tb) cover-is ∙ fits) in
+              h ∙ ap (λ (i : ℕ). laidAs true out (part after 0 (i + 2 * r .count) ++ part after (i + 2 * p .classes) (end - (i + 2 * p .classes)))) e
+              ∙ ap (laidAs true out) same ∙ ap (λ (t : Bool). laidAs t out (flat (setsLayout 2 tb [] (trim bs)))) test ∙ sym (left-some tb bs out (omega (arith, long)))

@@ -2,26 +2,26 @@
 use Prim.Native.Nat.{ℕ, _≤_, _<_}
 use mathlib.Core.Path.{_≡_}
 use mathlib.Core.Bool.{Bool}
-use mathlib.Core.Option.{Option}
 use mathlib.Core.List.{List}
 use lib.ListN.{length}
+use Rattle.meaning.specs.Cut.{trim}
 use Rattle.meaning.specs.Subset.{Outcome, refused}
 use Rattle.class_slots.specs.Slots.{Ready, slotBlocks}
 use Rattle.tried.specs.Tries.{Tries}
 use Rattle.tried.specs.declared.Tried.{Tried}
 use Rattle.class_layouts.specs.Tail.{tailBlocks, TailIn}
-use Rattle.class_layouts.specs.Table.{tableLeft}
+use Rattle.class_layouts.specs.Table.{tableInto}
 use Rattle.class_layouts.specs.declared.Prepared.{Prepared}
 
--- bytes that are enough for any source: where they are too few, the layout is over the limit
+-- bytes that are enough for any source: where they are too few, an offset or a count of the layout doesn't fit a word
 abbrev pub enoughBytes : ℕ
-enoughBytes = 262144
+enoughBytes = 655360
 
--- the most surviving classes: as many as a class array has room for in a source, and class 0
+-- the most surviving classes
 abbrev pub mostClasses : ℕ
-mostClasses = 32766
+mostClasses = 65536
 
--- What is answered where an area of n bytes has no room: it is too short, or the layout is over the limit, if an area that is long enough says so.
+-- What is answered where an area of n bytes has no room: it is too short, or the layout is too big, if an area that is long enough says so.
 pub record NoRoom (n : ℕ) (r : Tried) : Type 0 where
   pub told : (out : List ℕ) (made : Outcome) → (enoughBytes ≤ n → refused out 9 ≡ made) → Tries ⊥ (n < enoughBytes) r out out made
 
@@ -32,6 +32,6 @@ pub record Writes (chained : Bool) (s t : List ℕ) (p : Prepared) (area : List 
   pub tail-in : TailIn t (p .tail)
   pub short : length area ≤ 0x1_0000_0000
 
--- the words of what is left, as the cells say it
-abbrev pub leftIn : Bool → List ℕ → List ℕ → Prepared → Option (List ℕ)
-leftIn chained s t p = tableLeft (tailBlocks chained t (p .tail)) (slotBlocks chained s t (p .maps) (p .marks))
+-- what is left, as the cells say it, laid into the buffer
+abbrev pub leftInto : List ℕ → Bool → List ℕ → List ℕ → Prepared → Outcome
+leftInto out chained s t p = tableInto out (tailBlocks chained t (p .tail)) (trim (slotBlocks chained s t (p .maps) (p .marks)))

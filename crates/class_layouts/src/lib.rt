@@ -1,5 +1,6 @@
 // The layout of format 2 of contexts and chained contexts, written into the area from what cells hold: the sets of the surviving classes, the coverage and the class tables.
 use area::hand_over;
+use area::over;
 use area::put;
 use area::write_classes;
 use area::write_cover;
@@ -8,7 +9,9 @@ use class_slots::settle;
 use class_slots::slots_at;
 use class_slots::write_slots;
 use fold::Map;
+use member_sets::PLACES;
 use member_sets::crowded;
+use room::HIGHEST;
 use room::LIMIT;
 use room::Laid;
 use rule_sets::Maps;
@@ -21,11 +24,14 @@ ghost use Rattle.member_sets.specs.Dead.{Dead};
 ghost use Rattle.rule_sets.specs.Left.{mapsIn, ruleLeft};
 ghost use Rattle.tried.specs.Tries.{Tries};
 ghost use Rattle.class_layouts.specs.Tail.{tableBlock, tableBlocks, tailBlocks, TableIn, TailIn, Lays, Places};
-ghost use Rattle.class_layouts.specs.Table.{wordsInto, Finishes, Finished};
-ghost use Rattle.class_layouts.specs.Written.{enoughBytes, NoRoom, Writes, leftIn};
+ghost use Rattle.class_layouts.specs.Table.{Finishes, Finished};
+ghost use Rattle.class_layouts.specs.Written.{enoughBytes, NoRoom, Writes, leftInto};
 
-// The number of bytes of an area that is enough for any source: where they are too few, the layout is over the limit.
-pub const BYTES: usize = 262144;
+// The number of bytes of an area that is enough for any source: where they are too few, an offset or a count of the layout doesn't fit a word.
+pub const BYTES: usize = 5 * LIMIT / 2;
+
+// The most bytes of a class table whose count fits a word.
+const LONGEST: usize = 131076;
 
 // Cells in a row: where the first stands, and how many there are.
 pub struct Noted {
@@ -56,7 +62,7 @@ pub struct Prepared {
     pub tail: Tail,
 }
 
-// A new class table: its offset, less by the gap, at `slot`, and itself at `p`; the place after it. A null table stays null, and where `p` is past the area nothing is written.
+// A new class table: its offset, less by the gap, at `slot`, and itself at `p`; the place after it. A null table stays null. Where `p` is past the area, or the offset or the table's count doesn't fit a word, the answer is past the area.
 fn write_table(
     t: &[u32],
     table: NewTable,
@@ -75,8 +81,15 @@ fn write_table(
         put(area, slot, 0);
         return p;
     }
+    if HIGHEST < p - gap {
+        return over(area);
+    }
     put(area, slot, p - gap);
-    write_classes(t, table.list, table.len, area, p)
+    let q = write_classes(t, table.list, table.len, area, p);
+    if p + LONGEST < q {
+        return over(area);
+    }
+    q
 }
 
 // The class tables of backtrack, input and lookahead, or of the input alone: their offsets, less by the gap, from 4 on, and themselves from `p` on; the place after them.
@@ -104,6 +117,9 @@ fn write_tail(chained: bool, t: &[u32], tail: Tail, area: &mut [u8], gap: usize,
     requires { ⌜ TailIn (now t) tail × Places (now area) 2 4 gap p × (p ≤ length (now area)) ⌝ }
     ensures { λ r. ⌜ Lays (now (area .entry)) 2 gap p (tailBlocks chained (now (t .entry)) tail) (now (area .exit)) r ⌝ }
 {
+    if HIGHEST < p - gap {
+        return over(area);
+    }
     put(area, 2, p - gap);
     let q = write_cover(t, tail.cover.at, tail.cover.len, area, p);
     write_tables(chained, t, tail, area, gap, q)
@@ -130,7 +146,7 @@ fn finish(
     end
 }
 
-// What is answered where the area has no room: it is too short, or, if it is long enough for any layout that is not over the limit, this one is over.
+// What is answered where the area has no room: it is too short, or, if it is long enough for any layout that is not too big, this one is too big.
 fn no_room(area: &[u8]) -> Tried
     ensures { λ r. ⌜ NoRoom (length (now (area .entry))) r ⌝ }
 {
@@ -151,7 +167,7 @@ fn write_context(
     out: &mut [u8],
 ) -> Tried
     requires { ⌜ Writes chained (now src) (now t) prepared (now area) × Dead (ruleLeft chained (mapsIn (now t) (prepared .maps)) (now src)) (now dead) ⌝ }
-    ensures { λ r. ⌜ Tries ⊥ (length (now (area .entry)) < enoughBytes) r (now (out .entry)) (now (out .exit)) (wordsInto (now (out .entry)) (leftIn chained (now (src .entry)) (now (t .entry)) prepared)) ⌝ }
+    ensures { λ r. ⌜ Tries ⊥ (length (now (area .entry)) < enoughBytes) r (now (out .entry)) (now (out .exit)) (leftInto (now (out .entry)) chained (now (src .entry)) (now (t .entry)) prepared) ⌝ }
 {
     let classes = prepared.classes;
     let slots = write_slots(
@@ -175,10 +191,10 @@ fn write_context(
         return no_room(area);
     }
     let at = slots_at(chained);
-    Tried::Became(hand_over(area, at + 2 * slots.count, at + 2 * classes, end, out))
+    Tried::Became(hand_over(area, at + 2 * slots.count, at + 2 * classes, end, true, out))
 }
 
-// The same where the sets share rules, with a place for a mark at each byte that a source can have.
+// The same where the sets share rules, with a mark for each place that a rule can start at.
 // It calls itself, so that the compiler keeps its large array out of its caller's frame: the small job would pay for it, and docs/SPEED.md says how much. How often it does, `rounds`, is 0 for a map of whole entries.
 fn write_crowded(
     chained: bool,
@@ -190,12 +206,12 @@ fn write_crowded(
     out: &mut [u8],
 ) -> Tried
     requires { ⌜ Writes chained (now src) (now t) prepared (now area) ⌝ }
-    ensures { λ r. ⌜ Tries ⊥ (length (now (area .entry)) < enoughBytes) r (now (out .entry)) (now (out .exit)) (wordsInto (now (out .entry)) (leftIn chained (now (src .entry)) (now (t .entry)) prepared)) ⌝ }
+    ensures { λ r. ⌜ Tries ⊥ (length (now (area .entry)) < enoughBytes) r (now (out .entry)) (now (out .exit)) (leftInto (now (out .entry)) chained (now (src .entry)) (now (t .entry)) prepared) ⌝ }
 {
     if rounds != 0 {
         return write_crowded(chained, src, t, prepared, rounds - 1, area, out);
     }
-    let mut dead = [0u8; LIMIT];
+    let mut dead = [0u8; PLACES];
     write_context(chained, src, t, prepared, &mut dead, area, out)
 }
 
@@ -210,7 +226,7 @@ pub fn write_left(
     out: &mut [u8],
 ) -> Tried
     requires { ⌜ Writes chained (now src) (now t) prepared (now area) ⌝ }
-    ensures { λ r. ⌜ Tries ⊥ (length (now (area .entry)) < enoughBytes) r (now (out .entry)) (now (out .exit)) (wordsInto (now (out .entry)) (leftIn chained (now (src .entry)) (now (t .entry)) prepared)) ⌝ }
+    ensures { λ r. ⌜ Tries ⊥ (length (now (area .entry)) < enoughBytes) r (now (out .entry)) (now (out .exit)) (leftInto (now (out .entry)) chained (now (src .entry)) (now (t .entry)) prepared) ⌝ }
 {
     let slots = slots_at(chained);
     if crowded(src, slots, word_at(src, slots - 2)) {

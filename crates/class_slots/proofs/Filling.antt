@@ -12,7 +12,7 @@ use Rattle.meaning.specs.Layout.{blocks}
 use Rattle.laws.specs.Through.{blocks-append}
 use Rattle.numbers.specs.Leaves.{Leaves, leaves-gone, leaves-stays}
 use Rattle.class_maps.specs.SlotWalk.{Slotting, slotting-all, slotting-said, slotting-null, slotting-set, slotting-end}
-use Rattle.class_slots.specs.Sets.{wordsIn, setMost}
+use Rattle.class_slots.specs.Sets.{wordsIn, setSpare, setMost}
 use Rattle.class_slots.specs.Slots.{Noted}
 use Rattle.class_slots.proofs.Noting.{noted-all, noted-null, noted-set}
 
@@ -81,7 +81,7 @@ module _ (all : List (Option (List ℕ))) (slots first : ℕ) where
           }
 
       -- there is no room
-      pub filling-full : (s : List ℕ) → m ≡ setMost o s → length one < q → length area₀ < first + 2 * length (blocks all) + 2 * length s
+      pub filling-full : (s : List ℕ) → m ≡ setMost o s → length one < q → length area₀ < first + 2 * length (blocks all) + setSpare s
       unfolding setMost
       filling-full s e l =
           omega (arith, e, w .full (omega (arith, w .same)), c .same, c .noted .place, ap (λ (b : List (Option (List ℕ))). length (blocks b)) (c .slotting .whole), ap length (blocks-append (c .done) (o ∷ rest)), length-append (blocks (c .done)) (blocks (o ∷ rest)), one-most o rest)

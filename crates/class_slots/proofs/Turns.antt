@@ -17,7 +17,7 @@ use Rattle.rule_sets.specs.Left.{mapsIn}
 use Rattle.rule_sets.specs.declared.Maps.{Maps}
 use Rattle.class_maps.specs.Present.{present, named}
 use Rattle.class_maps.specs.SlotWalk.{slotsFrom, walk-one, walk-none, walk-end}
-use Rattle.class_slots.specs.Sets.{slotsAt, slots-near, countAt, setPlace, setLeft, SetSound, Asked, place-slot}
+use Rattle.class_slots.specs.Sets.{slotsAt, slots-near, countAt, setPlace, setLeft, setSpare, SetSound, Asked, place-slot}
 use Rattle.class_slots.specs.Slots.{setsIn, slotBlocks, Ready, WroteSlots, blocks-many, present-few}
 use Rattle.class_slots.proofs.Noting.{noted-moved}
 use Rattle.class_slots.proofs.Filling.{Filling, filling-all, filling-said, filling-few, filling-end}
@@ -112,7 +112,7 @@ module _ {chained : Bool} {s t : List ℕ} {maps : Maps} {marks : Map} {classes 
     turned l j = record { within = omega arith; few = done-few j; filling = j }
 
     -- there is no room for a set
-    pub wrote-full : {one : List ℕ} {q : ℕ} → length one ≡ length area → length one < q → length area₀ < first + 2 * length (blocks all) + 2 * length s
+    pub wrote-full : {one : List ℕ} {q : ℕ} → length one ≡ length area → length one < q → length area₀ < first + 2 * length (blocks all) + setSpare s
         → WroteSlots chained s t maps marks area₀ one (record { count = 0; end = q })
     wrote-full w l g = record { same = w ∙ i .filling .same; done = λ k. absurd (omega (arith, w, i .filling .same)); full = λ k. omega (arith, as-many, e, f) }
 

@@ -50,9 +50,13 @@ unfoldable pub wordsIn : Option (List ℕ) → List ℕ
 wordsIn none = []
 wordsIn (some ws) = ws
 
--- more than there is room for, where a set has none: what is left of it, and twice the source
+-- what a set takes at most besides what is left of it: the place for a count and an offset for each of at most 65,535 rules, and one rule more, which takes no more than the source
+abbrev pub setSpare : List ℕ → ℕ
+setSpare s = length s + 131072
+
+-- more than there is room for, where a set has none: what is left of it, and what it takes besides
 unfoldable pub setMost : Option (List ℕ) → List ℕ → ℕ
-setMost o s = 2 * length (wordsIn o) + 2 * length s
+setMost o s = 2 * length (wordsIn o) + setSpare s
 
 -- the set at a place is sound, if there is one
 pub record SetSound (chained : Bool) (s : List ℕ) (at : ℕ) : Type 0 where

@@ -20,7 +20,7 @@ use Rattle.rule_sets.specs.Left.{AllInside, mapsIn}
 use Rattle.rule_sets.specs.declared.Maps.{Maps}
 use Rattle.class_maps.specs.Present.{presentFrom, present}
 use Rattle.class_maps.specs.SlotWalk.{halves}
-use Rattle.class_slots.specs.Sets.{slotsAt, countAt}
+use Rattle.class_slots.specs.Sets.{slotsAt, countAt, setSpare}
 use Rattle.class_slots.specs.declared.Slots.{Slots}
 
 -- The slots `bs` stand from `slots` on, each as one more than half its block's distance from the first, or 0, and their blocks from `first` up to `end`.
@@ -57,11 +57,11 @@ module _ (chained : Bool) (s t : List ℕ) (maps : Maps) (marks : Map) where
     pub few : r .count ≤ length slotBlocks
     pub head : trim slotBlocks ≡ take (r .count) slotBlocks
 
-  -- Where there is none, the area is shorter than the header, a slot for each class, all sets and twice the source.
+  -- Where there is none, the area is shorter than the header, a slot for each class, all sets, and what a set takes besides.
   pub record WroteSlots (area₀ area : List ℕ) (r : Slots) : Type 0 where
     pub same : length area ≡ length area₀
     pub done : r .end ≤ length area₀ → Filled area r
-    pub full : length area₀ < r .end → length area₀ < slotsAt chained + 2 * length slotBlocks + 2 * length (blocks slotBlocks) + 2 * length s
+    pub full : length area₀ < r .end → length area₀ < slotsAt chained + 2 * length slotBlocks + 2 * length (blocks slotBlocks) + setSpare s
 
 -- there are no more classes than cells
 pub present-few : (t : List ℕ) (at c n : ℕ) → length (presentFrom t at c n) ≤ n

@@ -38,6 +38,7 @@ module _ (s : List ℕ) where
         input = record { inside = omega arith; sound = rw (e .0) (p .1) };
         ahead = no-row;
         records = omega arith;
+        few = record { back = omega arith; input = e .1; ahead = omega arith; records = f .1 };
         plain = λ q. record { back = refl; input = refl; ahead = refl; records = refl };
         chain = λ q. absurd (true≢false (sym q));
       }
@@ -67,6 +68,7 @@ module _ (s : List ℕ) where
         input = record { inside = omega arith; sound = t .0 };
         ahead = record { inside = omega arith; sound = t .1 };
         records = omega arith;
+        few = record { back = e .1; input = f .1; ahead = g .1; records = r .1 };
         plain = λ x. absurd (true≢false x);
         chain = λ x. record { back = refl; input = omega arith; ahead = omega arith; records = omega arith };
       }

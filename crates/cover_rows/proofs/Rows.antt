@@ -16,7 +16,7 @@ use Rattle.meaning.specs.Parts.{coverage, coverageSound}
 use Rattle.meaning.specs.Tables.{reach, reaches}
 use Rattle.meaning.specs.Fault.{faultThrough, coverageFault}
 use Rattle.meaning.specs.Cut.{unlessEmpty, newCoverage}
-use Rattle.meaning.specs.Layout.{coverageWords}
+use Rattle.meaning.specs.Layout.{offsets, coverageWords, wordsFit}
 use Rattle.laws.specs.SoundGood.{part-sound, lowest-none}
 use Rattle.fold.specs.Cells.{Kept, kept-all, kept-more, holds-kept}
 use Rattle.fold.specs.declared.Map.{Map}
@@ -26,7 +26,7 @@ use Rattle.meet.specs.Met.{Met, met-news}
 use Rattle.meet.specs.Answered.{Seeks}
 use Rattle.cover_rows.specs.Rows.{blockLeft, blocksLeft, slotLeft, rowLeft, Lays, LaysLeft, Passes, SoundRow, WritesSlot, WritesRow}
 use Rattle.cover_rows.specs.declared.Row.{Row}
-use Rattle.cover_rows.proofs.Lays.{some-none, lays-none, lays-one, lays-over, lays-more, laid-some, laid-none, laid-zero}
+use Rattle.cover_rows.proofs.Lays.{some-none, some-same, fits-one, lays-none, lays-one, lays-over, lays-past, lays-more, laid-some, laid-none, laid-zero}
 
 -- a part that an offset of a row reaches has no fault if the row's parts have none
 through-none : (faultAt : ℕ → Option ℕ) (s : List ℕ) (slot n i : ℕ) → faultThrough faultAt s 0 slot n ≡ none → i < n → (word s (slot + 2 * i) ≡ 0 → ⊥) → faultAt (word s (slot + 2 * i)) ≡ none
@@ -81,6 +81,14 @@ module _ (g : List (ℕ × ℕ)) (cov : List ℕ) where
       step [] e h = record { gone = λ q. refl; stays = λ {bs = bs} q. absurd (some-none (sym q ∙ one-gone e)) }
       step (n ∷ ns) e h = absurd (true≢false h)
 
+  -- the place of what is left is a word if its offset fits one
+  left-near : (p : ℕ) {bs : List (Option (List ℕ))} → blocksLeft g (some cov ∷ []) ≡ some bs → wordsFit (offsets p bs) ≡ true → p ≤ 65535
+  left-near p {bs} e f = step (newCoverage g cov) refl
+    where
+      step : (l : List ℕ) → newCoverage g cov ≡ l → p ≤ 65535
+      step [] h = absurd (some-none (sym e ∙ one-gone h))
+      step (n ∷ ns) h = fits-one p (coverageWords (newCoverage g cov)) (subst (λ (cs : List (Option (List ℕ))). wordsFit (offsets p cs) ≡ true) (some-same (sym e ∙ one-left n ns h)) f)
+
 module _ {s : List ℕ} {cover : ℕ} {glyphs : List ℕ} {m : Map} {t : List ℕ} (a : Seeks s cover glyphs m t) (p : ℕ) {r : Bool} (e : r ≡ isSome (unlessEmpty (newCoverage (mapEntries glyphs) (coverage s cover)))) where
   pub over-met : r ≡ true → Passes (slotLeft (mapEntries glyphs) s cover) p p
   over-met h = passes-on (mapEntries glyphs) (coverage s cover) p (sym e ∙ h)
@@ -98,17 +106,26 @@ module _ {s : List ℕ} {cover : ℕ} {glyphs : List ℕ} {m : Map} {t area : Li
     stays = λ {bs = bs} e. subst (λ (q : ℕ). Lays area slot p bs area q) (sym (h .stays e)) (lays-over bs l);
   }
 
+  -- no offset can say the place
+  pub slot-past : {q r : ℕ} → 65535 < p → length area < q → Passes (slotLeft (mapEntries glyphs) s cover) q r → LaysLeft (slotLeft (mapEntries glyphs) s cover) m t t area slot p area r
+  slot-past {q} {r} n l h = record {
+    cells = kept-all (m .at + m .mask + 1) t;
+    same = refl;
+    gone = h .gone;
+    stays = λ {bs = bs} e. subst (λ (x : ℕ). Lays area slot p bs area x) (sym (h .stays e)) (lays-past bs (λ f. omega (arith, left-near (mapEntries glyphs) (coverage s cover) p e f)) l);
+  }
+
   module _ {next : List ℕ} {k : ℕ} (h : Met (find (mapEntries glyphs)) (coverage s cover) t (m .at + m .mask + 1) next k) where
     -- no glyph is retained, or the coverage is written
     pub slot-gone : k ≡ 0 → LaysLeft (slotLeft (mapEntries glyphs) s cover) m t next area slot p area 0
     slot-gone z = laid-none (h .kept) refl (news-gone (mapEntries glyphs) (coverage s cover) next (m .at + m .mask + 1) k (met-news (mapEntries glyphs) h) z)
 
-    pub slot-written : {mid after : List ℕ} {r : ℕ} → (k ≡ 0 → ⊥) → mid ≡ sets area slot (bytes2 p) → Tried mid p (coverageWords (news next (m .at + m .mask + 1) k)) after r
+    pub slot-written : {mid after : List ℕ} {r : ℕ} → (k ≡ 0 → ⊥) → p ≤ 65535 → mid ≡ sets area slot (bytes2 p) → Tried mid p (coverageWords (news next (m .at + m .mask + 1) k)) after r
         → LaysLeft (slotLeft (mapEntries glyphs) s cover) m t next area slot p after r
-    slot-written {mid} {after} {r} z e w =
+    slot-written {mid} {after} {r} z n e w =
         let f = met-news (mapEntries glyphs) h in
         let l = ap length e ∙ length-sets area slot (bytes2 p) in
-        laid-some (h .kept) (w .same ∙ l) (news-left (mapEntries glyphs) (coverage s cover) next (m .at + m .mask + 1) k f z) (lays-one (coverageWords (newCoverage (mapEntries glyphs) (coverage s cover))) e (rw f at w))
+        laid-some (h .kept) (w .same ∙ l) (news-left (mapEntries glyphs) (coverage s cover) next (m .at + m .mask + 1) k f z) (lays-one (coverageWords (newCoverage (mapEntries glyphs) (coverage s cover))) e n (rw f at w))
 
 -- Coverages from the front.
 module _ (g : List (ℕ × ℕ)) (s : List ℕ) (slot n : ℕ) where

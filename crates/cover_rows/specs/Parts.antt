@@ -1,5 +1,5 @@
 -- Where the parts of a context by coverages stand.
-use Prim.Native.Nat.{ℕ, _+_, _*_, _≤_}
+use Prim.Native.Nat.{ℕ, _+_, _*_, _≤_, _<_}
 use mathlib.Core.Path.{_≡_}
 use mathlib.Core.Bool.{Bool, true, false}
 use mathlib.Core.Option.{Option}
@@ -33,6 +33,13 @@ pub record Chained (r : CoverParts) : Type 0 where
   pub ahead : r .ahead .at ≡ r .input .at + 2 * r .input .len + 2
   pub records : r .records .at ≡ r .ahead .at + 2 * r .ahead .len + 2
 
+-- its counts are words
+pub record Few (r : CoverParts) : Type 0 where
+  pub back : r .back .len < 65536
+  pub input : r .input .len < 65536
+  pub ahead : r .ahead .len < 65536
+  pub records : r .records .len < 65536
+
 -- r says where the parts of the context stand, and they are sound
 pub record IsContext (chained : Bool) (s : List ℕ) (r : CoverParts) : Type 0 where
   pub table : coverContext chained s ≡ Table.by-cover chained (coversAt s (r .back)) (coversAt s (r .input)) (coversAt s (r .ahead)) (recordsAt s (r .records))
@@ -40,5 +47,6 @@ pub record IsContext (chained : Bool) (s : List ℕ) (r : CoverParts) : Type 0 w
   pub input : SoundRow s (r .input)
   pub ahead : SoundRow s (r .ahead)
   pub records : r .records .at + 4 * r .records .len ≤ length s
+  pub few : Few r
   pub plain : chained ≡ false → Plain r
   pub chain : chained ≡ true → Chained r

@@ -12,7 +12,7 @@ use Rattle.meaning.specs.Parts.{coverage, coverageSound}
 use Rattle.meaning.specs.Tables.{reaches}
 use Rattle.meaning.specs.Fault.{faultThrough, coverageFault}
 use Rattle.meaning.specs.Cut.{unlessEmpty, newCoverage}
-use Rattle.meaning.specs.Layout.{offsets, blocks, coverageWords}
+use Rattle.meaning.specs.Layout.{offsets, blocks, coverageWords, wordsFit}
 use Rattle.fold.specs.Cells.{Holds, Kept}
 use Rattle.fold.specs.declared.Map.{Map}
 use Rattle.area.specs.Extends.{Extends}
@@ -34,10 +34,11 @@ slotLeft g s p = blocksLeft g (some (coverage s p) ∷ [])
 abbrev pub rowLeft : List (ℕ × ℕ) → List ℕ → Row → Option (List (Option (List ℕ)))
 rowLeft g s r = blocksLeft g (reaches (coverage s) s 0 (r .at) (r .len))
 
--- Blocks were laid down: their offsets from `slot` on, counted from the area's start, and themselves from p on; r is the place after them, or past the area, which is then too short for them.
+-- Blocks were laid down: their offsets from `slot` on, counted from the area's start, and themselves from p on; r is the place after them, or past the area: then the area is too short for them, or not all their offsets fit words.
 pub record Lays (before : List ℕ) (slot p : ℕ) (bs : List (Option (List ℕ))) (after : List ℕ) (r : ℕ) : Type 0 where
   pub fits : r ≤ length before → Extends (sets before slot (flat (offsets p bs))) p (blocks bs) after r
-  pub full : length before < r → length before < p + 2 * length (blocks bs)
+  pub near : r ≤ length before → wordsFit (offsets p bs) ≡ true
+  pub full : length before < r → wordsFit (offsets p bs) ≡ true → length before < p + 2 * length (blocks bs)
 
 -- the blocks that are left were laid down, or r is 0, and none are left; the cells up to the glyph map's last are as before
 pub record LaysLeft (left : Option (List (Option (List ℕ)))) (m : Map) (t₀ t before : List ℕ) (slot p : ℕ) (after : List ℕ) (r : ℕ) : Type 0 where

@@ -1,9 +1,11 @@
 // Contexts by coverages: where their parts stand, and the rows of offsets that reach coverages, of which what is left is written into the area.
+use area::over;
 use area::put;
 use area::write_cover;
 use fold::Map;
 use meet::meet;
 use meet::meets;
+use room::HIGHEST;
 use wire::word_at;
 use wire::word_inside;
 ghost use mathlib.Core.Path.{_≡_};
@@ -100,7 +102,7 @@ fn pass_over(src: &[u8], cover: usize, glyphs: &[u8], m: Map, t: &[u32], p: usiz
     0
 }
 
-// What is left of the coverage at `cover`: its offset at `slot`, and itself at `p`; the place after it, and 0 if no glyph is retained. Where `p` is past the area nothing is noted or written.
+// What is left of the coverage at `cover`: its offset at `slot`, and itself at `p`; the place after it, and 0 if no glyph is retained. Where `p` is past the area, or no offset can say it, nothing is noted or written, and the answer is past the area.
 fn write_slot(
     src: &[u8],
     cover: usize,
@@ -116,6 +118,9 @@ fn write_slot(
 {
     if area.len() < p {
         return pass_over(src, cover, glyphs, m, t, p);
+    }
+    if HIGHEST < p {
+        return pass_over(src, cover, glyphs, m, t, over(area));
     }
     let notes = m.at + m.mask + 1;
     let k = meet(src, cover, glyphs, m, t, notes);

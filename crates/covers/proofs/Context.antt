@@ -1,7 +1,7 @@
 -- A context that is written: what is asked of its parts, and what stands in the area.
 use Prim.Native.Nat.{ℕ, _+_, _-_, _*_, _/_, _≤_, _<_}
 use mathlib.Core.Path.{_≡_, refl, sym, ap, _∙_, subst}
-use mathlib.Core.Bool.{Bool, true, false}
+use mathlib.Core.Bool.{Bool, true, false, _&&_, and-assoc}
 use mathlib.Core.Option.{Option, none, some}
 use mathlib.Core.List.{List, [], _∷_, _++_, append-assoc}
 use native.Mathlib.Decide.{decLt}
@@ -12,7 +12,7 @@ use Rattle.meaning.specs.Words.{bytes2, flat, twos, bind, mapAll}
 use Rattle.meaning.specs.Maps.{mapEntries}
 use Rattle.meaning.specs.Tables.{reaches}
 use Rattle.meaning.specs.Cut.{cutRecords}
-use Rattle.meaning.specs.Layout.{offsets, blocks, coversLayout}
+use Rattle.meaning.specs.Layout.{offsets, blocks, coversLayout, wordsFit}
 use Rattle.laws.specs.Stands.{twos-length}
 use Rattle.laws.specs.Through.{offsets-length}
 use Rattle.laws.specs.Written.{flat-one}
@@ -23,23 +23,30 @@ use Rattle.numbers.specs.Entries.{entriesIn}
 use Rattle.numbers.specs.Leaves.{Leaves, leaves-room}
 use Rattle.cover_rows.specs.Rows.{blocksLeft, rowLeft, Lays, LaysLeft, SoundRow, WritesRow}
 use Rattle.cover_rows.specs.Parts.{recordsAt, Plain, Chained}
-use Rattle.covers.specs.Context.{contextLeft, Settles, Asks, Writes}
+use Rattle.covers.specs.Context.{contextLeft, offsetsFit, contextFit, Settles, Asks, Writes}
 use Rattle.cover_rows.specs.declared.Row.{Row}
 use Rattle.cover_rows.specs.declared.CoverParts.{CoverParts}
 use Rattle.cover_rows.proofs.Lays.{some-none, some-same, laid-zero, laid-least}
-use Rattle.covers.proofs.Grows.{grows-start, grows-words, grows-row, grows-counted, grows-end, head-length, row-length}
+use Rattle.covers.proofs.Grows.{Ends, grows-start, grows-words, grows-row, grows-counted, grows-end, head-length, row-length}
 
 -- What is left, where it is known.
-module _ {left : Option (List ℕ)} {before after : List ℕ} where
-  settles-none : left ≡ none → Settles left before after 0
-  settles-none e = record { gone = λ g. refl; kept = λ {ws = ws} g. absurd (some-none (sym g ∙ e)); fits = λ {ws = ws} g h. absurd (some-none (sym g ∙ e)); full = λ {ws = ws} g h. absurd (some-none (sym g ∙ e)) }
+module _ {left : Option (List ℕ)} {fit : Bool} {before after : List ℕ} where
+  settles-none : left ≡ none → Settles left fit before after 0
+  settles-none e = record {
+    gone = λ g. refl;
+    kept = λ {ws = ws} g. absurd (some-none (sym g ∙ e));
+    fits = λ {ws = ws} g h. absurd (some-none (sym g ∙ e));
+    near = λ {ws = ws} g h. absurd (some-none (sym g ∙ e));
+    full = λ {ws = ws} g h f. absurd (some-none (sym g ∙ e));
+  }
 
-  settles-some : (ws : List ℕ) {r : ℕ} → left ≡ some ws → 0 < length ws → (r ≤ length before → Extends before 0 ws after r) × (length before < r → length before < 2 * length ws) → Settles left before after r
+  settles-some : (ws : List ℕ) {r : ℕ} → left ≡ some ws → 0 < length ws → Ends before ws fit after r → Settles left fit before after r
   settles-some ws {r} e n h = record {
     gone = λ g. absurd (some-none (sym e ∙ g));
     kept = λ {ws = vs} g. step (decLt (length before) r);
     fits = λ {ws = vs} g l. subst (λ (w : List ℕ). Extends before 0 w after r) (some-same (sym e ∙ g)) (h .0 l);
-    full = λ {ws = vs} g l. subst (λ (w : List ℕ). length before < 2 * length w) (some-same (sym e ∙ g)) (h .1 l);
+    near = λ {ws = vs} g l. h .1 l;
+    full = λ {ws = vs} g l f. subst (λ (w : List ℕ). length before < 2 * length w) (some-same (sym e ∙ g)) (h .2 l f);
   }
     where
       step : Dec (length before < r) → 0 < r
@@ -67,6 +74,11 @@ plain-left : (g l : List (ℕ × ℕ)) (s : List ℕ) (r : CoverParts) → Plain
 unfolding contextLeft bind
 plain-left g l s r q = rw (no-covers g s (r .back) (q .back), no-covers g s (r .ahead) (q .ahead))
 
+plain-fit : (g l : List (ℕ × ℕ)) (s : List ℕ) (r : CoverParts) → Plain r → {i : List (Option (List ℕ))} → rowLeft g s (r .input) ≡ some i
+    → contextFit false g l s r ≡ wordsFit (offsets (6 + 2 * length i + 4 * length (cutRecords l (recordsAt s (r .records)))) i)
+unfolding contextFit offsetsFit bind
+plain-fit g l s r q e = rw (no-covers g s (r .back) (q .back), no-covers g s (r .ahead) (q .ahead), e) refl
+
 -- the words of a chained context, as they were written
 chained-words : (b i a rs x y z : List ℕ) (k nb ni na : ℕ)
     → ((((3 ∷ []) ++ (nb ∷ x)) ++ (ni ∷ y)) ++ (na ∷ z)) ++ ((((k ∷ rs) ++ b) ++ i) ++ a) ≡ 3 ∷ nb ∷ (x ++ (ni ∷ (y ++ (na ∷ (z ++ (k ∷ (rs ++ (b ++ (i ++ a)))))))))
@@ -85,10 +97,9 @@ unfolding coversLayout
 chained-layout b i a rs ps nb ni na x y z ep eb ei ea ex ey ez =
     rw ep (chained-words (blocks b) (blocks i) (blocks a) (twos rs) (offsets x b) (offsets y i) (offsets z a) (length rs) nb ni na ∙ rw (ex, ey, ez, ← eb, ← ei, ← ea))
 
--- words from the area's start on, said otherwise
-said-otherwise : {area after : List ℕ} {end : ℕ} (ws vs : List ℕ) → ws ≡ vs → (end ≤ length area → Extends area 0 ws after end) × (length area < end → length area < 2 * length ws)
-    → (end ≤ length area → Extends area 0 vs after end) × (length area < end → length area < 2 * length vs)
-said-otherwise ws vs e h = rw e at h
+-- words from the area's start on, and whether they fit, said otherwise
+said-otherwise : {area after : List ℕ} {end : ℕ} {f g : Bool} (ws vs : List ℕ) → ws ≡ vs → f ≡ g → Ends area ws f after end → Ends area vs g after end
+said-otherwise {area} {after} {end} {f} {g} ws vs e d h = subst (λ (w : List ℕ). Ends area w g after end) e (subst (λ (t : Bool). Ends area ws t after end) d h)
 
 -- a row that is left with nothing leaves nothing of the context
 module _ (c : Bool) (g l : List (ℕ × ℕ)) (s : List ℕ) (r : CoverParts) where
@@ -118,6 +129,19 @@ module _ (c : Bool) (g l : List (ℕ × ℕ)) (s : List ℕ) (r : CoverParts) wh
   unfolding contextLeft bind
   all-some e f h = rw (e, f, h)
 
+  all-fit : {b i a : List (Option (List ℕ))} → rowLeft g s (r .back) ≡ some b → rowLeft g s (r .input) ≡ some i → rowLeft g s (r .ahead) ≡ some a
+      → contextFit c g l s r ≡ offsetsFit c b i a (cutRecords l (recordsAt s (r .records)))
+  unfolding contextFit bind
+  all-fit e f h = rw (e, f, h) refl
+
+-- the offsets of the three rows fit, one after the other
+chained-fit : (b i a : List (Option (List ℕ))) (rs : List (ℕ × ℕ)) (x y z : ℕ)
+    → x ≡ 10 + 2 * length b + 2 * length i + 2 * length a + 4 * length rs → y ≡ 10 + 2 * length b + 2 * length i + 2 * length a + 4 * length rs + 2 * length (blocks b)
+    → z ≡ 10 + 2 * length b + 2 * length i + 2 * length a + 4 * length rs + 2 * length (blocks b) + 2 * length (blocks i)
+    → (wordsFit (offsets x b) && wordsFit (offsets y i)) && wordsFit (offsets z a) ≡ offsetsFit true b i a rs
+unfolding offsetsFit
+chained-fit b i a rs x y z ex ey ez = and-assoc (wordsFit (offsets x b)) (wordsFit (offsets y i)) (wordsFit (offsets z a)) ∙ rw (ex, ey, ez)
+
 -- a chained context's header and what follows it, as they grow
 chained-grown : (R : ℕ) (area ps : List ℕ) (rs : List (ℕ × ℕ)) (B I A : List (Option (List ℕ))) (ab ai aa nb ni na : ℕ) {mid next a₁ a₂ a₃ : List ℕ} {p q u end : ℕ} → ps ≡ length rs ∷ twos rs
     → ab ≡ 4 → ai ≡ 6 + 2 * nb → aa ≡ ai + 2 * ni + 2 → R ≡ aa + 2 * na → length B ≡ nb → length I ≡ ni → length A ≡ na
@@ -125,7 +149,7 @@ chained-grown : (R : ℕ) (area ps : List ℕ) (rs : List (ℕ × ℕ)) (B I A :
     → length a₁ ≡ length (sets next (ab - 2) (bytes2 nb)) → Lays (sets next (ab - 2) (bytes2 nb)) ab p B a₁ q
     → length a₂ ≡ length (sets a₁ (ai - 2) (bytes2 ni)) → Lays (sets a₁ (ai - 2) (bytes2 ni)) ai q I a₂ u
     → length a₃ ≡ length (sets a₂ (aa - 2) (bytes2 na)) → Lays (sets a₂ (aa - 2) (bytes2 na)) aa u A a₃ end
-    → (end ≤ length area → Extends area 0 (coversLayout true B I A rs) a₃ end) × (length area < end → length area < 2 * length (coversLayout true B I A rs))
+    → Ends area (coversLayout true B I A rs) (offsetsFit true B I A rs) a₃ end
 chained-grown R area ps rs B I A ab ai aa nb ni na {mid} {next} {a₁} {a₂} {a₃} {p} {q} {u} {end} ep eb ei ea er cb ci ca x e sb hb si hi sa ha =
     let g = grows-words (grows-start x) (3 ∷ []) refl (omega arith) (e ∙ ap (sets mid 0) (sym (flat-one 3))) in
     let gb = grows-counted g B (omega arith) (omega arith) (omega arith) cb sb hb in
@@ -139,6 +163,8 @@ chained-grown R area ps rs B I A ab ai aa nb ni na {mid} {next} {a₁} {a₂} {a
     (((((3 ∷ []) ++ (nb ∷ offsets (R + 2 * length ps) B)) ++ (ni ∷ offsets (R + 2 * length (ps ++ blocks B)) I)) ++ (na ∷ offsets (R + 2 * length ((ps ++ blocks B) ++ blocks I)) A)) ++ (((ps ++ blocks B) ++ blocks I) ++ blocks A))
     (coversLayout true B I A rs)
     (chained-layout B I A rs ps nb ni na (R + 2 * length ps) (R + 2 * length (ps ++ blocks B)) (R + 2 * length ((ps ++ blocks B) ++ blocks I)) ep cb ci ca (omega arith) (omega (arith, length-append ps (blocks B)))
+    (omega (arith, length-append ps (blocks B), length-append (ps ++ blocks B) (blocks I))))
+    (chained-fit B I A rs (R + 2 * length ps) (R + 2 * length (ps ++ blocks B)) (R + 2 * length ((ps ++ blocks B) ++ blocks I)) (omega arith) (omega (arith, length-append ps (blocks B)))
     (omega (arith, length-append ps (blocks B), length-append (ps ++ blocks B) (blocks I))))
     (grows-end ga (omega arith))
 
@@ -177,8 +203,8 @@ module _ {s : List ℕ} {r : CoverParts} {glyphs : List ℕ} {m l : Map} {t area
         q = a .parts .plain refl
 
         step : (o : Option (List (Option (List ℕ)))) → rowLeft (mapEntries glyphs) s (r .input) ≡ o → LaysLeft o m t t₁ next (r .input .at) p after end
-            → Settles (contextLeft false (mapEntries glyphs) (entriesIn t l) s r) area after end
-        step none o d = subst (λ (n : ℕ). Settles (contextLeft false (mapEntries glyphs) (entriesIn t l) s r) area after n) (sym (d .gone refl)) (settles-none (plain-left (mapEntries glyphs) (entriesIn t l) s r q ∙ rw o refl))
+            → Settles (contextLeft false (mapEntries glyphs) (entriesIn t l) s r) (contextFit false (mapEntries glyphs) (entriesIn t l) s r) area after end
+        step none o d = subst (λ (n : ℕ). Settles (contextLeft false (mapEntries glyphs) (entriesIn t l) s r) (contextFit false (mapEntries glyphs) (entriesIn t l) s r) area after n) (sym (d .gone refl)) (settles-none (plain-left (mapEntries glyphs) (entriesIn t l) s r q ∙ rw o refl))
         step (some i) o d =
             let rs = keptAt t l s r in
             let c : length i ≡ r .input .len = row-length (mapEntries glyphs) s (r .input) i o in
@@ -189,7 +215,8 @@ module _ {s : List ℕ} {r : CoverParts} {glyphs : List ℕ} {m l : Map} {t area
             let first : r .records .at + 2 * length (twos rs) ≡ 6 + 2 * length i + 4 * length rs = omega (arith, q .records, twos-length rs) in
             let v = grows-end j (omega (arith, q .records, offsets-length (r .records .at + 2 * length (twos rs)) i)) in
             settles-some (coversLayout false [] i [] rs) (plain-left (mapEntries glyphs) (entriesIn t l) s r q ∙ rw o refl) (layout-long false [] i [] rs)
-            (subst (λ (ws : List ℕ). (end ≤ length area → Extends area 0 ws after end) × (length area < end → length area < 2 * length ws)) (plain-layout i rs (r .input .len) (r .records .at + 2 * length (twos rs)) c first) v)
+            (said-otherwise _ (coversLayout false [] i [] rs) (plain-layout i rs (r .input .len) (r .records .at + 2 * length (twos rs)) c first)
+            (ap (λ (n : ℕ). wordsFit (offsets n i)) first ∙ sym (plain-fit (mapEntries glyphs) (entriesIn t l) s r q o)) v)
 
   module _ (a : Asks true s r glyphs m l t area) where
     -- how the parts follow each other
@@ -264,21 +291,22 @@ module _ {s : List ℕ} {r : CoverParts} {glyphs : List ℕ} {m l : Map} {t area
 
             -- all three rows are left
             all-rows : (B I A : List (Option (List ℕ))) → rowLeft (mapEntries glyphs) s (r .back) ≡ some B → rowLeft (mapEntries glyphs) s (r .input) ≡ some I → rowLeft (mapEntries glyphs) s (r .ahead) ≡ some A
-                → Settles (contextLeft true (mapEntries glyphs) (entriesIn t l) s r) area a₃ end
+                → Settles (contextLeft true (mapEntries glyphs) (entriesIn t l) s r) (contextFit true (mapEntries glyphs) (entriesIn t l) s r) area a₃ end
             all-rows B I A eb ei ea =
                 let R = r .records .at - 2 in
                 let cb = row-length (mapEntries glyphs) s (r .back) B eb in
                 let ci = row-length (mapEntries glyphs) s (r .input) I ei in
                 let ca = row-length (mapEntries glyphs) s (r .ahead) A ea in
                 settles-some (coversLayout true B I A (keptAt t l s r)) (all-some true (mapEntries glyphs) (entriesIn t l) s r eb ei ea) (layout-long true B I A (keptAt t l s r))
-                (chained-grown R area (length (keptAt t l s r) ∷ twos (keptAt t l s r)) (keptAt t l s r) B I A (r .back .at) (r .input .at) (r .ahead .at) (r .back .len) (r .input .len) (r .ahead .len) refl (link .back) (link .input) (link .ahead) (omega (arith, link .records)) cb ci ca w e (d .same) (d .stays eb) (f .same) (f .stays ei) (j .same) (j .stays ea))
+                (subst (λ (fit : Bool). Ends area (coversLayout true B I A (keptAt t l s r)) fit a₃ end) (sym (all-fit true (mapEntries glyphs) (entriesIn t l) s r eb ei ea))
+                (chained-grown R area (length (keptAt t l s r) ∷ twos (keptAt t l s r)) (keptAt t l s r) B I A (r .back .at) (r .input .at) (r .ahead .at) (r .back .len) (r .input .len) (r .ahead .len) refl (link .back) (link .input) (link .ahead) (omega (arith, link .records)) cb ci ca w e (d .same) (d .stays eb) (f .same) (f .stays ei) (j .same) (j .stays ea)))
 
             pub ahead-settles : Writes true s r glyphs l t area a₃ end
             ahead-settles = record { same = ahead-same; settled = step (rowLeft (mapEntries glyphs) s (r .back)) (rowLeft (mapEntries glyphs) s (r .input)) (rowLeft (mapEntries glyphs) s (r .ahead)) refl refl refl }
               where
                 step : (o p′ v : Option (List (Option (List ℕ)))) → rowLeft (mapEntries glyphs) s (r .back) ≡ o → rowLeft (mapEntries glyphs) s (r .input) ≡ p′ → rowLeft (mapEntries glyphs) s (r .ahead) ≡ v
-                    → Settles (contextLeft true (mapEntries glyphs) (entriesIn t l) s r) area a₃ end
+                    → Settles (contextLeft true (mapEntries glyphs) (entriesIn t l) s r) (contextFit true (mapEntries glyphs) (entriesIn t l) s r) area a₃ end
                 step none p′ v eb ei ea = absurd (z (d .gone eb))
                 step (some B) none v eb ei ea = absurd (y (f .gone ei))
-                step (some B) (some I) none eb ei ea = subst (λ (n : ℕ). Settles (contextLeft true (mapEntries glyphs) (entriesIn t l) s r) area a₃ n) (sym (j .gone ea)) (settles-none (third-none true (mapEntries glyphs) (entriesIn t l) s r ea))
+                step (some B) (some I) none eb ei ea = subst (λ (n : ℕ). Settles (contextLeft true (mapEntries glyphs) (entriesIn t l) s r) (contextFit true (mapEntries glyphs) (entriesIn t l) s r) area a₃ n) (sym (j .gone ea)) (settles-none (third-none true (mapEntries glyphs) (entriesIn t l) s r ea))
                 step (some B) (some I) (some A) eb ei ea = all-rows B I A eb ei ea

@@ -1,6 +1,7 @@
 -- A table that grows at two places of the area: its header from the start on, and what follows the header from a place on that leaves room for it.
-use Prim.Native.Nat.{ℕ, zero, suc, _+_, _*_, _≤_, _<_}
+use Prim.Native.Nat.{ℕ, suc, _+_, _*_, _≤_, _<_}
 use mathlib.Core.Path.{_≡_, refl, sym, ap, _∙_, subst}
+use mathlib.Core.Bool.{Bool, true, _&&_}
 use mathlib.Core.Option.{Option, none, some}
 use mathlib.Core.List.{List, [], _∷_, _++_, append-assoc}
 use native.Mathlib.Decide.{decLt}
@@ -10,34 +11,42 @@ use lib.Seq.{sets, length-sets}
 use Rattle.meaning.specs.Words.{bytes2, flat, bind, mapAll}
 use Rattle.meaning.specs.Parts.{coverage}
 use Rattle.meaning.specs.Tables.{reaches}
-use Rattle.meaning.specs.Layout.{offsets, blocks}
+use Rattle.meaning.specs.Layout.{offsets, blocks, wordsFit}
+use Rattle.laws.specs.Runs.{both}
 use Rattle.laws.specs.Stands.{flat-length}
 use Rattle.laws.specs.Through.{offsets-length}
+use Rattle.laws.specs.SoundGood.{reaches-length}
 use Rattle.laws.specs.Written.{Wrote, sets-flat, flat-one}
 use Rattle.area.specs.Extends.{Extends, extends-more, wrote-extends}
 use Rattle.area.specs.Stored.{extends-store}
 use Rattle.cover_rows.specs.Rows.{blockLeft, blocksLeft, rowLeft, Lays}
 use Rattle.cover_rows.specs.declared.Row.{Row}
-use Rattle.cover_rows.proofs.Lays.{some-none, some-same}
+use Rattle.cover_rows.proofs.Lays.{some-none, some-same, and-true}
 
--- The words `head` stand from the start on, and the words `parts` from `first` on; r is the place after them, or past the area, which is then too short for them.
-pub record Grows (before : List ℕ) (first : ℕ) (head parts after : List ℕ) (r : ℕ) : Type 0 where
+-- The words `head` stand from the start on, and the words `parts` from `first` on, and the offsets fit, as `fit` says; r is the place after them, or past the area: then it is too short for them, or not all offsets fit.
+pub record Grows (before : List ℕ) (first : ℕ) (head parts : List ℕ) (fit : Bool) (after : List ℕ) (r : ℕ) : Type 0 where
   pub same : length after ≡ length before
   pub fits : r ≤ length before → Extends (sets before 0 (flat head)) first parts after r
-  pub full : length before < r → length before < first + 2 * length parts
+  pub near : r ≤ length before → fit ≡ true
+  pub full : length before < r → fit ≡ true → length before < first + 2 * length parts
+
+-- the same, where the header and what follows it are one row of words from the start on
+abbrev pub Ends : List ℕ → List ℕ → Bool → List ℕ → ℕ → Type 0
+Ends before ws fit after r = (r ≤ length before → Extends before 0 ws after r) × (r ≤ length before → fit ≡ true) × (length before < r → fit ≡ true → length before < 2 * length ws)
 
 module _ {before : List ℕ} {first : ℕ} where
   -- no header yet
-  pub grows-start : {parts after : List ℕ} {r : ℕ} → Extends before first parts after r → Grows before first [] parts after r
+  pub grows-start : {parts after : List ℕ} {r : ℕ} → Extends before first parts after r → Grows before first [] parts true after r
   unfolding flat
-  grows-start h = record { same = h .same; fits = λ g. h; full = λ g. absurd (omega (arith, h .room)) }
+  grows-start h = record { same = h .same; fits = λ g. h; near = λ g. refl; full = λ g f. absurd (omega (arith, h .room)) }
 
-  module _ {head parts mid : List ℕ} {q : ℕ} (k : Grows before first head parts mid q) where
+  module _ {head parts mid : List ℕ} {fit : Bool} {q : ℕ} (k : Grows before first head parts fit mid q) where
     -- words more in the header
-    pub grows-words : (ws : List ℕ) {at : ℕ} {next : List ℕ} → at ≡ 2 * length head → at + 2 * length ws ≤ first → next ≡ sets mid at (flat ws) → Grows before first (head ++ ws) parts next q
+    pub grows-words : (ws : List ℕ) {at : ℕ} {next : List ℕ} → at ≡ 2 * length head → at + 2 * length ws ≤ first → next ≡ sets mid at (flat ws) → Grows before first (head ++ ws) parts fit next q
     grows-words ws {at} {next} e l f = record {
       same = ap length f ∙ length-sets mid at (flat ws) ∙ k .same;
       fits = λ g. step (extends-store at (flat ws) (k .fits g) (omega (arith, flat-length ws)));
+      near = k .near;
       full = k .full;
     }
       where
@@ -49,11 +58,12 @@ module _ {before : List ℕ} {first : ℕ} where
 
     -- offsets in the header, with the blocks that they lead to behind it
     pub grows-row : (bs : List (Option (List ℕ))) {slot : ℕ} {after : List ℕ} {r : ℕ} → slot ≡ 2 * length head → slot + 2 * length bs ≤ first → length after ≡ length mid → Lays mid slot q bs after r
-        → Grows before first (head ++ offsets (first + 2 * length parts) bs) (parts ++ blocks bs) after r
+        → Grows before first (head ++ offsets (first + 2 * length parts) bs) (parts ++ blocks bs) (fit && wordsFit (offsets (first + 2 * length parts) bs)) after r
     grows-row bs {slot} {after} {r} e l s h = record {
       same = s ∙ k .same;
       fits = λ g. within (h .fits (omega (arith, k .same)));
-      full = λ g. over g (decLt (length before) q);
+      near = λ g. close (h .fits (omega (arith, k .same))) (h .near (omega (arith, k .same)));
+      full = λ g f. over g (both fit _ f) (decLt (length before) q);
     }
       where
         joined : Extends (sets mid slot (flat (offsets q bs))) q (blocks bs) after r → Extends (sets before 0 (flat head)) first parts mid q → Extends (sets before 0 (flat (head ++ offsets (first + 2 * length parts) bs))) first (parts ++ blocks bs) after r
@@ -66,27 +76,34 @@ module _ {before : List ℕ} {first : ℕ} where
         within : Extends (sets mid slot (flat (offsets q bs))) q (blocks bs) after r → Extends (sets before 0 (flat (head ++ offsets (first + 2 * length parts) bs))) first (parts ++ blocks bs) after r
         within y = joined y (k .fits (omega (arith, y .place, y .room, length-sets mid slot (flat (offsets q bs)), k .same)))
 
-        over : length before < r → Dec (length before < q) → length before < first + 2 * length (parts ++ blocks bs)
-        over g (yes d) = omega (arith, k .full d, length-append parts (blocks bs))
-        over g (no d) = omega (arith, k .fits (omega arith) .place, h .full (omega (arith, k .same)), length-append parts (blocks bs))
+        close : Extends (sets mid slot (flat (offsets q bs))) q (blocks bs) after r → wordsFit (offsets q bs) ≡ true → fit && wordsFit (offsets (first + 2 * length parts) bs) ≡ true
+        close y f =
+            let l : q ≤ length before = omega (arith, y .place, y .room, length-sets mid slot (flat (offsets q bs)), k .same) in
+            and-true fit _ (k .near l) (rw (k .fits l .place) at f)
+
+        over : length before < r → (fit ≡ true) × (wordsFit (offsets (first + 2 * length parts) bs) ≡ true) → Dec (length before < q) → length before < first + 2 * length (parts ++ blocks bs)
+        over g f (yes d) = omega (arith, k .full d (f .0), length-append parts (blocks bs))
+        over g f (no d) =
+            let x : q ≡ first + 2 * length parts = k .fits (omega arith) .place in
+            omega (arith, x, h .full (omega (arith, k .same)) (rw (← x) at (f .1)), length-append parts (blocks bs))
 
     -- where what follows begins right after the header, it is one row of words
-    pub grows-end : first ≡ 2 * length head → (q ≤ length before → Extends before 0 (head ++ parts) mid q) × (length before < q → length before < 2 * length (head ++ parts))
-    grows-end e = (λ g. join (k .fits g), λ g. omega (arith, k .full g, length-append head parts))
+    pub grows-end : first ≡ 2 * length head → Ends before (head ++ parts) fit mid q
+    grows-end e = (λ g. join (k .fits g), λ g. k .near g, λ g f. omega (arith, k .full g f, length-append head parts))
       where
         join : Extends (sets before 0 (flat head)) first parts mid q → Extends before 0 (head ++ parts) mid q
         join x =
             let w : Wrote before 0 head (sets before 0 (flat head)) first = record { place = omega arith; bytes = refl } in
             extends-more (wrote-extends w (omega (arith, x .place, x .room, length-sets before 0 (flat head)))) x
 
-module _ {before : List ℕ} {first : ℕ} {head parts mid : List ℕ} {q : ℕ} (k : Grows before first head parts mid q) where
+module _ {before : List ℕ} {first : ℕ} {head parts mid : List ℕ} {fit : Bool} {q : ℕ} (k : Grows before first head parts fit mid q) where
   -- a row with its count before its offsets
   pub grows-counted : (bs : List (Option (List ℕ))) {n slot at : ℕ} {after : List ℕ} {r : ℕ} → slot ≡ 2 * length head → at ≡ slot + 2 → at + 2 * n ≤ first → length bs ≡ n
       → length after ≡ length (sets mid slot (bytes2 n)) → Lays (sets mid slot (bytes2 n)) at q bs after r
-      → Grows before first (head ++ (n ∷ offsets (first + 2 * length parts) bs)) (parts ++ blocks bs) after r
+      → Grows before first (head ++ (n ∷ offsets (first + 2 * length parts) bs)) (parts ++ blocks bs) (fit && wordsFit (offsets (first + 2 * length parts) bs)) after r
   grows-counted bs {n} {slot} {at} {after} {r} b e l c s h =
       let a = grows-words k (n ∷ []) b (omega arith) (ap (sets mid slot) (sym (flat-one n))) in
-      subst (λ (w : List ℕ). Grows before first w (parts ++ blocks bs) after r) (append-assoc head (n ∷ []) (offsets (first + 2 * length parts) bs))
+      subst (λ (w : List ℕ). Grows before first w (parts ++ blocks bs) (fit && wordsFit (offsets (first + 2 * length parts) bs)) after r) (append-assoc head (n ∷ []) (offsets (first + 2 * length parts) bs))
       (grows-row a bs (omega (arith, length-append head (n ∷ []))) (omega arith) s h)
 
 -- how long a header is with a row more
@@ -94,11 +111,6 @@ pub head-length : (head : List ℕ) (n p : ℕ) (bs : List (Option (List ℕ))) 
 head-length head n p bs = omega (arith, length-append head (n ∷ offsets p bs), offsets-length p bs)
 
 -- the blocks that are left of a row are as many as its offsets
-reaches-length : (s : List ℕ) (slot n : ℕ) → length (reaches (coverage s) s 0 slot n) ≡ n
-unfolding reaches
-reaches-length s slot zero = refl
-reaches-length s slot (suc n) = ap suc (reaches-length s (slot + 2) n)
-
 covers-length : (g : List (ℕ × ℕ)) (cs : List (Option (List ℕ))) (bs : List (Option (List ℕ))) → blocksLeft g cs ≡ some bs → length bs ≡ length cs
 unfolding blocksLeft mapAll bind
 covers-length g [] bs e = ap length (sym (some-same e))
@@ -110,4 +122,4 @@ covers-length g (c ∷ cs) bs e = step (blockLeft g c) (blocksLeft g cs) (covers
     step (some b) (some ds) r q = ap length (sym (some-same q)) ∙ ap suc (r ds refl)
 
 pub row-length : (g : List (ℕ × ℕ)) (s : List ℕ) (row : Row) (bs : List (Option (List ℕ))) → rowLeft g s row ≡ some bs → length bs ≡ row .len
-row-length g s row bs e = covers-length g (reaches (coverage s) s 0 (row .at) (row .len)) bs e ∙ reaches-length s (row .at) (row .len)
+row-length g s row bs e = covers-length g (reaches (coverage s) s 0 (row .at) (row .len)) bs e ∙ reaches-length (coverage s) s 0 (row .at) (row .len)

@@ -12,6 +12,8 @@ use Rattle.meaning.specs.Maps.{mapEntries}
 use Rattle.meaning.specs.Tables.{coverContext}
 use Rattle.meaning.specs.Cut.{cut}
 use Rattle.meaning.specs.Subset.{Outcome, limit, written}
+use Rattle.laws.specs.SoundGood.{Bytes}
+use Rattle.laws.specs.CallBack.{good-map, map-values}
 use Rattle.laws.specs.Ascends.{ascends-rise, map-length, map-key}
 use Rattle.fold.specs.Cells.{Holds, holds-kept}
 use Rattle.fold.specs.Laid.{Laid}
@@ -69,9 +71,11 @@ module _ {chained : Bool} {s glyphs lookups : List ℕ} (o : Sound chained s gly
       lookups-held : Holds t₂ l (mapEntries lookups)
       lookups-held = holds-kept (b .kept) (omega (arith, a .place)) (a .holds zl)
 
-      pub maps-ask : {area : List ℕ} → m .at + m .mask + 1 + length glyphs / 4 < length t₂ → length t₀ ≤ 0x1_0000_0000 → length area ≤ 0x1_0000_0000 → Cuts chained s glyphs m l t₂ area
-      maps-ask h n k = record {
+      pub maps-ask : {area : List ℕ} → Bytes s → Bytes glyphs → m .at + m .mask + 1 + length glyphs / 4 < length t₂ → length t₀ ≤ 0x1_0000_0000 → length area ≤ 0x1_0000_0000 → Cuts chained s glyphs m l t₂ area
+      maps-ask bs bg h n k = record {
         sound = o .sound;
+        bytes = bs;
+        good = good-map glyphs bg (o .glyphs-ascend) (o .new-ascend);
         source = o .source;
         ready = record { ascend = o .glyphs-ascend; holds = b .holds zm; room = h };
         lookups = lookups-held .inside;
@@ -79,10 +83,10 @@ module _ {chained : Bool} {s glyphs lookups : List ℕ} (o : Sound chained s gly
         cells = omega (arith, a .kept .size, b .kept .size);
       }
 
-      pub maps-cut : {area : List ℕ} {r : Tried} {out after : List ℕ} → CutsInto chained s glyphs l t₂ area r out after
+      pub maps-cut : {area : List ℕ} {r : Tried} {out after : List ℕ} → Bytes lookups → CutsInto chained s glyphs l t₂ area r out after
           → Tries (length t₀ < enoughCells) (length area < limit) r out after (written out (cut (mapEntries glyphs) (mapEntries lookups) (coverContext chained s)))
-      maps-cut {area} {r} {out} {after} c =
-          tries-less ⊥ (length area < limit) (length t₀ < enoughCells) (length area < limit) r out after (written out (cut (mapEntries glyphs) (mapEntries lookups) (coverContext chained s))) (λ f. absurd f) (λ f. f) (c .cuts lookups-held)
+      maps-cut {area} {r} {out} {after} bl c =
+          tries-less ⊥ (length area < limit) (length t₀ < enoughCells) (length area < limit) r out after (written out (cut (mapEntries glyphs) (mapEntries lookups) (coverContext chained s))) (λ f. absurd f) (λ f. f) (c .cuts lookups-held (map-values lookups bl))
 
 -- A front of the scratch that is long enough, or all of it.
 pub front-length : {n c : ℕ} (t : List ℕ) → Least (length t) c n → n ≡ length (take n t)
@@ -91,7 +95,7 @@ front-length {n} t h = sym (length-take-le n t (h .first))
 front-short : {n c : ℕ} (t : List ℕ) → Least (length t) c n → length (take n t) < c → length t < c
 front-short {n} {c} t h l = omega (arith, front-length t h, h .one (omega (arith, front-length t h)))
 
-pub front-tries : {n k : ℕ} (t area : List ℕ) (r : Tried) (out after : List ℕ) (made : Outcome) → Least (length t) 196609 n → Least (length area) 65536 k
+pub front-tries : {n k : ℕ} (t area : List ℕ) (r : Tried) (out after : List ℕ) (made : Outcome) → Least (length t) 196609 n → Least (length area) 262144 k
     → Tries (length (take n t) < enoughCells) (length (take k area) < limit) r out after made → Tries (length t < enoughCells) (length area < limit) r out after made
 unfolding limit
 front-tries {n} {k} t area r out after made h g =

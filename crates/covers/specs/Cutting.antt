@@ -1,16 +1,19 @@
 -- What is left of a context by coverages, as the definitions say it, and what is handed over.
-use Prim.Native.Nat.{ℕ, _*_, _≤_, _<_}
-use mathlib.Core.Path.{_≡_, refl}
+use Prim.Native.Nat.{ℕ, _≤_, _<_}
+use mathlib.Core.Path.{_≡_}
 use mathlib.Core.Bool.{Bool, true}
 use mathlib.Core.Option.{Option, none, some}
 use mathlib.Core.List.{List}
 use lib.ListN.{length}
-use Rattle.meaning.specs.Words.{flat, keys, ascends}
+use Rattle.meaning.specs.Words.{flat, keys, values, ascends}
 use Rattle.meaning.specs.Maps.{mapEntries}
 use Rattle.meaning.specs.Tables.{coverContext}
 use Rattle.meaning.specs.Fault.{coversFault}
 use Rattle.meaning.specs.Cut.{cut}
-use Rattle.meaning.specs.Subset.{Outcome, refused, limit, laidInto, written}
+use Rattle.meaning.specs.Subset.{Outcome, refused, limit, written}
+use Rattle.laws.specs.CutGood.{GoodMap, Values}
+use Rattle.laws.specs.SoundGood.{Bytes}
+use Rattle.room.specs.Laid.{laidAs}
 use Rattle.fold.specs.Cells.{Inside, Holds}
 use Rattle.fold.specs.declared.Map.{Map}
 use Rattle.tried.specs.Tries.{Tries}
@@ -18,37 +21,40 @@ use Rattle.tried.specs.declared.Tried.{Tried}
 use Rattle.cover_rows.specs.Rows.{Ready}
 use Rattle.covers.specs.Context.{Settles}
 
--- what comes of the words of what is left
-abbrev pub wordsInto : List ℕ → Option (List ℕ) → Outcome
-wordsInto out none = refused out 8
-wordsInto out (some ws) = laidInto out (flat ws)
+-- what comes of the words of what is left, which fit or not
+abbrev pub wordsInto : Bool → List ℕ → Option (List ℕ) → Outcome
+wordsInto fit out none = refused out 8
+wordsInto fit out (some ws) = laidAs fit out (flat ws)
 
 -- whatever is left, if it stands in the area up to `end` then it is handed over; the area was too short only if it is shorter than the limit
 pub record HandsOver (end : ℕ) (area : List ℕ) (r : Tried) (out after : List ℕ) : Type 0 where
-  pub handed : {left : Option (List ℕ)} {before : List ℕ} → Settles left before area end → length area ≡ length before → Tries (⊥) (length area < limit) r out after (wordsInto out left)
+  pub handed : {left : Option (List ℕ)} {fit : Bool} {before : List ℕ} → Settles left fit before area end → length area ≡ length before → Tries (⊥) (length area < limit) r out after (wordsInto fit out left)
 
--- what a cut asks where both maps lie in cells: the source has no fault and is not over the limit
+-- what a cut asks where both maps lie in cells: the source is bytes without a fault and not over the limit, and both columns of the glyph map ascend
 pub record Cuts (chained : Bool) (s glyphs : List ℕ) (m l : Map) (t area : List ℕ) : Type 0 where
   pub sound : coversFault chained s ≡ none
+  pub bytes : Bytes s
+  pub good : GoodMap (mapEntries glyphs)
   pub source : length s ≤ limit
   pub ready : Ready glyphs m t
   pub lookups : Inside t l
   pub short : length area ≤ 0x1_0000_0000
   pub cells : length t ≤ 0x1_0000_0000
 
--- whatever lookup map the cells of l hold, what is left of the context is handed over
+-- whatever lookup map of words the cells of l hold, what is left of the context is handed over
 pub record CutsInto (chained : Bool) (s glyphs : List ℕ) (l : Map) (t area : List ℕ) (r : Tried) (out after : List ℕ) : Type 0 where
-  pub cuts : {es : List (ℕ × ℕ)} → Holds t l es → Tries (⊥) (length area < limit) r out after (written out (cut (mapEntries glyphs) es (coverContext chained s)))
+  pub cuts : {es : List (ℕ × ℕ)} → Holds t l es → Values es → Tries (⊥) (length area < limit) r out after (written out (cut (mapEntries glyphs) es (coverContext chained s)))
 
 -- cells that are enough for any source: two maps, and a note for each entry of the glyph map and one more
 abbrev pub enoughCells : ℕ
 enoughCells = 196609
 
--- what a cut asks: the source has no fault and is not over the limit, and the old numbers of both maps ascend
+-- what a cut asks: the source has no fault and is not over the limit, and both columns of the glyph map and the old numbers of the lookup map ascend
 pub record Sound (chained : Bool) (s glyphs lookups : List ℕ) : Type 0 where
   pub sound : coversFault chained s ≡ none
   pub source : length s ≤ limit
   pub glyphs-ascend : ascends (keys (mapEntries glyphs)) ≡ true
+  pub new-ascend : ascends (values (mapEntries glyphs)) ≡ true
   pub lookups-ascend : ascends (keys (mapEntries lookups)) ≡ true
 
 -- r is the lesser of a and b

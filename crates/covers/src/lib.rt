@@ -94,7 +94,7 @@ pub fn write_context(
     write_plain(src, parts, glyphs, m, l, t, area)
 }
 
-// What was written into the area up to `end`, handed over: nothing if `end` is 0; where it is past the area, the layout is over the limit if the area is not shorter than that.
+// What was written into the area up to `end`, handed over: nothing if `end` is 0; where it is past the area, the layout is too big if the area is not shorter than the limit.
 fn settle(end: usize, area: &[u8], out: &mut [u8]) -> Tried
     ensures { λ r. ⌜ HandsOver end (now (area .entry)) r (now (out .entry)) (now (out .exit)) ⌝ }
 {
@@ -107,7 +107,7 @@ fn settle(end: usize, area: &[u8], out: &mut [u8]) -> Tried
         }
         return Tried::Became(Laid::TooBig);
     }
-    Tried::Became(hand_over(area, 0, 0, end, out))
+    Tried::Became(hand_over(area, 0, 0, end, true, out))
 }
 
 // What is left of a sound context, with both maps in cells, handed over if there is room.

@@ -8,13 +8,14 @@ use native.Mathlib.Omega.{arith}
 use lib.ListN.{length}
 use lib.Dec.{eqb}
 use borrow.Author.Tests.{ne-eqb, eq-eqb, le-leb}
-use Rattle.meaning.specs.Words.{word, inside, isSome, keys, ascends}
+use Rattle.meaning.specs.Words.{word, inside, isSome, keys, values, ascends}
 use Rattle.meaning.specs.Maps.{mapEntries}
 use Rattle.meaning.specs.Tables.{Table, classContext, coverContext, context, table}
 use Rattle.meaning.specs.Fault.{headerFault, enough, fault}
 use Rattle.meaning.specs.Cut.{cut}
 use Rattle.meaning.specs.Subset.{limit, written}
 use Rattle.laws.specs.Ascends.{glyphs-ascend, lookups-ascend}
+use Rattle.laws.specs.ClassesLeft.{glyph-values}
 use Rattle.checks.proofs.Laws.{context-1, context-3, source-short, source-plain, source-chained, source-ligatures, source-pairs}
 use Rattle.kept_sets.specs.Sorts.{setFaultOf}
 use Rattle.kept_sets.specs.declared.Sort.the-variants.{Rules, Ligatures}
@@ -57,15 +58,15 @@ module _ (kind : ℕ) (s : List ℕ) where
 -- A context by its format.
 module _ (chained : Bool) (s : List ℕ) {format : ℕ} (e : format ≡ word s 0) where
   module _ {g l : List ℕ} (a : SoundContext chained s g l) where
-    pub asks-1 : format ≡ 1 → (headerFault (enough s (word s 4)) 0 4 (setFaultOf (Rules chained) s) s ≡ none) × (length s ≤ limit) × (ascends (keys (mapEntries g)) ≡ true) × (ascends (keys (mapEntries l)) ≡ true)
+    pub asks-1 : format ≡ 1 → (headerFault (enough s (word s 4)) 0 4 (setFaultOf (Rules chained) s) s ≡ none) × (length s ≤ limit) × (ascends (keys (mapEntries g)) ≡ true) × (ascends (keys (mapEntries l)) ≡ true) × (ascends (values (mapEntries g)) ≡ true)
     unfolding setFaultOf
-    asks-1 f = (sym (context-1 chained s e f) ∙ a .sound, a .source, glyphs-ascend g (a .glyphs-good), lookups-ascend l (a .lookups-good))
+    asks-1 f = (sym (context-1 chained s e f) ∙ a .sound, a .source, glyphs-ascend g (a .glyphs-good), lookups-ascend l (a .lookups-good), glyph-values g (a .glyphs-good))
 
     pub asks-2 : format ≡ 2 → classes.Sound chained s g l
     asks-2 f = record { sound = a .sound; format = sym e ∙ f; source = a .source; glyphs-good = a .glyphs-good; lookups-ascend = lookups-ascend l (a .lookups-good) }
 
     pub asks-3 : (format ≡ 1 → ⊥) → (format ≡ 2 → ⊥) → covers.Sound chained s g l
-    asks-3 f h = record { sound = sym (context-3 chained s e f h) ∙ a .sound; source = a .source; glyphs-ascend = glyphs-ascend g (a .glyphs-good); lookups-ascend = lookups-ascend l (a .lookups-good) }
+    asks-3 f h = record { sound = sym (context-3 chained s e f h) ∙ a .sound; source = a .source; glyphs-ascend = glyphs-ascend g (a .glyphs-good); new-ascend = glyph-values g (a .glyphs-good); lookups-ascend = lookups-ascend l (a .lookups-good) }
 
   says-1 : format ≡ 1 → glyphContext chained s ≡ context chained s
   unfolding context
@@ -112,12 +113,12 @@ module _ (kind : ℕ) (s : List ℕ) where
     pub asks-chained : kind ≡ 2 → SoundContext true s g l
     asks-chained e = record { sound = sym (source-chained kind s starts e) ∙ a .sound; source = a .source; glyphs-good = a .glyphs-good; lookups-good = a .lookups-good }
 
-    pub asks-ligatures : kind ≡ 3 → (headerFault (enough s (word s 4)) 0 4 (setFaultOf Ligatures s) s ≡ none) × (length s ≤ limit) × (ascends (keys (mapEntries g)) ≡ true)
+    pub asks-ligatures : kind ≡ 3 → (headerFault (enough s (word s 4)) 0 4 (setFaultOf Ligatures s) s ≡ none) × (length s ≤ limit) × (ascends (keys (mapEntries g)) ≡ true) × (ascends (values (mapEntries g)) ≡ true)
     unfolding setFaultOf
-    asks-ligatures e = (sym (source-ligatures kind s starts e) ∙ a .sound, a .source, glyphs-ascend g (a .glyphs-good))
+    asks-ligatures e = (sym (source-ligatures kind s starts e) ∙ a .sound, a .source, glyphs-ascend g (a .glyphs-good), glyph-values g (a .glyphs-good))
 
-    pub asks-pairs : (kind ≡ 1 → ⊥) → (kind ≡ 2 → ⊥) → (kind ≡ 3 → ⊥) → (pairFault s ≡ none) × (length s ≤ limit) × (ascends (keys (mapEntries g)) ≡ true)
-    asks-pairs x y z = (sym (source-pairs kind s starts x y z) ∙ a .sound, a .source, glyphs-ascend g (a .glyphs-good))
+    pub asks-pairs : (kind ≡ 1 → ⊥) → (kind ≡ 2 → ⊥) → (kind ≡ 3 → ⊥) → (pairFault s ≡ none) × (length s ≤ limit) × (ascends (keys (mapEntries g)) ≡ true) × (ascends (values (mapEntries g)) ≡ true)
+    asks-pairs x y z = (sym (source-pairs kind s starts x y z) ∙ a .sound, a .source, glyphs-ascend g (a .glyphs-good), glyph-values g (a .glyphs-good))
 
   says-plain : kind ≡ 1 → context false s ≡ table kind s
   unfolding table

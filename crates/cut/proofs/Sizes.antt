@@ -38,8 +38,12 @@ module _ (kind : ℕ) (s : List ℕ) where
   unfolding cellsFor
   other-cells e = rw (e, cleared-length otherCells) (omega arith)
 
+-- for any number, so that no scratch is written out
+cleared-enough : (n : ℕ) → n ≤ length (cleared n)
+cleared-enough n = rw (cleared-length n) (omega arith)
+
 pub all-bytes : enoughBytes ≤ length (cleared enoughBytes)
-all-bytes = rw (cleared-length enoughBytes) (omega arith)
+all-bytes = cleared-enough enoughBytes
 
 -- what became of it
 pub became : (few short : Type 0) (r : Tried) (before after : List ℕ) (made : Outcome) {laid : Laid} → Tries few short r before after made → r ≡ Became laid → outcomeOf laid after ≡ made

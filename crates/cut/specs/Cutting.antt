@@ -31,7 +31,7 @@ pub record SoundContext (chained : Bool) (s glyphs lookups : List ℕ) : Type 0 
 
 -- the bytes of an area that are enough for any source
 abbrev pub enoughBytes : ℕ
-enoughBytes = 262144
+enoughBytes = 655360
 
 -- the cells that are enough for a context by classes, and those that are for any other source
 abbrev pub classCells : ℕ

@@ -24,7 +24,7 @@ ghost use Rattle.cut.specs.Cutting.{SoundContext, Sound, contextCells, c
 // The cells and the bytes that are enough for any source.
 pub const CELLS: usize = class_contexts::CELLS;
 
-pub const BYTES: usize = 4 * LIMIT;
+pub const BYTES: usize = 5 * LIMIT / 2;
 
 // The cells that are enough for any source but a context by classes.
 const CELLS_BUT_CLASSES: usize = covers::CELLS;

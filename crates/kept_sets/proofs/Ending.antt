@@ -17,8 +17,8 @@ use Rattle.kept_sets.proofs.Keeping.{Keeping, keeping-whole}
 
 module _ {sort : Sort} {s t₀ : List ℕ} {maps : Maps} {at m : ℕ} (a : Ready sort s t₀ maps at m) {slots : ℕ} (e : slots ≡ headerSize sort) {area₀ : List ℕ} where
   -- there is no room for the offsets
-  pub wrote-short : {end : ℕ} → length area₀ < slots + 2 * m → length area₀ < end → WroteKept sort s t₀ maps at m area₀ t₀ area₀ (record { count = 0; end = end })
-  wrote-short h l = record { same = refl; size = refl; done = λ k. absurd (omega arith); full = λ k. omega (arith, a .few, e) }
+  pub wrote-short : {end : ℕ} → slots ≤ 10 → length area₀ < slots + 2 * m → length area₀ < end → WroteKept sort s t₀ maps at m area₀ t₀ area₀ (record { count = 0; end = end })
+  wrote-short b h l = record { same = refl; size = refl; done = λ k. absurd (omega arith); full = λ k. omega (arith, a .counted) }
 
   module _ {t area : List ℕ} {k p i : ℕ} (c : Keeping (leftIn sort t₀ maps s) s slots t₀ at m area₀ t area k p i) where
     module _ (h : i < m) {note : ℕ} (n : note ≡ getD t (at + i) 0) where
@@ -37,7 +37,7 @@ module _ {sort : Sort} {s t₀ : List ℕ} {maps : Maps} {at m : ℕ} (a : Ready
           rw f at (reaches .sound (λ q. z (sym f ∙ q)))
 
     -- there is no room for a set
-    pub wrote-full : {one : List ℕ} {q : ℕ} → length one ≡ length area → length one < q → length area₀ < 2 * length (blocks (members (wordsOf (keptIn sort s t₀ maps at m)))) + 3 * length s
+    pub wrote-full : {one : List ℕ} {q : ℕ} → length one ≡ length area → length one < q → length area₀ < 2 * length (blocks (members (wordsOf (keptIn sort s t₀ maps at m)))) + length s + 262152
         → WroteKept sort s t₀ maps at m area₀ t one (record { count = 0; end = q })
     wrote-full f l g = record { same = f ∙ c .same; size = c .cells .size; done = λ k. absurd (omega (arith, f, c .same)); full = λ k. g }
 

@@ -170,7 +170,7 @@ module _ (left : ℕ → Option (List ℕ)) (s : List ℕ) (slots : ℕ) (t₀ :
             }
 
         -- there is no room for it
-        pub keeping-full : slots + 2 * m ≤ length s → length one < q → length area₀ < 2 * taken all + 3 * length s
+        pub keeping-full : slots + 2 * m ≤ 131080 → length one < q → length area₀ < 2 * taken all + length s + 262152
         unfolding mostOf
         keeping-full a v =
             omega (arith, w .full (omega (arith, w .same)), c .same, c .placed .place, taken-append (c .kept) (from i), ap taken (c .left-over), ap taken there, taken-push (left off) (note % 65536) (from (i + 1)))

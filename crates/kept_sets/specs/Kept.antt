@@ -44,10 +44,11 @@ pub record Reaches (sort : Sort) (s : List ℕ) (i : ℕ) : Type 0 where
   pub inside : headerSize sort + 2 * i + 2 ≤ length s
   pub sound : (word s (headerSize sort + 2 * i) ≡ 0 → ⊥) → setFaultOf sort s (word s (headerSize sort + 2 * i)) ≡ none
 
--- What is asked of m notes from `at` on: the source is not over the limit and has an offset for each, those that they name reach sound sets, and the maps lie before them.
+-- What is asked of m notes from `at` on: the source is not over the limit and has an offset for each, there are fewer than 65,536, those that they name reach sound sets, and the maps lie before them.
 pub record Ready (sort : Sort) (s t : List ℕ) (maps : Maps) (at m : ℕ) : Type 0 where
   pub short : length s ≤ limit
   pub few : headerSize sort + 2 * m ≤ length s
+  pub counted : m < 65536
   pub fits : at + m ≤ length t
   pub reaches : (i : ℕ) → i < m → Reaches sort s (oldAt t (at + i))
   pub inside : AllInside t maps
@@ -65,9 +66,9 @@ module _ (sort : Sort) (s t₀ : List ℕ) (maps : Maps) (at m : ℕ) where
     pub glyphs : news t at k ≡ glyphsOf keptIn
     pub placed : Placed (headerSize sort) (headerSize sort + 2 * m) (wordsOf keptIn) area p
 
-  -- What the notes and the area hold afterwards; where there is no room, the area is shorter than what is kept and three times the source.
+  -- What the notes and the area hold afterwards; where there is no room, the area is shorter than what is kept, the source, and the 262,152 bytes of the longest header and the offsets of the longest set.
   pub record WroteKept (area₀ t area : List ℕ) (r : Sets) : Type 0 where
     pub same : length area ≡ length area₀
     pub size : length t ≡ length t₀
     pub done : r .end ≤ length area₀ → Done t area (r .count) (r .end)
-    pub full : length area₀ < r .end → length area₀ < 2 * length (blocks (members (wordsOf keptIn))) + 3 * length s
+    pub full : length area₀ < r .end → length area₀ < 2 * length (blocks (members (wordsOf keptIn))) + length s + 262152

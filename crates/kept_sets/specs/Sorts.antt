@@ -76,9 +76,9 @@ unfoldable pub wordsIn : Option (List ℕ) → List ℕ
 wordsIn none = []
 wordsIn (some ws) = ws
 
--- more than there is room for, where a set has none: what is left of it, and twice the source
+-- more than there is room for, where a set has none: what is left of it, the place for a count and at most 65,535 offsets, and the source
 unfoldable pub mostOf : Option (List ℕ) → List ℕ → ℕ
-mostOf o s = 2 * length (wordsIn o) + 2 * length s
+mostOf o s = 2 * length (wordsIn o) + length s + 131072
 
 -- the cells of the maps lie before `at`
 pub record AllBefore (m : Maps) (at : ℕ) : Type 0 where
@@ -98,11 +98,11 @@ set-leaves : {A : Type 0} (f : A → List ℕ) (o : Option (List A)) {a b : List
 unfolding setMost mostOf
 set-leaves f o s w = leaves-said w refl (omega (arith, ap length (words-block (setWords f) o)))
 
--- the place for a pair set's count and for one pair more is less than twice the source
-pairs-most : (o : Option (List ℕ)) (places s : List ℕ) → length places ≤ 8 → 10 ≤ length s → pairsMost o places ≤ mostOf o s
+-- the place for a pair set's count and for one pair more is less than that
+pairs-most : (o : Option (List ℕ)) (places s : List ℕ) → length places ≤ 8 → pairsMost o places ≤ mostOf o s
 unfolding pairsMost mostOf wordsLeft wordsIn
-pairs-most none places s h l = omega arith
-pairs-most (some ws) places s h l = omega arith
+pairs-most none places s h = omega arith
+pairs-most (some ws) places s h = omega arith
 
 -- zeros say that no member is known to go
 pub told-none : (sort : Sort) {m : RuleMaps} {s : List ℕ} (n : ℕ) → isPairs sort ≡ false → Told sort m s (replicate n 0)
@@ -171,13 +171,12 @@ module _ {sort : Sort} (s : List ℕ) (at : ℕ) where
     unfolding setLeft
     ligatures-leave e w = rw e (set-leaves ligatureWords (cutLigatures (m .input) (ligatureSet s at)) s w)
 
-    pub pairs-leave : {f : Formats} (places : List ℕ) → sort ≡ Pairs f → f .size ≡ pairSize (f .f1) (f .f2) → places ≡ placesOf (f .f1) (f .f2) (f .n1) (f .n2) → headerSize sort ≤ length s
+    pub pairs-leave : {f : Formats} (places : List ℕ) → sort ≡ Pairs f → f .size ≡ pairSize (f .f1) (f .f2) → places ≡ placesOf (f .f1) (f .f2) (f .n1) (f .n2)
         → Leaves a p (pairsLeft (m .input) s (f .size) places at) (pairsMost (pairsLeft (m .input) s (f .size) places at) places) b r → Leaves a p (setLeft sort m s at) (mostOf (setLeft sort m s at) s) b r
     unfolding setLeft
-    pairs-leave {f} places e z k l w =
+    pairs-leave {f} places e z k w =
         let few : length (placesOf (f .f1) (f .f2) (f .n1) (f .n2)) ≤ 8 = places-inside (f .f1) (f .f2) (f .n1) (f .n2) .few in
-        let header : 10 ≤ length s = rw e at l in
-        rw e (leaves-said (rw (z, k) at w) refl (pairs-most _ _ s few header))
+        rw e (leaves-said (rw (z, k) at w) refl (pairs-most _ _ s few))
 
 -- Cells behind the maps may change.
 module _ {at : ℕ} {t₀ t : List ℕ} (k : Kept at t₀ t) where

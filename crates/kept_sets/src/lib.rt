@@ -52,7 +52,7 @@ fn write_set(
     area: &mut [u8],
     pos: usize,
 ) -> usize
-    requires { ⌜ (setFaultOf sort (now src) at ≡ none) × (length (now src) ≤ limit) × AllInside (now t) maps × (pos ≤ length (now area)) × (headerSize sort ≤ length (now src)) × Told sort (mapsIn (now t) maps) (now src) (now told) ⌝ }
+    requires { ⌜ (setFaultOf sort (now src) at ≡ none) × (length (now src) ≤ limit) × AllInside (now t) maps × (pos ≤ length (now area)) × Told sort (mapsIn (now t) maps) (now src) (now told) ⌝ }
     ensures { λ r. ⌜ Leaves (now (area .entry)) pos (leftIn sort (now (t .entry)) maps (now (src .entry)) at) (mostOf (leftIn sort (now (t .entry)) maps (now (src .entry)) at) (now (src .entry))) (now (area .exit)) r × Told sort (mapsIn (now (t .entry)) maps) (now (src .entry)) (now (told .exit)) ⌝ }
 {
     match sort {

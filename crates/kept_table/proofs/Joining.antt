@@ -1,14 +1,18 @@
 -- From the sets that are kept to the table that is handed over.
 use Prim.Native.Nat.{ℕ, _+_, _-_, _*_, _≤_, _<_}
 use mathlib.Core.Path.{_≡_, refl, sym, ap, _∙_}
+use mathlib.Core.Bool.{Bool, true, false}
 use mathlib.Core.Option.{Option, none, some}
 use mathlib.Core.List.{List, [], _∷_, _++_}
 use native.Mathlib.Omega.{arith}
-use lib.ListN.{length, length-append, length-map}
+use lib.ListN.{length, getD, length-append, length-map}
+use lib.Dec.{leb, ltb}
+use borrow.Author.Tests.{leb-true, leb-false, lt-ltb, le-ltb}
 use Rattle.meaning.specs.Words.{flat}
 use Rattle.meaning.specs.Cut.{glyphsOf}
 use Rattle.meaning.specs.Layout.{offsets, blocks, coverageWords, setsLayout}
-use Rattle.meaning.specs.Subset.{Outcome, refused, limit, laidInto}
+use Rattle.meaning.specs.Subset.{Outcome, refused, limit}
+use Rattle.room.specs.Laid.{laidAs}
 use Rattle.tried.specs.declared.Tried.{Tried}
 use Rattle.area.specs.Part.{part, news}
 use Rattle.area.specs.Closed.{members}
@@ -18,7 +22,7 @@ use Rattle.kept_sets.specs.Kept.{wordsOf, Ready, Done, WroteKept, keptIn}
 use Rattle.kept_sets.specs.declared.Sort.{Sort}
 use Rattle.kept_sets.specs.declared.Sets.{Sets}
 use Rattle.kept_table.specs.Table.{areaMost, layoutOf, tableOf, Finishes, Finished}
-use Rattle.kept_table.specs.Answers.{laidWords, NoRoom, Answered, words-over}
+use Rattle.kept_table.specs.Answers.{laidWords, NoRoom, Answered, words-over, words-unfit}
 
 -- the sets and the coverage are part of their table
 table-most : (more cov : List ℕ) (bs : List (Option (List ℕ))) → length (blocks bs) + length cov ≤ length (setsLayout 1 (some cov ∷ []) more bs)
@@ -26,6 +30,19 @@ unfolding setsLayout offsets blocks
 table-most more cov bs =
     let first = 6 + 2 * length more + 2 * length bs in
     omega (arith, length-append more (length bs ∷ (offsets first bs ++ (blocks bs ++ (cov ++ [])))), length-append (offsets first bs) (blocks bs ++ (cov ++ [])), length-append (blocks bs) (cov ++ []), length-append cov [])
+
+-- at most the highest number of a word
+pub at-most : (n : ℕ) → leb n 65535 ≡ ltb n 65536
+at-most n = step (leb n 65535) refl
+  where
+    step : (b : Bool) → leb n 65535 ≡ b → b ≡ ltb n 65536
+    step true e = sym (lt-ltb n 65536 (omega (arith, leb-true n 65535 e)))
+    step false e = sym (le-ltb n 65536 (omega (arith, leb-false n 65535 e)))
+
+-- the second word of a table is the coverage's offset
+pub cover-word : (more cov : List ℕ) (bs : List (Option (List ℕ))) → getD (setsLayout 1 (some cov ∷ []) more bs) 1 0 ≡ 6 + 2 * length more + 2 * length bs + 2 * length (blocks bs)
+unfolding setsLayout offsets
+cover-word more cov bs = omega arith
 
 module _ (sort : Sort) where
   -- of no sets there is no table
@@ -39,17 +56,17 @@ module _ (sort : Sort) where
   table-some [] z = absurd (z refl)
   table-some (k ∷ ks) z = refl
 
-  -- what sets take is part of what their table takes
-  table-sets : (ks : List (ℕ × List ℕ)) → length (blocks (members (wordsOf ks))) ≤ length (wordsIn (tableOf sort ks))
+  -- the sets stand before the coverage
+  table-sets : (ks : List (ℕ × List ℕ)) → 2 * length (blocks (members (wordsOf ks))) ≤ getD (wordsIn (tableOf sort ks)) 1 0
   unfolding tableOf wordsIn blocks
   table-sets [] = omega arith
-  table-sets (k ∷ ks) = omega (arith, table-most (moreOf sort) (coverageWords (glyphsOf (k ∷ ks))) (members (wordsOf (k ∷ ks))))
+  table-sets (k ∷ ks) = omega (arith, cover-word (moreOf sort) (coverageWords (glyphsOf (k ∷ ks))) (members (wordsOf (k ∷ ks))))
 
 words-some : (ws : List ℕ) → wordsIn (some ws) ≡ ws
 unfolding wordsIn
 words-some ws = refl
 
-laid-some : (out ws : List ℕ) → laidWords out (some ws) ≡ laidInto out (flat ws)
+laid-some : (out ws : List ℕ) → laidWords out (some ws) ≡ laidAs (ltb (getD ws 1 0) 65536) out (flat ws)
 unfolding laidWords
 laid-some out ws = refl
 
@@ -59,16 +76,17 @@ unfolding laidWords
 laid-none out e = rw e refl
 
 -- there is no room
-pub answered-short : {a b n : ℕ} {r : Tried} {out : List ℕ} {words : Option (List ℕ)} → NoRoom b r → b ≡ a → n ≤ limit → a < 2 * length (wordsIn words) + 3 * n → Answered (⊥) out words a r out
-answered-short {out = out} {words} h e l o = record { answer = (rw e at h) .refuses (words-over out words l o) }
+pub answered-short : {a b : ℕ} {r : Tried} {out : List ℕ} {words : Option (List ℕ)} → NoRoom b r → b ≡ a → (areaMost ≤ a → refused out 9 ≡ laidWords out words) → Answered (⊥) out words a r out
+answered-short h e o = record { answer = (rw e at h) .refuses o }
 
 module _ {sort : Sort} {s t₀ : List ℕ} {maps : Maps} {at m : ℕ} {area₀ t area : List ℕ} {r : Sets} (a : Ready sort s t₀ maps at m) (w : WroteKept sort s t₀ maps at m area₀ t area r) where
   abbrev kept : List (ℕ × List ℕ)
   kept = keptIn sort s t₀ maps at m
 
   -- there is no room for the sets
-  pub short-sets : length area < r .end → length area₀ < 2 * length (wordsIn (tableOf sort kept)) + 3 * length s
-  short-sets l = omega (arith, w .full (omega (arith, w .same)), table-sets sort kept)
+  pub short-sets : (out : List ℕ) → length area < r .end → areaMost ≤ length area₀ → refused out 9 ≡ laidWords out (tableOf sort kept)
+  unfolding limit
+  short-sets out l = words-unfit out (tableOf sort kept) (omega (arith, w .full (omega (arith, w .same)), a .short, table-sets sort kept))
 
   module _ (l : r .end ≤ length area) where
     done : Done sort s t₀ maps at m t area (r .count) (r .end)
@@ -97,15 +115,20 @@ module _ {sort : Sort} {s t₀ : List ℕ} {maps : Maps} {at m : ℕ} {area₀ t
         table-is-some = table-some sort kept (λ n. z (sym (done .count) ∙ n))
 
         -- there is no room for the coverage
-        pub short-table : length after < end → length area₀ < 2 * length (wordsIn (tableOf sort kept)) + 3 * length s
-        short-table k =
+        pub short-table : (out : List ℕ) → length after < end → areaMost ≤ length area₀ → refused out 9 ≡ laidWords out (tableOf sort kept)
+        short-table out k =
             let c : length (coverageWords (news t at (r .count))) ≡ length (coverageWords (glyphsOf kept)) = ap (λ (g : List ℕ). length (coverageWords g)) (done .glyphs) in
             let n : length (wordsIn (tableOf sort kept)) ≡ length (layoutOf sort (glyphsOf kept) (wordsOf kept)) = ap (λ (o : Option (List ℕ)). length (wordsIn o)) table-is-some ∙ ap length (words-some (layoutOf sort (glyphsOf kept) (wordsOf kept))) in
-            omega (arith, f .full (omega (arith, f .same)), w .same, done .placed .place, a .few, c, n, table-most (moreOf sort) (coverageWords (glyphsOf kept)) (members (wordsOf kept)))
+            words-over out (tableOf sort kept) (a .short) (omega (arith, f .full (omega (arith, f .same)), w .same, done .placed .place, a .few, c, n, table-most (moreOf sort) (coverageWords (glyphsOf kept)) (members (wordsOf kept))))
 
         -- what is handed over is the table
-        pub table-laid : end ≤ length after → {head : ℕ} → head ≡ headerSize sort + 2 * r .count → (out₀ : List ℕ) {o : Outcome} → o ≡ laidInto out₀ (part after 0 head ++ part after first (end - first)) → o ≡ laidWords out₀ (tableOf sort kept)
-        table-laid k u out₀ h =
+        pub table-laid : end ≤ length after → {head : ℕ} → head ≡ headerSize sort + 2 * r .count → {fits : Bool} → fits ≡ ltb (r .end - (first - head)) 65536
+            → (out₀ : List ℕ) {o : Outcome} → o ≡ laidAs fits out₀ (part after 0 head ++ part after first (end - first)) → o ≡ laidWords out₀ (tableOf sort kept)
+        table-laid k {head} u {fits} q out₀ h =
             let p = rw (← e) at (done .placed) in
             let v = f .table (wordsOf kept) (length-map kept (λ x. x .1) ∙ done .count) p (omega (arith, f .same)) in
-            h ∙ ap (λ (i : ℕ). laidInto out₀ (part after 0 i ++ part after first (end - first))) u ∙ ap (laidInto out₀) (v ∙ ap (λ (g : List ℕ). flat (layoutOf sort g (wordsOf kept))) (done .glyphs)) ∙ sym (laid-some out₀ (layoutOf sort (glyphsOf kept) (wordsOf kept))) ∙ ap (laidWords out₀) (sym table-is-some)
+            let many : length (members (wordsOf kept)) ≡ r .count = length-map (wordsOf kept) (λ b. some b) ∙ length-map kept (λ x. x .1) ∙ done .count in
+            let second : r .end - (first - head) ≡ getD (layoutOf sort (glyphsOf kept) (wordsOf kept)) 1 0 = omega (arith, cover-word (moreOf sort) (coverageWords (glyphsOf kept)) (members (wordsOf kept)), many, done .placed .place, done .few, e, u) in
+            let test : fits ≡ ltb (getD (layoutOf sort (glyphsOf kept) (wordsOf kept)) 1 0) 65536 = q ∙ ap (λ (n : ℕ). ltb n 65536) second in
+            h ∙ ap (λ (i : ℕ). laidAs fits out₀ (part after 0 i ++ part after first (end - first))) u ∙ ap (laidAs fits out₀) (v ∙ ap (λ (g : List ℕ). flat (layoutOf sort g (wordsOf kept))) (done .glyphs))
+            ∙ ap (λ (t : Bool). laidAs t out₀ (flat (layoutOf sort (glyphsOf kept) (wordsOf kept)))) test ∙ sym (laid-some out₀ (layoutOf sort (glyphsOf kept) (wordsOf kept))) ∙ ap (laidWords out₀) (sym table-is-some)

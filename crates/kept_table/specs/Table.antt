@@ -13,9 +13,9 @@ use Rattle.kept_sets.specs.Sorts.{moreOf, headerSize}
 use Rattle.kept_sets.specs.Kept.{wordsOf, Placed}
 use Rattle.kept_sets.specs.declared.Sort.{Sort}
 
--- the bytes of an area that are enough for any source, four times the limit; no more are used
+-- the bytes of an area that are enough for any source, five halves of the limit; no more are used
 abbrev pub areaMost : ℕ
-areaMost = 262144
+areaMost = 655360
 
 -- the words of the table of these sets, which these glyphs index
 abbrev pub layoutOf : Sort → List ℕ → List (List ℕ) → List ℕ
@@ -31,7 +31,7 @@ pub record Finishes (sort : Sort) (t : List ℕ) (notes k first p : ℕ) (area :
   pub some-set : 0 < k
   pub fits : notes + k ≤ length t
   pub behind : headerSize sort + 2 * k ≤ first
-  pub near : first ≤ headerSize sort + 2 * k + 65536
+  pub near : first ≤ headerSize sort + 2 * k + 262144
   pub start : first ≤ p
   pub room : p ≤ length area
   pub short : length area ≤ areaMost

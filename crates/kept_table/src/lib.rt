@@ -7,12 +7,16 @@ use area::write_cover;
 use kept_sets::Sort;
 use kept_sets::header_size;
 use kept_sets::write_kept;
+use room::HIGHEST;
+use room::LIMIT;
 use room::Laid;
 use rule_sets::Maps;
 use tried::Tried;
 ghost use mathlib.Core.List.{[], _∷_, _++_};
-ghost use Prim.Native.Nat.{_≤_};
+ghost use mathlib.Core.Path.{_≡_};
+ghost use Prim.Native.Nat.{_-_, _≤_};
 ghost use lib.ListN.{length};
+ghost use lib.Dec.{ltb};
 ghost use Rattle.laws.specs.Written.{Wrote};
 ghost use Rattle.rule_sets.specs.Left.{mapsIn};
 ghost use Rattle.kept_sets.specs.Sorts.{moreOf, headerSize, Told};
@@ -20,8 +24,8 @@ ghost use Rattle.kept_sets.specs.Kept.{Ready, keptIn};
 ghost use Rattle.kept_table.specs.Table.{areaMost, Finishes, Finished, tableOf};
 ghost use Rattle.kept_table.specs.Answers.{NoRoom, Answered};
 
-// The bytes of an area that are enough for any source: four times the limit. No more are used.
-pub const AREA: usize = 262144;
+// The bytes of an area that are enough for any source: five halves of the limit. No more are used.
+pub const AREA: usize = 5 * LIMIT / 2;
 
 // Where the notes of the retained covered glyphs stand in the cells, and how many there are.
 pub struct Notes {
@@ -65,7 +69,15 @@ fn finish(
     end
 }
 
-// There is no room in the area: it is too short; or it has what is enough for any source, and then the layout is over the limit.
+// Whether the coverage's offset, which is the highest, fits a word: the coverage stands at `p` while the gap between `head` and `first` is open.
+fn cover_fits(head: usize, first: usize, p: usize) -> bool
+    requires { ⌜ (head ≤ first) × (first ≤ p) ⌝ }
+    ensures { λ r. ⌜ r ≡ ltb (p - (first - head)) 65536 ⌝ }
+{
+    p - (first - head) <= HIGHEST
+}
+
+// There is no room in the area: it is too short; or it has what is enough for any source, and then the layout is too big.
 fn no_room(area: &[u8]) -> Tried
     ensures { λ r. ⌜ NoRoom (length (now (area .entry))) r ⌝ }
 {
@@ -75,7 +87,7 @@ fn no_room(area: &[u8]) -> Tried
     Tried::Became(Laid::TooBig)
 }
 
-// What is left of a table, whose retained covered glyphs are noted, laid into the buffer if it is not over the limit and the buffer is not shorter. `told` says where the fields that stay stand in a pair record; for other sorts it has marks at the places of members that are known to go.
+// What is left of a table, whose retained covered glyphs are noted, laid into the buffer if it is not too big and the buffer is not shorter. `told` says where the fields that stay stand in a pair record; for other sorts it has marks at the places of members that are known to go.
 pub fn write_table(
     sort: Sort,
     src: &[u8],
@@ -105,5 +117,7 @@ pub fn write_table(
     if area.len() < end {
         return no_room(area);
     }
-    Tried::Became(hand_over(area, slots + 2 * k, first, end, out))
+    let head = slots + 2 * k;
+    let fits = cover_fits(head, first, p);
+    Tried::Became(hand_over(area, head, first, end, fits, out))
 }

@@ -31,20 +31,20 @@ module _ (f out : List ℕ) where
   within false h = rw (← (job-faulty f out h)) (λ z. absurd (omega arith))
 
 -- what is printed of the job on zeros is what the program prints
-program-is : (f : List ℕ) → printed (job f (replicate 65536 0)) ≡ program f
+program-is : (f : List ℕ) → printed (job f (replicate 262144 0)) ≡ program f
 unfolding program room limit
 program-is f = refl
 
-module _ (f : List ℕ) (a : Answer) {result : List ℕ} {n len : ℕ} (number : n ≡ numberOf a) (long : len ≡ lengthOf a) (ran : outcome a result ≡ job f (replicate 65536 0)) (full : 65536 ≡ length result) where
+module _ (f : List ℕ) (a : Answer) {result : List ℕ} {n len : ℕ} (number : n ≡ numberOf a) (long : len ≡ lengthOf a) (ran : outcome a result ≡ job f (replicate 262144 0)) (full : length result ≡ 262144) where
   -- the number, the length and the buffer are those of the job
-  same : record { number = n; len = len; out = result } ≡ job f (replicate 65536 0)
+  same : record { number = n; len = len; out = result } ≡ job f (replicate 262144 0)
   same = rw (number, long) ran
 
   -- they can be printed
   pub printable : Printable n len result
   printable = record {
     small = omega arith;
-    within = λ z. omega (arith, within f (replicate 65536 0) (goodJob f) refl (sym (ap (λ (o : Outcome). o .number) same) ∙ z), ap (λ (o : Outcome). o .len) same, length-replicate {A = ℕ} 65536 0);
+    within = λ z. omega (arith, within f (replicate 262144 0) (goodJob f) refl (sym (ap (λ (o : Outcome). o .number) same) ∙ z), ap (λ (o : Outcome). o .len) same, length-replicate {A = ℕ} 262144 0);
   }
 
   -- and what is printed of them is what the program prints

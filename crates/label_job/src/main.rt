@@ -14,10 +14,10 @@ ghost use Rattle.label_job.specs.Input.{Within};
 const FILE: usize = 65537;
 
 // The bytes that are lent for the result.
-const RESULT: usize = 65536;
+const RESULT: usize = 262144;
 
 // Room for the longest text.
-const TEXT: usize = 135200;
+const TEXT: usize = 540700;
 
 // What came of reading: a number of bytes at the front of the buffer, or that a read failed.
 pub enum Input {

@@ -3,9 +3,10 @@ use Prim.Native.Nat.{ℕ}
 use Prim.Native.String.{String}
 use mathlib.Core.Path.{_≡_, refl}
 use mathlib.Core.List.{List, [], _∷_, _++_, map}
+use lib.ListN.{replicate}
 use Rattle.meaning.specs.Words.{flat}
 use Rattle.meaning.specs.Subset.{limit}
-use Rattle.meaning.specs.Job.{ascii, room, program}
+use Rattle.meaning.specs.Job.{ascii, job, printed, room}
 
 -- a job file, and what the program prints for it
 pub record JobRow : Type 0 where
@@ -17,11 +18,11 @@ abbrev maps₁ : List ℕ
 maps₁ = 3 ∷ 1 ∷ 5 ∷ 2 ∷ 9 ∷ 3 ∷ 4 ∷ 0 ∷ 7 ∷ 2 ∷ []
 
 -- the four bytes `LSJ1`, as words
-abbrev lsj1 : List ℕ
+abbrev pub lsj1 : List ℕ
 lsj1 = 0x4C53 ∷ 0x4A31 ∷ []
 
 -- a context of format 3 without coverages, 6 bytes long
-abbrev bare : List ℕ
+abbrev pub bare : List ℕ
 bare = 3 ∷ 0 ∷ 0 ∷ []
 
 -- the jobs
@@ -55,12 +56,12 @@ jobs =
     ∷ record { file = flat ((1 ∷ 0 ∷ 0 ∷ 0 ∷ 0 ∷ 0 ∷ 0 ∷ 0 ∷ 0 ∷ 0 ∷ 0 ∷ 0 ∷ 0 ∷ []) ++ lsj1); prints = "refused 6\n" }
     ∷ []
 
--- each job prints what its row states
-pub each-job : map (λ r. program (r .file)) jobs ≡ map (λ r. ascii (r .prints)) jobs
-unfolding program ascii jobs
+-- each job prints what its row states, here with 64 bytes lent; the crate `limits` has the same of the program, with all that it lends
+pub each-job : map (λ r. printed (job (r .file) (replicate 64 0))) jobs ≡ map (λ r. ascii (r .prints)) jobs
+unfolding job printed ascii jobs
 each-job = refl
 
--- the program lends 65,536 bytes
-pub lends : room ≡ 65536
+-- the program lends 262,144 bytes, so that a layout longer than its job has room
+pub lends : room ≡ 262144
 unfolding room limit
 lends = refl

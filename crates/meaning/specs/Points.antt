@@ -1,9 +1,8 @@
 -- The open points of documents 01 and 02, decided: one table of calls, one statement over all of them, by computation. docs/DECISIONS.md says why each is read so.
 use mathlib.Core.Path.{_≡_, refl}
 use mathlib.Core.List.{List, [], _∷_, _++_, map}
-use lib.ListN.{replicate}
 use Rattle.meaning.specs.Words.{flat}
-use Rattle.meaning.specs.Subset.{refused, laidInto, subset}
+use Rattle.meaning.specs.Subset.{subset}
 use Rattle.meaning.specs.Calls.{Row, call, stated, kept, refuses, faulty}
 
 -- the calls; each comment says what the calls below it show
@@ -163,10 +162,6 @@ points =
     ∷ refuses 1 (flat (0x0000 ∷ [])) [] [] 5
     ∷ refuses 2 (flat (0x0004 ∷ [])) [] [] 5
     ∷ refuses 3 (flat (0x0002 ∷ [])) [] [] 5
-    -- A source of 65,537 bytes is 4, after a bad lookup map and before its format; one of 65,536 is not.
-    ∷ refuses 1 (replicate 65537 0) [] (0x0001 ∷ []) 3
-    ∷ refuses 1 (replicate 65537 0) [] [] 4
-    ∷ refuses 1 (replicate 65536 0) [] [] 5
     -- Each bit of 0x00F0 is refused, the highest too.
     ∷ refuses 4 (flat (0x0001 ∷ 0x0000 ∷ 0x0080 ∷ 0x0000 ∷ 0x0000 ∷ [])) [] [] 7
     -- Coverage: its glyphs, or its ranges, lie inside.
@@ -267,8 +262,3 @@ points =
 pub each-point : map call points ≡ map stated points
 unfolding subset points
 each-point = refl
-
--- a layout of 65,536 bytes is laid down where there is room, and one of 65,538 is 9, with length 0 and before 10
-pub layout-limit : (laidInto (replicate 65536 7) (replicate 65536 0) .number ≡ 0) × (laidInto (7 ∷ []) (replicate 65538 0) ≡ refused (7 ∷ []) 9)
-unfolding subset
-layout-limit = (refl, refl)

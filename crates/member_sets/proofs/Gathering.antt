@@ -73,7 +73,7 @@ module _ {A : Type 0} (read : ℕ → A) (cutOne : A → Option A) (f : A → Li
   }
 
   -- there is no room for the count and the offsets
-  pub gathering-short : {area₀ : List ℕ} {pos r : ℕ} → base + 2 + 2 * n ≤ length s → length area₀ < pos + 2 + 2 * n → length area₀ < r
+  pub gathering-short : {area₀ : List ℕ} {pos r : ℕ} → n < 65536 → length area₀ < pos + 2 + 2 * n → length area₀ < r
       → Leaves area₀ pos (block (setWords f) (unlessEmpty all)) (setMost f (unlessEmpty all) s) area₀ r
   unfolding setMost
   gathering-short b l h = leaves-full refl h (omega arith)
@@ -144,11 +144,11 @@ module _ {A : Type 0} (read : ℕ → A) (cutOne : A → Option A) (f : A → Li
             }
 
         -- there is no room for it, and so none for the set
-        pub gathering-full : m ≤ length s → length one < q → Leaves area₀ pos (block (setWords f) (unlessEmpty all)) (setMost f (unlessEmpty all) s) one q
+        pub gathering-full : n < 65536 → m ≤ length s → length one < q → Leaves area₀ pos (block (setWords f) (unlessEmpty all)) (setMost f (unlessEmpty all) s) one q
         unfolding setMost
-        gathering-full a v =
+        gathering-full b a v =
             leaves-full (w .same ∙ c .same) (omega (arith, w .same, c .same))
-            (omega (arith, w .full (omega (arith, w .same)), w .same, c .same, c .inside, c .unclosed .place, front-most f all (c .kept) (map f (from i)) (c .left)))
+            (omega (arith, w .full (omega (arith, w .same)), w .same, c .same, c .unclosed .place, front-most f all (c .kept) (map f (from i)) (c .left)))
 
     -- the set is put together
     pub gathering-end : {after : List ℕ} {m r : ℕ} → n ≤ i → ClosedSet area pos k (pos + 2 + 2 * n) p after r → Leaves area₀ pos (block (setWords f) (unlessEmpty all)) m after r

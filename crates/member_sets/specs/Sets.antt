@@ -31,9 +31,9 @@ pub record ClosedSet (before : List ℕ) (pos k first end : ℕ) (after : List �
   pub same : length after ≡ length before
   pub closed : (area₀ : List ℕ) (bs : List (List ℕ)) (m : ℕ) → length bs ≡ k → Unclosed area₀ pos first bs before end → Leaves area₀ pos (block setOf (unlessEmpty bs)) m after r
 
--- more than any area has room for, where a set has no room: what is left of the set, the place for its count and offsets, and one member more; neither of these takes more than the source
+-- more than any area has room for, where a set has no room: what is left of the set, the place for a count and an offset for each of at most 65,535 members, and one member more, which takes no more than the source
 unfoldable pub setMost : {A : Type 0} → (A → List ℕ) → Option (List A) → List ℕ → ℕ
-setMost f o s = 2 * length (wordsLeft (setWords f) o) + 2 * length s
+setMost f o s = 2 * length (wordsLeft (setWords f) o) + length s + 131072
 
 module _ {A : Type 0} (f : A → List ℕ) where
   -- members as blocks

@@ -3,18 +3,18 @@
 -- Survives.antt, and `Retained`, `new`, `renumbered`, `cutMatch`, `cutLigated`, `Closed`, and `Faulty` and `callOf` of the job, each a line or two.
 use Prim.Native.Nat.{ℕ, _≤_, _<_}
 use mathlib.Core.Path.{_≡_, ap, _∙_}
-use mathlib.Core.Bool.{Bool, true, not}
+use mathlib.Core.Bool.{Bool, true, false, not}
 use mathlib.Core.Option.{none, some, Option·map}
 use mathlib.Core.List.{List, [], _∷_, _++_, map}
 use lib.ListN.{length, take, drop}
 use lib.Dec.{eqb}
 use Rattle.meaning.specs.Words.{flat, bind}
-use Rattle.meaning.specs.Maps.{mapEntries}
+use Rattle.meaning.specs.Maps.{mapEntries, goodGlyphs}
 use Rattle.meaning.specs.Tables.{table, Table}
 use Rattle.meaning.specs.Fault.{fault}
 use Rattle.meaning.specs.Cut.{classMap?}
-use Rattle.meaning.specs.Layout.{layout}
-use Rattle.meaning.specs.Subset.{Outcome, left, refused, limit}
+use Rattle.meaning.specs.Layout.{wordsFit}
+use Rattle.meaning.specs.Subset.{Outcome, left, refused, limit, goodKind, tooBig}
 use Rattle.meaning.specs.Matching.{atPlace, match, ligate, adjust, skips}
 use Rattle.meaning.specs.Job.{ascii, job, program}
 use Rattle.meaning.specs.Calls.{call, stated}
@@ -22,12 +22,15 @@ use Rattle.meaning.specs.Rows as Rows
 use Rattle.meaning.specs.Points as Points
 use Rattle.meaning.specs.Jobs as Jobs
 use Rattle.meaning.specs.Matches as Matches
+use Rattle.limits.specs.Limits as Limits
 use Rattle.laws.specs.SoundGood.{Bytes}
-use Rattle.laws.specs.CallBack.{Passed, passed, call-reads-back}
+use Rattle.laws.specs.CallBack.{Passed, passed, left-good, call-reads-back}
 use Rattle.promises.specs.Strings.{All, Retained, new}
 use Rattle.promises.specs.Rules.{cutMatch}
 use Rattle.promises.specs.Ligatures.{cutLigated, Closed}
 use Rattle.promises.specs.Classes.{null-map}
+use Rattle.promises.specs.Sizes as Sizes
+use Rattle.promises.specs.Sizes.{refusalsBefore}
 use Rattle.promises.specs.Same as Same
 use Rattle.promises.specs.Places.{parts, Faulty, Any, Lowest}
 use Rattle.promises.specs.LowestPlace.{malformed-lowest, malformed-part}
@@ -37,7 +40,7 @@ use Rattle.promises.specs.Survives.{survives}
 use Rattle.promises.specs.JobFiles.{FaultyFile, callOf, refused-faulty, faulty-refused, sound-called}
 use Rattle.promises.specs.Wrong as Wrong
 use Rattle.promises.specs.Wrong.{Passes, refusing, copying, notWriting, writing, inventing, swaps, copiesOthers, dropsOthers}
-use Rattle.promises.specs.Refusals.{Call, answer, plain, left?, refusals, first, NoneOf, Meets, answer-meets, meets-once, given-exactly, kept-exactly, refused-untouched, refused-length, malformed-place, no-room, kept-length, kept-bytes, buffer-length, empty-on-good}
+use Rattle.promises.specs.Refusals.{Call, answer, plainWords, plain, left?, refusals, first, NoneOf, Meets, answer-meets, meets-once, given-exactly, kept-exactly, refused-untouched, refused-length, malformed-place, no-room, kept-length, kept-bytes, buffer-length, empty-on-good}
 
 -- Worked cases, by computation.
 
@@ -51,7 +54,7 @@ points = Points.each-point
 
 -- `jobs`: label jobs with what the program prints for them.
 pub jobs : map (λ r. program (r .file)) Jobs.jobs ≡ map (λ r. ascii (r .prints)) Jobs.jobs
-jobs = Jobs.each-job
+jobs = Limits.each-job
 
 -- `matches`: contexts asked at places of strings, with what they answer.
 pub matches : map (λ q. atPlace (match (table (q .kind) (flat (q .source)))) [] (q .string) (q .place)) Matches.asked ≡ map (λ q. q .answers) Matches.asked
@@ -111,8 +114,8 @@ module _ (c : Call) where
 
   -- Demand 2.
 
-  -- `kept-is-small`: what is kept has the length of the plain layout, at most the limit and at most the buffer.
-  pub kept-is-small : (answer c) .number ≡ 0 → ((answer c) .len ≡ length (plain c)) × ((answer c) .len ≤ limit) × ((answer c) .len ≤ length (c .buffer))
+  -- `kept-is-small`: what is kept has the length of the plain layout, at most the limit and at most the buffer, and each offset and count of it fits its word.
+  pub kept-is-small : (answer c) .number ≡ 0 → ((answer c) .len ≡ length (plain c)) × ((answer c) .len ≤ limit) × ((answer c) .len ≤ length (c .buffer)) × (wordsFit (plainWords c) ≡ true)
   kept-is-small = kept-length c
 
   -- Its bytes are the plain layout of what survives, and the bytes past them keep their old content.
@@ -181,6 +184,18 @@ module _ (c : Call) (bytes : BytesOf c) (kept : (answer c) .number ≡ 0) where
 -- `null-class-table`: with a null table every glyph holds class 0, which alone survives there, as 0, where some glyph is retained.
 pub null-class-table : (g : List (ℕ × ℕ)) (x : ℕ) → Retained g x → classMap? g none ≡ (0, 0) ∷ []
 null-class-table = null-map
+
+-- Bigger tables.
+
+-- `kept-as-before`: where the refusals before 8 don't apply, a plain layout of at most 65,536 bytes, which is what was kept before the limit was raised, is not refused as 9.
+-- Its bytes are the plain layout, as they were (`kept-is-plain`).
+pub kept-as-before : (c : Call) → BytesOf c → goodKind (c .kind) ≡ true → goodGlyphs (c .glyphs) ≡ true → fault (c .kind) (c .source) ≡ none → length (plain c) ≤ 65536 → tooBig (plainWords c) ≡ false
+kept-as-before c bytes k m f l = Sizes.left-fits (c .kind) (left? c) (left-good (c .kind) (c .source) (c .glyphs) (c .lookups) (bytes .source) (bytes .glyphs) (bytes .lookups) k m f) l
+
+-- `bytes-kept-before`: what was kept under the table of refusals as it was (`refusalsBefore` in Sizes.antt, where 4 and 9 go by 65,536 bytes) is kept now,
+-- with the same bytes: the plain layout of what survives, which has not changed.
+pub bytes-kept-before : (c : Call) → BytesOf c → NoneOf (refusalsBefore c) → ((answer c) .number ≡ 0) × ((answer c) .out ≡ plain c ++ drop (length (plain c)) (c .buffer))
+bytes-kept-before c bytes n = Sizes.kept-before c (kept-as-before c bytes) n
 
 -- The condition on ligatures is needed: without it the small table forms another ligature than the source.
 pub closed-needed : (Matches.less-one .number ≡ 0) × (ligate (table 3 Matches.two-ligatures) 5 (6 ∷ 7 ∷ []) ≡ some (20, 3)) × (ligate (table 3 (left Matches.less-one)) 0 (1 ∷ 2 ∷ []) ≡ some (3, 2))

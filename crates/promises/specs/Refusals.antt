@@ -8,16 +8,16 @@ use native.Mathlib.Omega.{arith}
 use lib.ListN.{length, take, drop, length-append, length-drop}
 use lib.Dec.{leb, ltb, eqb}
 use borrow.Author.Tests.{ltb-true, ltb-false, eqb-true, eqb-false, eq-eqb, ne-eqb, not-false}
-use Rattle.meaning.specs.Words.{word, inside, isSome, member}
+use Rattle.meaning.specs.Words.{word, inside, isSome, member, flat}
 use Rattle.meaning.specs.Maps.{mapEntries, goodGlyphs, goodLookups}
 use Rattle.meaning.specs.Tables.{Table, table}
 use Rattle.meaning.specs.Fault.{fault}
 use Rattle.meaning.specs.Records.{recordsWithin}
 use Rattle.meaning.specs.Cut.{cut}
-use Rattle.meaning.specs.Layout.{layout}
-use Rattle.meaning.specs.Subset.{Outcome, refused, place, limit, goodKind, hasFormat, hasDevice, laidInto, written, subset}
+use Rattle.meaning.specs.Layout.{tableWords, wordsFit}
+use Rattle.meaning.specs.Subset.{Outcome, refused, place, limit, goodKind, hasFormat, hasDevice, tooBig, laidInto, written, subset}
 use Rattle.laws.specs.Stands.{All}
-use Rattle.laws.specs.CallBack.{subset-is}
+use Rattle.laws.specs.CallBack.{subset-is, big-fit}
 use Rattle.promises.specs.Numbers.{and-left, and-right}
 use Rattle.promises.specs.Survives.{survives}
 use Rattle.promises.specs.CutSurvives.{cut-survives}
@@ -38,13 +38,17 @@ answer c = subset (c .kind) (c .source) (c .glyphs) (c .lookups) (c .buffer)
 abbrev pub left? : Call → Option Table
 left? c = cut (mapEntries (c .glyphs)) (mapEntries (c .lookups)) (table (c .kind) (c .source))
 
--- the plain layout of what is left; no bytes if nothing is
-unfoldable pub layout? : Option Table → List ℕ
-layout? none = []
-layout? (some t) = layout t
+-- the words of the plain layout of what is left; none if nothing is
+unfoldable pub words? : Option Table → List ℕ
+words? none = []
+words? (some t) = tableWords t
+
+-- the plain layout: its words, and its bytes
+abbrev pub plainWords : Call → List ℕ
+plainWords c = words? (left? c)
 
 abbrev pub plain : Call → List ℕ
-plain c = layout? (left? c)
+plain c = flat (plainWords c)
 
 -- the table of refusals of documents 01 and 02, in the written order: the number of each, and whether it applies to a call, each judged by itself
 unfoldable pub refusals : Call → List (ℕ × Bool)
@@ -67,8 +71,8 @@ refusals c =
     ∷ (12, not (recordsWithin (table (c .kind) (c .source))))
     -- nothing survives
     ∷ (8, not (survives (mapEntries (c .glyphs)) (table (c .kind) (c .source))))
-    -- the plain layout is over the limit
-    ∷ (9, ltb limit (length (plain c)))
+    -- the plain layout is over the limit, or an offset or a count of it over 65,535
+    ∷ (9, tooBig (plainWords c))
     -- the buffer is shorter than the plain layout
     ∷ (10, ltb (length (c .buffer)) (length (plain c)))
     ∷ []
@@ -109,12 +113,15 @@ tried-is c (r ∷ rs) qs y e = step (r .1) (tried-is c rs qs y e)
 
 -- the last three
 unfolded : (c : Call) (o : Option Table) → left? c ≡ o
-    → written (c .buffer) o ≡ byNumber c (cond (not (isSome o)) 8 (cond (ltb limit (length (layout? o))) 9 (cond (ltb (length (c .buffer)) (length (layout? o))) 10 0)))
-unfolding written laidInto layout? isSome lengthBy byNumber
+    → written (c .buffer) o ≡ byNumber c (cond (not (isSome o)) 8 (cond (tooBig (words? o)) 9 (cond (ltb (length (c .buffer)) (length (flat (words? o)))) 10 0)))
+unfolding written laidInto words? isSome lengthBy byNumber
 unfolded c none e = refl
-unfolded c (some t) e = step (ltb limit (length (layout t))) (ltb (length (c .buffer)) (length (layout t)))
+unfolded c (some t) e = step (tooBig (tableWords t)) (ltb (length (c .buffer)) (length bs))
   where
-    step : (b d : Bool) → cond b (refused (c .buffer) 9) (cond d (record { number = 10; len = length (layout t); out = c .buffer }) (record { number = 0; len = length (layout t); out = layout t ++ drop (length (layout t)) (c .buffer) })) ≡ byNumber c (cond b 9 (cond d 10 0))
+    bs : List ℕ
+    bs = flat (tableWords t)
+
+    step : (b d : Bool) → cond b (refused (c .buffer) 9) (cond d (record { number = 10; len = length bs; out = c .buffer }) (record { number = 0; len = length bs; out = bs ++ drop (length bs) (c .buffer) })) ≡ byNumber c (cond b 9 (cond d 10 0))
     step true d = refl
     step false true = rw e
     step false false = rw e
@@ -264,14 +271,15 @@ module _ (c : Call) where
     ltb-true (length (c .buffer)) (length (plain c)) (given-exactly (take 10 (refusals c)) 10 (ltb (length (c .buffer)) (length (plain c))) [] refl .0 h .0),
   )
 
-  -- what is kept: its length is that of the plain layout, which is at most the limit and the buffer
-  pub kept-length : (answer c) .number ≡ 0 → ((answer c) .len ≡ length (plain c)) × ((answer c) .len ≤ limit) × ((answer c) .len ≤ length (c .buffer))
+  -- what is kept: its length is that of the plain layout, which is at most the limit and the buffer, and each word of it fits 16 bits
+  pub kept-length : (answer c) .number ≡ 0 → ((answer c) .len ≡ length (plain c)) × ((answer c) .len ≤ limit) × ((answer c) .len ≤ length (c .buffer)) × (wordsFit (plainWords c) ≡ true)
   unfolding refusals lengthBy
   kept-length h =
       let l : (answer c) .len ≡ length (plain c) = answer-meets c .len ∙ rw h in
       let n = kept-exactly .0 h in
       let late = n .1 .1 .1 .1 .1 .1 .1 .1 .1 in
-      (l, omega (arith, ltb-false limit (length (plain c)) (late .0)), omega (arith, ltb-false (length (c .buffer)) (length (plain c)) (late .1 .0)))
+      let f = big-fit (plainWords c) (late .0) in
+      (l, omega (arith, f .1), omega (arith, ltb-false (length (c .buffer)) (length (plain c)) (late .1 .0)), f .0)
 
   -- its bytes are the plain layout, and those past them keep their old content
   pub kept-bytes : (answer c) .number ≡ 0 → (answer c) .out ≡ plain c ++ drop ((answer c) .len) (c .buffer)
@@ -294,7 +302,7 @@ module _ (c : Call) where
       let r = h .1 .1 .1 .1 .1 .1 in
       ap (λ (n : ℕ). eqb n 8) (answer-meets c .number)
       ∙ rw (h .0, h .1 .0, h .1 .1 .0, h .1 .1 .1 .0, h .1 .1 .1 .1 .0, h .1 .1 .1 .1 .1 .0, r .0, r .1 .0)
-      (step (survives (mapEntries (c .glyphs)) (table (c .kind) (c .source))) (ltb limit (length (plain c))) (ltb (length (c .buffer)) (length (plain c))))
+      (step (survives (mapEntries (c .glyphs)) (table (c .kind) (c .source))) (tooBig (plainWords c)) (ltb (length (c .buffer)) (length (plain c))))
     where
       step : (t big short : Bool) → eqb (cond (not t) 8 (cond big 9 (cond short 10 0))) 8 ≡ not t
       step false big short = refl

@@ -31,11 +31,11 @@ lines-length room [] h = omega arith
 lines-length zero (b ∷ bs) h = omega (arith, lines-length 15 bs (omega arith))
 lines-length (suc room) (b ∷ bs) h = omega (arith, lines-length room bs (omega arith))
 
--- the room that is enough for the text of a buffer of 65,536 bytes
+-- the room that is enough for the text of a buffer of 262,144 bytes
 unfoldable pub textRoom : ℕ
-textRoom = 135200
+textRoom = 540700
 
-pub printed-length : (r : Outcome) → length (r .out) ≤ 65536 → length (printed r) ≤ textRoom
+pub printed-length : (r : Outcome) → length (r .out) ≤ 262144 → length (printed r) ≤ textRoom
 unfolding printed ascii textRoom
 printed-length r h = step (eqb (r .number) 0)
   where

@@ -26,5 +26,5 @@ refusedText number = ascii "refused " ++ (decimal number ++ (newline ∷ []))
 
 -- a buffer of at most 65,536 bytes, and a number and a length of which the length lies in the buffer where the number says that it is kept
 pub record Printable (number len : ℕ) (bytes : List ℕ) : Type 0 where
-  pub small : length bytes ≤ 65536
+  pub small : length bytes ≤ 262144
   pub within : number ≡ 0 → len ≤ length bytes

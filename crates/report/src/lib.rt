@@ -83,7 +83,7 @@ fn put_hex(text: &mut [u8], at: usize, b: usize) -> usize
 
 // The bytes in hex from `at` on, 16 a line; `room` is how many more the line takes. Each line ends in a newline, the last one too.
 fn put_lines(text: &mut [u8], at: usize, bytes: &[u8]) -> usize
-    requires { ⌜ (at < 65536) × (length (now bytes) ≤ 65536) ⌝ }
+    requires { ⌜ (at < 65536) × (length (now bytes) ≤ 262144) ⌝ }
     ensures { λ r. ⌜ Put (now (text .entry)) at (hexLines 16 (now (bytes .entry))) (now (text .exit)) r ⌝ }
 {
     let mut p = at;
@@ -104,7 +104,7 @@ fn put_lines(text: &mut [u8], at: usize, bytes: &[u8]) -> usize
 
 // What is printed of the bytes that are kept.
 fn put_kept(text: &mut [u8], bytes: &[u8]) -> usize
-    requires { ⌜ length (now bytes) ≤ 65536 ⌝ }
+    requires { ⌜ length (now bytes) ≤ 262144 ⌝ }
     ensures { λ r. ⌜ Put (now (text .entry)) 0 (keptText (now (bytes .entry))) (now (text .exit)) r ⌝ }
 {
     let p = put_text(text, 0, b"kept ");

@@ -1,31 +1,48 @@
 -- What was laid, as 01's number, length and buffer.
 use Prim.Native.Nat.{ℕ, _≤_, _<_}
 use mathlib.Core.Path.{_≡_, refl, sym, ap, _∙_}
-use mathlib.Core.Bool.{Bool, true, false, cond, true≢false}
+use mathlib.Core.Bool.{Bool, true, false, cond, _||_, not, true≢false}
 use mathlib.Core.List.{List, _++_}
-use native.Mathlib.Decide.{decLt}
 use native.Mathlib.Omega.{arith}
 use lib.ListN.{length, drop}
 use lib.Seq.{sets}
 use lib.Dec.{ltb}
 use borrow.Author.Tests.{ltb-false, lt-ltb}
-use Rattle.meaning.specs.Subset.{Outcome, refused, limit, laidInto}
+use Rattle.meaning.specs.Words.{flat}
+use Rattle.meaning.specs.Layout.{wordsFit}
+use Rattle.meaning.specs.Subset.{Outcome, refused, limit, tooBig, laidInto}
 use Rattle.laws.specs.Written.{sets-front}
 use Rattle.room.specs.declared.Laid.{Laid}
 use Rattle.room.specs.declared.Laid.the-variants.{Nothing, TooBig, NoRoom, Kept}
 
--- what becomes of a layout of `size` bytes in a buffer of `len` bytes
-unfoldable pub laidFor : ℕ → ℕ → Laid
-laidFor size len = cond (ltb limit size) TooBig (cond (ltb len size) (NoRoom size) (Kept size))
+-- what becomes of a layout of `size` bytes, whose words fit or not, in a buffer of `len` bytes
+unfoldable pub laidFor : ℕ → Bool → ℕ → Laid
+laidFor size fits len = cond (ltb limit size || not fits) TooBig (cond (ltb len size) (NoRoom size) (Kept size))
 
--- sizes that are the same, or both over the limit, get the same answer
-pub same-room : (a b len : ℕ) → (a ≤ 65536 → a ≡ b) → (65536 < a → 65536 < b) → laidFor a len ≡ laidFor b len
-unfolding laidFor limit
-same-room a b len same over = step (decLt 65536 a)
+-- the bytes of a layout, whose words fit or not, laid into the buffer
+unfoldable pub laidAs : Bool → List ℕ → List ℕ → Outcome
+laidAs fits out bytes =
+    cond (ltb limit (length bytes) || not fits) (refused out 9)
+    (cond (ltb (length out) (length bytes)) (record { number = 10; len = length bytes; out = out })
+    (record { number = 0; len = length bytes; out = bytes ++ drop (length bytes) out }))
+
+-- words are laid as their bytes, where it is known whether they fit
+pub laid-words : (out ws : List ℕ) {fits : Bool} → wordsFit ws ≡ fits → laidAs fits out (flat ws) ≡ laidInto out ws
+unfolding laidAs laidInto tooBig
+laid-words out ws e = rw e refl
+
+-- bytes over the limit, or words that don't fit, are refused as 9
+pub laid-over : (fits : Bool) (out bytes : List ℕ) → limit < length bytes → laidAs fits out bytes ≡ refused out 9
+unfolding laidAs
+laid-over fits out bytes h = rw (lt-ltb limit (length bytes) h) refl
+
+pub laid-unfit : (out bytes : List ℕ) → laidAs false out bytes ≡ refused out 9
+unfolding laidAs
+laid-unfit out bytes = step (ltb limit (length bytes))
   where
-    step : Dec (65536 < a) → laidFor a len ≡ laidFor b len
-    step (yes h) = rw (lt-ltb 65536 a h, lt-ltb 65536 b (over h)) refl
-    step (no h) = ap (λ (n : ℕ). laidFor n len) (same (omega arith))
+    step : (a : Bool) → cond (a || true) (refused out 9) (cond (ltb (length out) (length bytes)) (record { number = 10; len = length bytes; out = out }) (record { number = 0; len = length bytes; out = bytes ++ drop (length bytes) out })) ≡ refused out 9
+    step true = refl
+    step false = refl
 
 -- 01's number and length for each case, with the buffer as it is left
 abbrev pub outcomeOf : Laid → List ℕ → Outcome
@@ -41,11 +58,11 @@ isKept TooBig = false
 isKept (NoRoom n) = false
 isKept (Kept n) = true
 
-module _ (out bytes : List ℕ) where
+module _ (fits : Bool) (out bytes : List ℕ) where
   -- the layout is too big, or there is no room: nothing is written
-  pub refused-room : {r : Laid} → r ≡ laidFor (length bytes) (length out) → isKept r ≡ false → outcomeOf r out ≡ laidInto out bytes
-  unfolding laidFor laidInto
-  refused-room {r} e k = rw e (step (ltb limit (length bytes)) (ltb (length out) (length bytes)) (sym (ap isKept e) ∙ k))
+  pub refused-room : {r : Laid} → r ≡ laidFor (length bytes) fits (length out) → isKept r ≡ false → outcomeOf r out ≡ laidAs fits out bytes
+  unfolding laidFor laidAs
+  refused-room {r} e k = rw e (step (ltb limit (length bytes) || not fits) (ltb (length out) (length bytes)) (sym (ap isKept e) ∙ k))
     where
       step : (a b : Bool) → isKept (cond a TooBig (cond b (NoRoom (length bytes)) (Kept (length bytes)))) ≡ false
           → outcomeOf (cond a TooBig (cond b (NoRoom (length bytes)) (Kept (length bytes)))) out
@@ -55,9 +72,9 @@ module _ (out bytes : List ℕ) where
       step false false h = absurd (true≢false h)
 
   -- there is room, and the layout is written from the front
-  pub kept-room : {r : Laid} {after : List ℕ} → r ≡ laidFor (length bytes) (length out) → isKept r ≡ true → after ≡ sets out 0 bytes → outcomeOf r after ≡ laidInto out bytes
-  unfolding laidFor laidInto
-  kept-room {r} {after} e k f = rw (e, f) (step (ltb limit (length bytes)) (ltb (length out) (length bytes)) refl (sym (ap isKept e) ∙ k))
+  pub kept-room : {r : Laid} {after : List ℕ} → r ≡ laidFor (length bytes) fits (length out) → isKept r ≡ true → after ≡ sets out 0 bytes → outcomeOf r after ≡ laidAs fits out bytes
+  unfolding laidFor laidAs
+  kept-room {r} {after} e k f = rw (e, f) (step (ltb limit (length bytes) || not fits) (ltb (length out) (length bytes)) refl (sym (ap isKept e) ∙ k))
     where
       step : (a b : Bool) → ltb (length out) (length bytes) ≡ b → isKept (cond a TooBig (cond b (NoRoom (length bytes)) (Kept (length bytes)))) ≡ true
           → outcomeOf (cond a TooBig (cond b (NoRoom (length bytes)) (Kept (length bytes)))) (sets out 0 bytes)
@@ -65,12 +82,3 @@ module _ (out bytes : List ℕ) where
       step true b t h = absurd (true≢false (sym h))
       step false true t h = absurd (true≢false (sym h))
       step false false t h = ap (λ (l : List ℕ). record { number = 0; len = length bytes; out = l }) (sets-front out bytes (ltb-false (length out) (length bytes) t))
-
-  -- the size is at most the limit where there is room
-  pub kept-small : {r : Laid} → r ≡ laidFor (length bytes) (length out) → isKept r ≡ true → length bytes ≤ limit
-  unfolding laidFor
-  kept-small {r} e k = step (ltb limit (length bytes)) refl (sym (ap isKept e) ∙ k)
-    where
-      step : (a : Bool) → ltb limit (length bytes) ≡ a → isKept (cond a TooBig (cond (ltb (length out) (length bytes)) (NoRoom (length bytes)) (Kept (length bytes)))) ≡ true → length bytes ≤ limit
-      step true t h = absurd (true≢false (sym h))
-      step false t h = ltb-false limit (length bytes) t

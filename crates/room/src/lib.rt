@@ -3,9 +3,12 @@ ghost use mathlib.Core.Path.{_≡_};
 ghost use Rattle.room.specs.Laid.{laidFor};
 
 // The most bytes of a source and of a plain layout.
-pub const LIMIT: usize = 65536;
+pub const LIMIT: usize = 262144;
 
-// What became of a table: nothing of it survives, its plain layout is over the limit, the buffer is shorter than the layout, or it was laid, with the layout's length.
+// The highest offset or count that fits a word.
+pub const HIGHEST: usize = 65535;
+
+// What became of a table: nothing of it survives, its plain layout is over the limit or has an offset or a count that doesn't fit a word, the buffer is shorter than the layout, or it was laid, with the layout's length.
 pub enum Laid {
     Nothing,
     TooBig,
@@ -13,11 +16,14 @@ pub enum Laid {
     Kept(usize),
 }
 
-// What becomes of a plain layout of `size` bytes in a buffer of `len` bytes.
-pub fn room(size: usize, len: usize) -> Laid
-    ensures { λ r. ⌜ r ≡ laidFor size len ⌝ }
+// What becomes of a plain layout of `size` bytes in a buffer of `len` bytes; `fits` says whether each of its offsets and counts fits a word.
+pub fn room(size: usize, fits: bool, len: usize) -> Laid
+    ensures { λ r. ⌜ r ≡ laidFor size fits len ⌝ }
 {
     if LIMIT < size {
+        return Laid::TooBig;
+    }
+    if !fits {
         return Laid::TooBig;
     }
     if len < size {

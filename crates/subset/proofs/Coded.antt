@@ -8,23 +8,23 @@ use native.Mathlib.Omega.{arith}
 use lib.ListN.{length, drop, getD}
 use lib.Dec.{ltb, eqb}
 use borrow.Author.Tests.{ltb-false}
-use Rattle.meaning.specs.Words.{word, inside, isSome}
+use Rattle.meaning.specs.Words.{word, inside, isSome, flat}
 use Rattle.meaning.specs.Maps.{mapEntries, goodGlyphs, goodLookups}
 use Rattle.meaning.specs.Tables.{Table, table}
 use Rattle.meaning.specs.Fault.{fault}
 use Rattle.meaning.specs.Records.{recordsWithin}
 use Rattle.meaning.specs.Cut.{cut}
-use Rattle.meaning.specs.Layout.{layout}
-use Rattle.meaning.specs.Subset.{Outcome, refused, limit, goodKind, hasFormat, hasDevice, laidInto, written, subset}
+use Rattle.meaning.specs.Layout.{wordsFit, tableWords}
+use Rattle.meaning.specs.Subset.{Outcome, refused, limit, goodKind, hasFormat, hasDevice, tooBig, laidInto, written, subset}
 use Rattle.laws.specs.CallBack.{subset-is}
 use Rattle.subset.proofs.Near.{place-near}
 use Rattle.subset.specs.Answers.{numberOf, lengthOf, outcome, decoded}
 use Rattle.subset.specs.declared.Answer.{Answer}
 use Rattle.subset.specs.declared.Answer.the-variants.{Kept, BadKind, BadGlyphs, BadLookups, LongSource, BadFormat, Malformed, Device, PastRule, Nothing, TooBig, NoRoom, BadJob}
 
--- the length, a place or a number of bytes, is not over twice the highest offset
+-- the length, a place or a number of bytes, is not over the limit
 record Short (r : Outcome) : Type 0 where
-  most : r .len ≤ 131070
+  most : r .len ≤ 262144
 
 -- one of two that are short is short
 or-short : (b : Bool) {x y : Outcome} → Short x → Short y → Short (cond b x y)
@@ -35,20 +35,24 @@ or-short false h k = k
 or-refused : (b : Bool) (out : List ℕ) (n : ℕ) {y : Outcome} → Short y → Short (cond b (refused out n) y)
 or-refused b out n h = or-short b (record { most = omega arith }) h
 
-laid-short : (out bytes : List ℕ) → Short (laidInto out bytes)
-unfolding laidInto limit
-laid-short out bytes = step (ltb limit (length bytes)) (ltb (length out) (length bytes)) refl
+laid-short : (out ws : List ℕ) → Short (laidInto out ws)
+unfolding laidInto tooBig limit
+laid-short out ws = step (ltb limit (length bytes)) (not (wordsFit ws)) (ltb (length out) (length bytes)) refl
   where
-    step : (a b : Bool) → ltb limit (length bytes) ≡ a
-        → Short (cond a (refused out 9) (cond b (record { number = 10; len = length bytes; out = out }) (record { number = 0; len = length bytes; out = bytes ++ drop (length bytes) out })))
-    step true b e = record { most = omega arith }
-    step false true e = record { most = omega (arith, ltb-false limit (length bytes) e) }
-    step false false e = record { most = omega (arith, ltb-false limit (length bytes) e) }
+    bytes : List ℕ
+    bytes = flat ws
+
+    step : (a f b : Bool) → ltb limit (length bytes) ≡ a
+        → Short (cond (a || f) (refused out 9) (cond b (record { number = 10; len = length bytes; out = out }) (record { number = 0; len = length bytes; out = bytes ++ drop (length bytes) out })))
+    step true f b e = record { most = omega arith }
+    step false true b e = record { most = omega arith }
+    step false false true e = record { most = omega (arith, ltb-false limit (length bytes) e) }
+    step false false false e = record { most = omega (arith, ltb-false limit (length bytes) e) }
 
 written-short : (out : List ℕ) (o : Option Table) → Short (written out o)
 unfolding written
 written-short out none = record { most = omega arith }
-written-short out (some t) = laid-short out (layout t)
+written-short out (some t) = laid-short out (tableWords t)
 
 -- the length of a call on a source of bytes
 subset-short : (kind : ℕ) (s g l out : List ℕ) → ((i : ℕ) → getD s i 0 < 256) → Short (subset kind s g l out)
@@ -59,7 +63,7 @@ subset-short kind s g l out bytes =
     (or-refused (not (goodLookups l)) out 3
     (or-refused (ltb limit (length s)) out 4
     (or-refused (inside s 0 2 && not (hasFormat kind (word s 0))) out 5
-    (or-short (isSome (fault kind s)) (record { most = place-near s bytes kind })
+    (or-short (isSome (fault kind s)) (record { most = omega (arith, place-near s bytes kind) })
     (or-refused (eqb kind 4 && (hasDevice (word s 4) || hasDevice (word s 6))) out 7
     (or-refused (not (recordsWithin (table kind s))) out 12 (written-short out (cut (mapEntries g) (mapEntries l) (table kind s)))))))))))
 
@@ -81,7 +85,7 @@ number-most BadJob = omega arith
 
 module _ (kind : ℕ) (s g l out : List ℕ) (a : Answer) {after : List ℕ} (e : outcome a after ≡ subset kind s g l out) (bytes : (i : ℕ) → getD s i 0 < 256) where
   -- the length of an answer that a call gives
-  pub length-most : lengthOf a ≤ 131070
+  pub length-most : lengthOf a ≤ 262144
   length-most = rw (← e) at (subset-short kind s g l out bytes .most)
 
   -- what such an answer is as one number

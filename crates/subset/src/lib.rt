@@ -220,7 +220,7 @@ pub fn length_of(a: Answer) -> usize
 
 // An answer as one number: its number times 2^32, plus its length.
 fn one_number(a: Answer) -> u64
-    requires { ⌜ lengthOf a ≤ 131070 ⌝ }
+    requires { ⌜ lengthOf a ≤ 262144 ⌝ }
     ensures { λ r. ⌜ r ≡ numberOf a * 0x1_0000_0000 + lengthOf a ⌝ }
 {
     number_of(a) as u64 * 0x1_0000_0000 + length_of(a) as u64

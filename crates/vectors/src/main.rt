@@ -27,7 +27,7 @@ const TIMES: usize = 3;
 const LONGER: usize = 16;
 
 // The longest buffer that is lent.
-const SPACE: usize = 65552;
+const SPACE: usize = 65682;
 
 fn text(s: &[u8]) {
     io::write_all(1, s);
@@ -106,7 +106,7 @@ fn agreed(
     kept: &[u8],
     room: usize,
 ) -> usize
-    requires { ⌜ room ≤ 65552 ⌝ }
+    requires { ⌜ room ≤ 65682 ⌝ }
     ensures { λ r. ⌜ r ≤ 1 ⌝ }
 {
     let mut space = [0u8; SPACE];
@@ -293,7 +293,7 @@ fn run(file: &[u8], made: usize, good: usize)
 fn longest_source(kind: usize) -> usize
     ensures { λ r. ⌜ r ≤ 3 ⌝ }
 {
-    let source = [0u8; 65536];
+    let source = [0u8; 262144];
     let good = refused_calls(kind, &source, b"", b"", 5, 0);
     verdict(b"the longest source of kind ", kind, good)
 }
@@ -302,7 +302,7 @@ fn longest_source(kind: usize) -> usize
 fn long_source(kind: usize) -> usize
     ensures { λ r. ⌜ r ≤ 3 ⌝ }
 {
-    let source = [0u8; 65537];
+    let source = [0u8; 262145];
     let good = refused_calls(kind, &source, b"", b"", 4, 0);
     verdict(b"a longer source of kind ", kind, good)
 }
@@ -383,30 +383,30 @@ fn put_result(out: &mut [u8], places: usize, n: usize)
     put_covers(out, at, places, n, 2);
 }
 
-// How many agree of the calls whose plain layout has 65,536 bytes: 6,553 places of two glyphs.
-fn largest_layout() -> usize
+// How many agree of the calls whose plain layout has its last coverage at 65,534: 490 places of 64 glyphs, in 65,666 bytes.
+fn highest_offset() -> usize
     ensures { λ r. ⌜ r ≤ 3 ⌝ }
 {
-    let mut source = [0u8; 13120];
-    put_source(&mut source, 6553, 2);
-    let mut glyphs = [0u8; 8];
-    put_map(&mut glyphs, 2);
-    let mut kept = [0u8; 65536];
-    put_result(&mut kept, 6553, 2);
+    let mut source = [0u8; 1118];
+    put_source(&mut source, 490, 64);
+    let mut glyphs = [0u8; 256];
+    put_map(&mut glyphs, 64);
+    let mut kept = [0u8; 65666];
+    put_result(&mut kept, 490, 64);
     let good = kept_calls(1, &source, &glyphs, b"", &kept);
-    verdict(b"a plain layout of ", 65536, good)
+    verdict(b"a coverage at ", 65534, good)
 }
 
-// How many agree of the calls whose plain layout has 65,538 bytes: 5,461 places of three glyphs.
-fn larger_layout() -> usize
+// How many agree of the calls whose plain layout would have it at 65,536: 8,192 places of one glyph.
+fn higher_offset() -> usize
     ensures { λ r. ⌜ r ≤ 3 ⌝ }
 {
-    let mut source = [0u8; 10938];
-    put_source(&mut source, 5461, 3);
-    let mut glyphs = [0u8; 12];
-    put_map(&mut glyphs, 3);
+    let mut source = [0u8; 16396];
+    put_source(&mut source, 8192, 1);
+    let mut glyphs = [0u8; 4];
+    put_map(&mut glyphs, 1);
     let good = refused_calls(1, &source, &glyphs, b"", 9, 0);
-    verdict(b"a plain layout of ", 65538, good)
+    verdict(b"a coverage at ", 65536, good)
 }
 
 // How many agree of the calls on 9,000 covered glyphs.
@@ -545,7 +545,7 @@ fn limits() -> usize
 {
     let contexts = sources(1) + sources(2);
     let others = sources(3) + sources(4);
-    contexts + others + largest_layout() + larger_layout()
+    contexts + others + highest_offset() + higher_offset()
 }
 
 fn main() {

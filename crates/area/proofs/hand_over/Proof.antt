@@ -15,13 +15,13 @@ returns : tie.Need-returns
 returns c =
     let r = c .before in
     let a = r .before .before .before .args in
-    hand-refused (a .area .now) (a .head) (a .first) (a .end - a .first) (a .out .now) (r .room .ensures) (not-kept (r .room .result) (c .match .keys2))
+    hand-refused (a .area .now) (a .head) (a .first) (a .end - a .first) (a .fits) (a .out .now) (r .room .ensures) (not-kept (r .room .result) (c .match .keys2))
 
 copy-requires : tie.Need-copy-requires
 copy-requires c κs =
     let r = c .before .before .before in
     let a = r .before .before .before in
-    let room = hand-room (a .args .area .now) (a .args .head) (a .args .first) (a .args .end - a .args .first) (a .args .out .now) (r .room .ensures) (ap isKept (c .before .enum-told .given .1)) in
+    let room = hand-room (a .args .area .now) (a .args .head) (a .args .first) (a .args .end - a .args .first) (a .args .fits) (a .args .out .now) (r .room .ensures) (ap isKept (c .before .enum-told .given .1)) in
     (omega (arith, a .pre), omega (arith, room))
 
 copy-requires-2 : tie.Need-copy-requires-2
@@ -29,7 +29,7 @@ copy-requires-2 c κs =
     let t = c .before .before .before .before .before in
     let r = t .before .before in
     let a = r .before .before .before in
-    let room = hand-room (a .args .area .now) (a .args .head) (a .args .first) (a .args .end - a .args .first) (a .args .out .now) (r .room .ensures) (ap isKept (t .enum-told .given .1)) in
+    let room = hand-room (a .args .area .now) (a .args .head) (a .args .first) (a .args .end - a .args .first) (a .args .fits) (a .args .out .now) (r .room .ensures) (ap isKept (t .enum-told .given .1)) in
     let same = length-sets (a .args .out .now) 0 (part (a .args .area .now) 0 (a .args .head)) in
     (omega (arith, a .pre), omega (arith, room, ap length (c .before .before .before .copy .ensures) ∙ same))
 
@@ -40,7 +40,7 @@ returns-2 c =
     let t = v .before .before in
     let r = t .before .before in
     let a = r .before .before .before .args in
-    hand-kept (a .area .now) (a .head) (a .first) (a .end - a .first) (a .out .now) (r .room .ensures) (ap isKept (t .enum-told .given .1)) (v .copy .ensures) (w .copy2 .ensures)
+    hand-kept (a .area .now) (a .head) (a .first) (a .end - a .first) (a .fits) (a .out .now) (r .room .ensures) (ap isKept (t .enum-told .given .1)) (v .copy .ensures) (w .copy2 .ensures)
 
 pub hand-over-spec : {M : Type 1} → statement M
 hand-over-spec =

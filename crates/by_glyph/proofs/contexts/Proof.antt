@@ -14,7 +14,7 @@ cut-contexts-requires : tie.Need-cut-contexts-requires
 cut-contexts-requires c κs =
     let a = c .before .before .before .before .before .before .before .before .before .before in
     let l = c .before .before .before .least .ensures in
-    (a .pre .0, a .pre .1, a .pre .2, a .pre .3, omega (arith, front-length (a .args .area .now) l, l .second))
+    (a .pre .0, a .pre .1, a .pre .2, a .pre .3, omega (arith, front-length (a .args .area .now) l, l .second), a .pre .4)
 
 returns : tie.Need-returns
 returns c =

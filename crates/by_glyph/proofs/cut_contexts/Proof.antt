@@ -1,3 +1,5 @@
+use Rattle.laws.specs.SoundGood.{bytes-all}
+use Rattle.by_glyph.proofs.Fitting.{rules-fit}
 use mathlib.Core.Path.{refl, sym, _∙_}
 use native.Mathlib.Omega.{arith}
 use borrow.Author.Needs.{needs}
@@ -37,7 +39,7 @@ add-cut-sets-2 c = omega (arith, c .before .before .before .before .before .befo
 cut-sets-requires : tie.Need-cut-sets-requires
 cut-sets-requires c κs =
     let a = c .before .before .before .before .before .before .before .before .before .before .before .before .before .before .before .before .before .before .before .before .before in
-    (rules-asked _ (a .pre .1) (a .args .chained) (a .pre .0), two-laid (c .before .before .before .before .before .before .before .before .before .before .before .lay .ensures) (c .before .before .before .before .before .before .before .before .if2 .left) (a .pre .2) (c .before .before .before .before .before .before .lay2 .ensures) (c .before .before .before .if3 .left) (a .pre .3), a .pre .4, λ z. c .before .before .before .before .before .before .before .before .before .before .before .before .before .if1 .left (c .before .before .before .before .before .before .before .before .before .before .before .before .before .before .word-inside .ensures .0 ∙ z), refl)
+    (rules-asked _ (λ i. omega (arith, c .before .before .before .before .before .before .before .before .before .before .before .before .before .before .before .before .before .before .before .before .shared-slice-known .given i)) (a .pre .1) (a .args .chained) (a .pre .0), two-laid (c .before .before .before .before .before .before .before .before .before .before .before .lay .ensures) (c .before .before .before .before .before .before .before .before .if2 .left) (a .pre .2) (c .before .before .before .before .before .before .lay2 .ensures) (c .before .before .before .if3 .left) (a .pre .3), a .pre .4, λ z. c .before .before .before .before .before .before .before .before .before .before .before .before .before .if1 .left (c .before .before .before .before .before .before .before .before .before .before .before .before .before .before .word-inside .ensures .0 ∙ z), refl)
 
 returns-4 : tie.Need-returns-4
 returns-4 c =
@@ -45,7 +47,10 @@ returns-4 c =
     let l = c .before .before .before .before .before .before .before .before .before .before .before .before .before .before .before .before .before .before .lay .ensures in
     let n = c .before .before .before .before .before .before .before .before .before .before .before .before .before .lay2 .ensures in
     let g = glyphs-stand l (c .before .before .before .before .before .before .before .before .before .before .before .before .before .before .before .if2 .left) (a .pre .2) n in
-    two-answered l (a .pre .2) (λ i. omega (arith, c .before .before .before .before .before .before .before .before .before .before .before .before .before .before .before .before .before .before .before .before .before .before .before .before .before .before .shared-slice-known2 .given i)) _ (rules-cut _ _ _ g _ g g (n .holds (c .before .before .before .before .before .before .before .before .before .before .if3 .left)) (a .args .chained) (λ z. c .before .before .before .before .before .before .before .before .before .before .before .before .before .before .before .before .before .before .before .before .if1 .left (c .before .before .before .before .before .before .before .before .before .before .before .before .before .before .before .before .before .before .before .before .before .word-inside .ensures .0 ∙ z)) (rules-asked _ (a .pre .1) (a .args .chained) (a .pre .0))) n (a .pre .3) (c .before .before .before .before .before .before .cut-sets .ensures)
+    let bs = bytes-all (a .args .src .now) (λ i. omega (arith, c .before .before .before .before .before .before .before .before .before .before .before .before .before .before .before .before .before .before .before .before .before .before .before .before .before .before .before .shared-slice-known .given i)) in
+    let bg = bytes-all (a .args .glyphs .now) (λ i. omega (arith, c .before .before .before .before .before .before .before .before .before .before .before .before .before .before .before .before .before .before .before .before .before .before .before .before .before .before .shared-slice-known2 .given i)) in
+    let bl = bytes-all (a .args .lookups .now) (λ i. omega (arith, c .before .before .before .before .before .before .before .before .before .before .before .before .before .before .before .before .before .before .before .before .before .before .before .before .before .shared-slice-known3 .given i)) in
+    two-answered l (a .pre .2) (λ i. omega (arith, c .before .before .before .before .before .before .before .before .before .before .before .before .before .before .before .before .before .before .before .before .before .before .before .before .before .before .shared-slice-known2 .given i)) _ (rules-fit (a .args .src .now) (a .args .glyphs .now) bs bg (a .pre .2) (a .pre .5) (a .args .chained) (a .args .lookups .now) bl (a .pre .0)) (rules-cut _ _ _ g _ g g (n .holds (c .before .before .before .before .before .before .before .before .before .before .if3 .left)) (a .args .chained) (λ z. c .before .before .before .before .before .before .before .before .before .before .before .before .before .before .before .before .before .before .before .before .if1 .left (c .before .before .before .before .before .before .before .before .before .before .before .before .before .before .before .before .before .before .before .before .before .word-inside .ensures .0 ∙ z)) (rules-asked _ (λ i. omega (arith, c .before .before .before .before .before .before .before .before .before .before .before .before .before .before .before .before .before .before .before .before .before .before .before .before .before .before .before .shared-slice-known .given i)) (a .pre .1) (a .args .chained) (a .pre .0))) n (a .pre .3) (c .before .before .before .before .before .before .cut-sets .ensures)
 
 pub cut-contexts-spec : {M : Type 1} → statement M
 cut-contexts-spec =

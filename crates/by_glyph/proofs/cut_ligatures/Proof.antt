@@ -1,3 +1,5 @@
+use Rattle.laws.specs.SoundGood.{bytes-all}
+use Rattle.by_glyph.proofs.Fitting.{ligatures-fit}
 use mathlib.Core.Path.{refl, sym, _∙_}
 use native.Mathlib.Omega.{arith}
 use borrow.Author.Needs.{needs}
@@ -22,13 +24,15 @@ add-cut-sets c = omega (arith, c .before .before .before .before .lay .ensures .
 cut-sets-requires : tie.Need-cut-sets-requires
 cut-sets-requires c κs =
     let a = c .before .before .before .before .before .before .before .before .before .before .before .before .before .before .before in
-    (ligatures-asked _ (a .pre .1) (a .pre .0), one-laid (c .before .before .before .before .before .before .lay .ensures) (c .before .before .before .if2 .left) (a .pre .2), a .pre .3, λ z. c .before .before .before .before .before .before .before .before .if1 .left (c .before .before .before .before .before .before .before .before .before .word-inside .ensures .0 ∙ z), refl)
+    (ligatures-asked _ (λ i. omega (arith, c .before .before .before .before .before .before .before .before .before .before .before .before .before .before .shared-slice-known .given i)) (a .pre .1) (a .pre .0), one-laid (c .before .before .before .before .before .before .lay .ensures) (c .before .before .before .if2 .left) (a .pre .2), a .pre .3, λ z. c .before .before .before .before .before .before .before .before .if1 .left (c .before .before .before .before .before .before .before .before .before .word-inside .ensures .0 ∙ z), refl)
 
 returns-3 : tie.Need-returns-3
 returns-3 c =
     let a = c .before .before .before .before .before .before .before .before .before .before .before .before .before .before .before .before .before .before .before .before .before .before in
     let l = c .before .before .before .before .before .before .before .before .before .before .before .before .before .lay .ensures in
-    one-answered l (a .pre .2) (λ i. omega (arith, c .before .before .before .before .before .before .before .before .before .before .before .before .before .before .before .before .before .before .before .before .shared-slice-known2 .given i)) _ (ligatures-cut _ _ _ (l .holds (c .before .before .before .before .before .before .before .before .before .before .if2 .left)) (λ z. c .before .before .before .before .before .before .before .before .before .before .before .before .before .before .before .if1 .left (c .before .before .before .before .before .before .before .before .before .before .before .before .before .before .before .before .word-inside .ensures .0 ∙ z)) (ligatures-asked _ (a .pre .1) (a .pre .0))) (c .before .before .before .before .before .before .cut-sets .ensures)
+    let bs = bytes-all (a .args .src .now) (λ i. omega (arith, c .before .before .before .before .before .before .before .before .before .before .before .before .before .before .before .before .before .before .before .before .before .shared-slice-known .given i)) in
+    let bg = bytes-all (a .args .glyphs .now) (λ i. omega (arith, c .before .before .before .before .before .before .before .before .before .before .before .before .before .before .before .before .before .before .before .before .shared-slice-known2 .given i)) in
+    one-answered l (a .pre .2) (λ i. omega (arith, c .before .before .before .before .before .before .before .before .before .before .before .before .before .before .before .before .before .before .before .before .shared-slice-known2 .given i)) _ (ligatures-fit (a .args .src .now) (a .args .glyphs .now) bs bg (a .pre .2) (a .pre .4) (a .pre .0)) (ligatures-cut _ _ _ (l .holds (c .before .before .before .before .before .before .before .before .before .before .if2 .left)) (λ z. c .before .before .before .before .before .before .before .before .before .before .before .before .before .before .before .if1 .left (c .before .before .before .before .before .before .before .before .before .before .before .before .before .before .before .before .word-inside .ensures .0 ∙ z)) (ligatures-asked _ (λ i. omega (arith, c .before .before .before .before .before .before .before .before .before .before .before .before .before .before .before .before .before .before .before .before .before .shared-slice-known .given i)) (a .pre .1) (a .pre .0))) (c .before .before .before .before .before .before .cut-sets .ensures)
 
 pub cut-ligatures-spec : {M : Type 1} → statement M
 cut-ligatures-spec =

@@ -1,3 +1,5 @@
+use Rattle.laws.specs.SoundGood.{bytes-all}
+use Rattle.by_glyph.proofs.Fitting.{pairs-fit}
 use mathlib.Core.Path.{refl, sym, _∙_}
 use native.Mathlib.Omega.{arith}
 use Rattle.by_glyph.specs.PairTables.{pairs-null}
@@ -22,13 +24,15 @@ add-cut-pair-sets c = omega (arith, c .before .before .before .before .lay .ensu
 cut-pair-sets-requires : tie.Need-cut-pair-sets-requires
 cut-pair-sets-requires c κs =
     let a = c .before .before .before .before .before .before .before .before .before .before .before .before .before .before .before in
-    (pairs-asked _ (a .pre .1) (a .pre .0), one-laid (c .before .before .before .before .before .before .lay .ensures) (c .before .before .before .if2 .left) (a .pre .2), a .pre .3, λ z. c .before .before .before .before .before .before .before .before .if1 .left (c .before .before .before .before .before .before .before .before .before .word-inside .ensures .0 ∙ z))
+    (pairs-asked _ (λ i. omega (arith, c .before .before .before .before .before .before .before .before .before .before .before .before .before .before .shared-slice-known .given i)) (a .pre .1) (a .pre .0), one-laid (c .before .before .before .before .before .before .lay .ensures) (c .before .before .before .if2 .left) (a .pre .2), a .pre .3, λ z. c .before .before .before .before .before .before .before .before .if1 .left (c .before .before .before .before .before .before .before .before .before .word-inside .ensures .0 ∙ z))
 
 returns-3 : tie.Need-returns-3
 returns-3 c =
     let a = c .before .before .before .before .before .before .before .before .before .before .before .before .before .before .before .before .before .before .before .before .before .before in
     let l = c .before .before .before .before .before .before .before .before .before .before .before .before .before .lay .ensures in
-    one-answered l (a .pre .2) (λ i. omega (arith, c .before .before .before .before .before .before .before .before .before .before .before .before .before .before .before .before .before .before .before .before .shared-slice-known2 .given i)) _ refl (c .before .before .before .before .before .before .cut-pair-sets .ensures)
+    let bs = bytes-all (a .args .src .now) (λ i. omega (arith, c .before .before .before .before .before .before .before .before .before .before .before .before .before .before .before .before .before .before .before .before .before .shared-slice-known .given i)) in
+    let bg = bytes-all (a .args .glyphs .now) (λ i. omega (arith, c .before .before .before .before .before .before .before .before .before .before .before .before .before .before .before .before .before .before .before .before .shared-slice-known2 .given i)) in
+    one-answered l (a .pre .2) (λ i. omega (arith, c .before .before .before .before .before .before .before .before .before .before .before .before .before .before .before .before .before .before .before .before .shared-slice-known2 .given i)) _ (pairs-fit (a .args .src .now) (a .args .glyphs .now) bs bg (a .pre .2) (a .pre .4) (a .pre .0)) refl (c .before .before .before .before .before .before .cut-pair-sets .ensures)
 
 pub cut-pairs-spec : {M : Type 1} → statement M
 cut-pairs-spec =

@@ -30,7 +30,7 @@ shared-within-requires t c κs =
 sets-within-requires : (t : ℕ) → shared-within-lts.Need-sets-within-requires (shared-within-below t, shared-within.Post, sets-within-reads.Asked, sets-within-reads.Learnt) (shared-within-at t) shared-within.Post
 sets-within-requires t c κs =
     let p = c .before .before .before .pre in
-    (p .1 .0, p .1 .1, none-marked 65536)
+    (p .1 .0, p .1 .1, none-marked 131072)
 
 pub +shared-within-spec : {M : Type 1} → statement M
 +shared-within-spec =

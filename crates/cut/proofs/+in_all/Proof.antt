@@ -5,7 +5,7 @@ use lib.ListN.{length}
 use borrow.Author.Needs.{needs}
 use borrow.Fn.Kinds.{In}
 use borrow.Fn.PlainCycle.{Measures, is, falls, and}
-use Rattle.cut.proofs.Sizes.{cleared, all-cells, all-bytes, never-short}
+use Rattle.cut.proofs.Sizes.{cleared, cleared-length, all-cells, all-bytes, never-short}
 use Rattle.cut.specs.Cutting.{classCells, enoughBytes}
 use Rattle.cut.proofs.cut_in.Reads as cut-in-reads
 use Rattle.cut.proofs.in_all.Reads as in-all
@@ -49,7 +49,7 @@ pub +in-all-spec : {M : Type 1} → statement M
     (λ c. search needs)
     (λ c. search needs)
     (λ c. search needs)
-    (λ c. search needs)
+    (λ c. cleared-length enoughBytes)
     (cut-in-requires t)
     (λ c. search needs)
     (returns t))

@@ -5,7 +5,7 @@ use lib.ListN.{length}
 use borrow.Author.Needs.{needs}
 use borrow.Fn.Kinds.{In}
 use borrow.Fn.PlainCycle.{Measures, is, falls, and}
-use Rattle.cut.proofs.Sizes.{cleared, other-cells, all-bytes, never-short}
+use Rattle.cut.proofs.Sizes.{cleared, cleared-length, other-cells, all-bytes, never-short}
 use Rattle.cut.specs.Cutting.{otherCells, enoughBytes}
 use Rattle.cut.proofs.cut_in.Reads as cut-in-reads
 use Rattle.cut.proofs.in_all_but_classes.Reads as in-all-but-classes
@@ -49,7 +49,7 @@ pub +in-all-but-classes-spec : {M : Type 1} → statement M
     (λ c. search needs)
     (λ c. search needs)
     (λ c. search needs)
-    (λ c. search needs)
+    (λ c. cleared-length enoughBytes)
     (cut-in-requires t)
     (λ c. search needs)
     (returns t))

@@ -18,7 +18,7 @@ abbrev μ-loop : tie.MeasureT-loop
 μ-loop sort src told₀ t₀ notes m maps area₀ slots first k₀ p₀ i₀ told t area k p i = m - i
 
 returns : tie.Need-returns Inv-loop μ-loop
-returns c = wrote-short (c .before .before .before .before .before .before .before .before .pre .0) (c .before .before .before .header-size .ensures .0) (omega arith) (c .over .ensures)
+returns c = wrote-short (c .before .before .before .before .before .before .before .before .pre .0) (c .before .before .before .header-size .ensures .0) (c .before .before .before .header-size .ensures .1) (omega arith) (c .over .ensures)
 
 loop-holds : tie.Need-loop-holds Inv-loop μ-loop
 loop-holds c =
@@ -46,16 +46,16 @@ write-set-requires : tie.Need-write-set-requires Inv-loop μ-loop
 write-set-requires c κs =
     let a = c .before .before .before .before .before .before .before .before .before .before .before .before .before .before in
     let l = c .before .before .before .before .before .before .before in
-    (set-sound (a .pre .0) (c .before .before .before .before .before .before .before .before .before .header-size .ensures .0) (l .loop .inv .0) (c .before .before .before .before .before .before .loop-test .taken) refl (c .before .before .before .before .word-inside .ensures .0) (c .before .before .before .if2 .left), a .pre .0 .short, inside-kept (l .loop .inv .0 .cells) (a .pre .0 .inside), omega (arith, l .loop .inv .0 .placed .room), omega (arith, a .pre .0 .few), told-still (l .loop .inv .0 .cells) (a .args .sort) (a .pre .0 .before) (l .loop .inv .1))
+    (set-sound (a .pre .0) (c .before .before .before .before .before .before .before .before .before .header-size .ensures .0) (l .loop .inv .0) (c .before .before .before .before .before .before .loop-test .taken) refl (c .before .before .before .before .word-inside .ensures .0) (c .before .before .before .if2 .left), a .pre .0 .short, inside-kept (l .loop .inv .0 .cells) (a .pre .0 .inside), omega (arith, l .loop .inv .0 .placed .room), told-still (l .loop .inv .0 .cells) (a .args .sort) (a .pre .0 .before) (l .loop .inv .1))
 
 returns-2 : tie.Need-returns-2 Inv-loop μ-loop
 returns-2 c =
     let w = c .before .before .before .before .before in
     let l = c .before .before .before .before .before .before .before .before .before .before .before .before .before in
     let a = c .before .before .before .before .before .before .before .before .before .before .before .before .before .before .before .before .before .before .before .before in
-    let e = c .before .before .before .before .before .before .before .before .before .before .before .before .before .before .before .header-size .ensures .0 in
+    let e = c .before .before .before .before .before .before .before .before .before .before .before .before .before .before .before .header-size .ensures in
     let v = leaves-kept (l .loop .inv .0 .cells) (a .args .sort) (a .pre .0 .before) (a .args .src .now) _ (w .write-set .ensures .0) in
-    wrote-full (a .pre .0) e (l .loop .inv .0) (v .same) (c .if3 .taken) (rw e at (keeping-full _ _ _ _ _ _ (l .loop .inv .0) (c .before .before .before .before .before .before .before .before .before .before .before .before .loop-test .taken) refl (c .before .before .before .before .before .before .before .before .before .before .word-inside .ensures .0) (c .before .before .before .before .before .before .before .before .before .if2 .left) v (omega (arith, a .pre .0 .few, e)) (c .if3 .taken)))
+    wrote-full (a .pre .0) (e .0) (l .loop .inv .0) (v .same) (c .if3 .taken) (rw (e .0) at (keeping-full _ _ _ _ _ _ (l .loop .inv .0) (c .before .before .before .before .before .before .before .before .before .before .before .before .loop-test .taken) refl (c .before .before .before .before .before .before .before .before .before .before .word-inside .ensures .0) (c .before .before .before .before .before .before .before .before .before .if2 .left) v (omega (arith, a .pre .0 .counted, e .1)) (c .if3 .taken)))
 
 add-t : tie.Need-add-t Inv-loop μ-loop
 add-t c = omega (arith, c .before .before .before .before .before .before .before .before .before .before .before .before .before .before .before .before .before .before .loop .inv .0 .fewer, c .before .before .before .before .before .before .before .before .before .before .before .before .before .before .before .before .before .before .loop .inv .0 .within, c .before .before .before .before .before .before .before .before .before .before .before .before .before .before .before .before .before .before .loop .inv .3)

@@ -7,19 +7,19 @@ write-rules-requires : tie.Need-write-rules-requires
 write-rules-requires c κs =
     let a = c .before .before .before .before .before .before .before .before .before in
     let e = c .before .before .before .sort .given .1 in
-    (rules-sound _ _ e (a .pre .0), a .pre .1, a .pre .2, a .pre .3, rules-known e (a .pre .5))
+    (rules-sound _ _ e (a .pre .0), a .pre .1, a .pre .2, a .pre .3, rules-known e (a .pre .4))
 
 write-ligatures-requires : tie.Need-write-ligatures-requires
 write-ligatures-requires c κs =
     let a = c .before .before .before .before .before .before .before .before in
     let e = c .before .before .enum-told .given .1 in
-    (ligatures-sound _ _ e (a .pre .0), a .pre .1, a .pre .2 .input, a .pre .3, ligatures-known e (a .pre .5))
+    (ligatures-sound _ _ e (a .pre .0), a .pre .1, a .pre .2 .input, a .pre .3, ligatures-known e (a .pre .4))
 
 write-pairs-requires : tie.Need-write-pairs-requires
 write-pairs-requires c κs =
     let a = c .before .before .before .before .before .before .before .before .before in
     let e = c .before .before .before .sort2 .given .1 in
-    (pairs-sound _ _ e (pairs-known e (a .pre .5) .0) (a .pre .0), pairs-places e (a .pre .5), a .pre .2 .input, a .pre .3)
+    (pairs-sound _ _ e (pairs-known e (a .pre .4) .0) (a .pre .0), pairs-places e (a .pre .4), a .pre .2 .input, a .pre .3)
 
 returns : tie.Need-returns
 returns c =
@@ -37,8 +37,8 @@ returns-3 : tie.Need-returns-3
 returns-3 c =
     let a = c .before .before .before .before .before .before .before .before .before .before .before .before in
     let e = c .before .before .before .before .before .before .sort2 .given .1 in
-    let t = pairs-known e (a .pre .5) in
-    (pairs-leave _ _ _ _ e (t .0) (t .1) (a .pre .4) (c .before .before .write-pairs .ensures), a .pre .5)
+    let t = pairs-known e (a .pre .4) in
+    (pairs-leave _ _ _ _ e (t .0) (t .1) (c .before .before .write-pairs .ensures), a .pre .4)
 
 pub write-set-spec : {M : Type 1} → statement M
 write-set-spec =

@@ -8,7 +8,7 @@ report-requires : tie.Need-report-requires
 report-requires c κs =
     let number = c .before .before .before in
     let ran = number .before .before in
-    printable (ran .before .before .before .before .args .file .now) (ran .run .result) (number .number-of .ensures) (c .before .before .length-of .ensures) (ran .run .ensures) (search needs)
+    printable (ran .before .before .before .before .args .file .now) (ran .run .result) (number .number-of .ensures) (c .before .before .length-of .ensures) (ran .run .ensures) (number .before .result2 .given)
 
 returns : tie.Need-returns
 returns c =
@@ -16,7 +16,7 @@ returns c =
     let long = put .before .before .before in
     let ran = long .before .before .before in
     let start = ran .before .before .before .before in
-    answered (start .args .file .now) (ran .run .result) (long .before .number-of .ensures) (long .length-of .ensures) (ran .run .ensures) (search needs) (start .pre) (put .report .ensures)
+    answered (start .args .file .now) (ran .run .result) (long .before .number-of .ensures) (long .length-of .ensures) (ran .run .ensures) (long .before .before .result2 .given) (start .pre) (put .report .ensures)
 
 pub answer-spec : {M : Type 1} → statement M
 answer-spec =

@@ -7,7 +7,7 @@ use Rattle.label_job.proofs.blank.Tie as tie
 
 returns : tie.Need-returns
 unfolding textRoom
-returns c = length-replicate {A = ℕ} 135200 0
+returns c = length-replicate {A = ℕ} 540700 0
 
 pub blank-spec : {M : Type 1} → statement M
 blank-spec = tie.close (tie.spec returns)

@@ -9,7 +9,7 @@ use Rattle.vectors.proofs.agreed.Tie as tie
 slice-aggregate-agrees : tie.Need-slice-aggregate-agrees
 slice-aggregate-agrees c =
     let f = c .before .before .before .before .before in
-    sym (length-take-le (f .args .room) (replicate 65552 0) (f .pre))
+    sym (length-take-le (f .args .room) (replicate 65682 0) (f .pre))
 
 pub agreed-spec : {M : Type 1} → statement M
 agreed-spec =
