@@ -1,16 +1,16 @@
 -- What is cut has no record past its rule, if the source has none: records keep their places, and rules their input counts. So what is kept is never refused as 12.
 use Prim.Native.Nat.{ℕ, suc}
 use mathlib.Core.Path.{_≡_, refl, sym, ap, _∙_, subst}
-use mathlib.Core.Bool.{Bool, true, _&&_, not, true≢false}
+use mathlib.Core.Bool.{Bool, true, false, cond, _&&_, not, true≢false}
 use mathlib.Core.Option.{Option, none, some}
 use mathlib.Core.List.{List, [], _∷_}
 use lib.ListN.{length, take, drop}
 use lib.Dec.{ltb, eqb}
-use Rattle.meaning.specs.Words.{keys, every, find, bind, mapAll, push, mapSome}
+use Rattle.meaning.specs.Words.{keys, values, every, find, bind, mapAll, push, mapSome}
 use Rattle.meaning.specs.Maps.{mapEntries}
-use Rattle.meaning.specs.Tables.{Rule, Ligature, Pair, Table, dropNull, table}
+use Rattle.meaning.specs.Tables.{Rule, Ligature, Pair, Table, dropNull, deltaPairs, listPairs, table}
 use Rattle.meaning.specs.Records.{indexesBelow, ruleWithin, setsWithin, recordsWithin}
-use Rattle.meaning.specs.Cut.{RuleMaps, cutRecords, cutRule, cutSet, keptSets, setsOf, keptByGlyph, heldBy, classMap, classMap?, newClasses?, newCoverage, retained, slots, trim, keptByClass, coversLeft, cutLigatures, keptLigatures, cutPairs, keptPairs, cut}
+use Rattle.meaning.specs.Cut.{RuleMaps, cutRecords, cutRule, cutSet, keptSets, setsOf, keptByGlyph, heldBy, classMap, classMap?, newClasses?, newCoverage, retained, slots, trim, keptByClass, coversLeft, cutLigatures, keptLigatures, cutPairs, keptPairs, keptSubstitutes, deltaOf, keptSingles, cut}
 use Rattle.laws.specs.Through.{Opt}
 use Rattle.laws.specs.CutGood.{opt-bind, all-mapSome, opt-cond, opt-unlessEmpty, slots-all, trim-all}
 use Rattle.laws.specs.CallBack.{passed}
@@ -114,6 +114,16 @@ unfolding recordsWithin
 by-cover-within chained l rs i b′ i′ a′ e h =
     opt-bind Anything Within b′ _ (any b′) (λ b u. opt-bind (AsMany i) Within i′ _ e (λ r n. opt-bind Anything Within a′ _ (any a′) (λ a v. rw n (cut-places (length i) l rs h))))
 
+-- single substitutions have no records
+singles-within : (ks : List (ℕ × ℕ)) → Opt Within (keptSingles ks)
+unfolding keptSingles recordsWithin
+singles-within [] = tt
+singles-within (e ∷ r) = step (every (λ x. eqb (deltaOf x) (deltaOf e)) r)
+  where
+    step : (t : Bool) → Within (cond t (Table.single-delta (some (keys (e ∷ r))) (deltaOf e)) (Table.single-list (some (keys (e ∷ r))) (values (e ∷ r))))
+    step true = refl
+    step false = refl
+
 -- What is cut of such a table is such a table.
 pub cut-within : (g l : List (ℕ × ℕ)) (t : Table) → Within t → Opt Within (cut g l t)
 unfolding cut recordsWithin
@@ -153,6 +163,10 @@ cut-within g l (Table.pairs-of (some cov) f1 f2 sets) h = step (keptSets (cutPai
     step : (ks : List (ℕ × List Pair)) → Opt Within (keptPairs f1 f2 ks)
     step [] = tt
     step (e ∷ ks) = refl
+cut-within g l (Table.single-delta none d) h = tt
+cut-within g l (Table.single-delta (some cov) d) h = singles-within (keptSubstitutes g (deltaPairs cov d))
+cut-within g l (Table.single-list none subs) h = tt
+cut-within g l (Table.single-list (some cov) subs) h = singles-within (keptSubstitutes g (listPairs cov subs))
 
 module _ (c : Call) where
   -- what a call keeps is one
