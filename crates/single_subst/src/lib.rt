@@ -80,11 +80,11 @@ pub fn check(src: &[u8]) -> Fault
     if !good_header(src) {
         return Fault::At(0);
     }
-    let at = subtable_place(src, 2);
-    if at == 0 {
+    let cover = subtable_place(src, 2);
+    if cover == 0 {
         return Fault::Sound;
     }
-    coverage::check(src, at)
+    coverage::check(src, cover)
 }
 
 // The substitute of the glyph with the coverage index `i`: the glyph plus the delta, modulo 65,536, or the one that is listed.
