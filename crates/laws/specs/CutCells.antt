@@ -6,10 +6,9 @@ use mathlib.Core.Option.{Option, some}
 use mathlib.Core.List.{List, [], _∷_}
 use native.Mathlib.Omega.{arith}
 use lib.ListN.{length}
-use lib.Dec.{eqb}
 use Rattle.meaning.specs.Words.{every, keys, values, find, bind, mapSome}
 use Rattle.meaning.specs.Tables.{Table, deltaPairs, listPairs}
-use Rattle.meaning.specs.Cut.{keptSubstitutes, deltaOf, keptSingles}
+use Rattle.meaning.specs.Cut.{keptSubstitutes, deltaOf, agree, keptSingles}
 use Rattle.laws.specs.Stands.{All, Word}
 use Rattle.laws.specs.Runs.{Up, both}
 use Rattle.laws.specs.Through.{Opt}
@@ -70,7 +69,7 @@ delta-word e = omega arith
 singles-kept : (ks : List (ℕ × ℕ)) → Up 0 (keys ks) → All Words2 ks → Opt (GoodOf 5) (keptSingles ks)
 unfolding keptSingles kindOf
 singles-kept [] u h = tt
-singles-kept (e ∷ r) u h = step (every (λ x. eqb (deltaOf x) (deltaOf e)) r)
+singles-kept (e ∷ r) u h = step (agree (e ∷ r))
   where
     step : (t : Bool) → GoodOf 5 (cond t (Table.single-delta (some (keys (e ∷ r))) (deltaOf e)) (Table.single-list (some (keys (e ∷ r))) (values (e ∷ r))))
     step true = (((u, keys-words (e ∷ r) h), delta-word e), refl)

@@ -1,8 +1,8 @@
 -- Every promise in one place, each with its words above it. They hold of every call: any kind, any source bytes, any two maps, any buffer.
 -- A reader who believes the definitions of `meaning` needs of this crate what stands here, the statements that it names in Refusals.antt (`Call`, `answer`, `plain`, `refusals`, `Meets`),
--- Survives.antt, and `Retained`, `new`, `renumbered`, `cutMatch`, `cutLigated`, `Closed`, `SubstituteRetained`, `Closes`, and `Faulty` and `callOf` of the job, each a line or two.
+-- Survives.antt, and `Retained`, `new`, `renumbered`, `cutMatch`, `cutLigated`, `Closed`, `SubstituteRetained`, `SubstitutesRetained`, and `Faulty` and `callOf` of the job, each a line or two.
 use Prim.Native.Nat.{ℕ, _≤_, _<_}
-use mathlib.Core.Path.{_≡_, ap, _∙_}
+use mathlib.Core.Path.{_≡_}
 use mathlib.Core.Bool.{Bool, true, false, not}
 use mathlib.Core.Option.{none, some, Option·map}
 use mathlib.Core.List.{List, [], _∷_, _++_, map}
@@ -29,7 +29,7 @@ use Rattle.laws.specs.CallBack.{Passed, passed, good-glyphs, left-good, call-re
 use Rattle.promises.specs.Strings.{All, Retained, new}
 use Rattle.promises.specs.Rules.{cutMatch}
 use Rattle.promises.specs.Ligatures.{cutLigated, Closed}
-use Rattle.promises.specs.Singles.{SubstituteRetained, Closes}
+use Rattle.promises.specs.Singles.{SubstituteRetained, SubstitutesRetained}
 use Rattle.promises.specs.Classes.{null-map}
 use Rattle.promises.specs.Sizes as Sizes
 use Rattle.promises.specs.Sizes.{refusalsBefore}
@@ -184,13 +184,13 @@ module _ (c : Call) (bytes : BytesOf c) (kept : (answer c) .number ≡ 0) where
   pub pair-skipped : c .kind ≡ 4 → (x y : ℕ) → Retained g x → Retained g y → skips (small-says c) (new g x) (new g y) ≡ skips (says c) x y
   pair-skipped k x y rx ry = rw (reads-back .0) at (Same.pair-same g l good (c .kind) k (c .source) (tests .sound) x y rx ry .1)
 
-  -- `single-same`: a retained glyph whose substitute is retained is replaced as in the source, by the new number of that substitute, and one that has no substitute has none.
+  -- `single-same`: a retained glyph whose substitute is retained is replaced as in the source, by the new number of that substitute, and one that had no substitute has none.
   pub single-same : c .kind ≡ 5 → (x : ℕ) → Retained g x → SubstituteRetained g (says c) x → substitute (small-says c) (new g x) ≡ Option·map (new g) (substitute (says c) x)
   unfolding bind
   single-same k x rx closed = rw (reads-back .0) at (Same.single-same g l good (c .kind) k (c .source) x rx closed)
 
-  -- So each retained glyph is replaced as in the source, where retained glyphs have retained substitutes (`Closes`).
-  pub singles-same : c .kind ≡ 5 → Closes g (says c) → (x : ℕ) → Retained g x → substitute (small-says c) (new g x) ≡ Option·map (new g) (substitute (says c) x)
+  -- `singles-same`: so each retained glyph is replaced as in the source, where retained glyphs have retained substitutes (`SubstitutesRetained`).
+  pub singles-same : c .kind ≡ 5 → SubstitutesRetained g (says c) → (x : ℕ) → Retained g x → substitute (small-says c) (new g x) ≡ Option·map (new g) (substitute (says c) x)
   singles-same k closed x rx = single-same k x rx (closed x rx)
 
 -- An absent class table.

@@ -7,9 +7,9 @@ use mathlib.Core.List.{List, [], _∷_}
 use lib.Dec.{eqb}
 use native.Mathlib.Omega.{arith}
 use borrow.Author.Tests.{eqb-true}
-use Rattle.meaning.specs.Words.{find, bind, mapSome, push, keys, values, every, isSome}
+use Rattle.meaning.specs.Words.{find, bind, mapSome, push, keys, values, isSome}
 use Rattle.meaning.specs.Tables.{Table, plusDelta, deltaPairs, listPairs}
-use Rattle.meaning.specs.Cut.{cut, keptSubstitutes, deltaOf, keptSingles}
+use Rattle.meaning.specs.Cut.{cut, keptSubstitutes, deltaOf, agree, keptSingles}
 use Rattle.meaning.specs.Matching.{substitute}
 use Rattle.laws.specs.Stands.{all-map}
 use Rattle.laws.specs.SetsBack.{Words2}
@@ -26,8 +26,8 @@ abbrev pub SubstituteRetained : List (ℕ × ℕ) → Table → ℕ → Type 0
 SubstituteRetained g t x = Opt (Retained g) (substitute t x)
 
 -- retained glyphs have retained substitutes
-abbrev pub Closes : List (ℕ × ℕ) → Table → Type 0
-Closes g t = (x : ℕ) → Retained g x → SubstituteRetained g t x
+abbrev pub SubstitutesRetained : List (ℕ × ℕ) → Table → Type 0
+SubstitutesRetained g t = (x : ℕ) → Retained g x → SubstituteRetained g t x
 
 -- the kept pairs, written by a list or by a delta, are these pairs
 list-is : (ks : List (ℕ × ℕ)) → listPairs (keys ks) (values ks) ≡ ks
@@ -45,11 +45,11 @@ delta-is d [] w h = refl
 delta-is d (e ∷ r) w h = ap₂ (λ (m : ℕ) (l : List (ℕ × ℕ)). (e .0, m) ∷ l) (delta-moves (e .0) (e .1) d (w .0) (h .0)) (delta-is d r (w .1) (h .1))
 
 kept-finds : (ks : List (ℕ × ℕ)) → All Words2 ks → (y : ℕ) → bind (keptSingles ks) (λ t. substitute t y) ≡ find ks y
-unfolding bind keptSingles substitute find
+unfolding bind agree keptSingles substitute find
 kept-finds [] w y = refl
-kept-finds (e ∷ r) w y = step (every (λ x. eqb (deltaOf x) (deltaOf e)) r) refl
+kept-finds (e ∷ r) w y = step (agree (e ∷ r)) refl
   where
-    step : (t : Bool) → every (λ x. eqb (deltaOf x) (deltaOf e)) r ≡ t → substitute (cond t (Table.single-delta (some (keys (e ∷ r))) (deltaOf e)) (Table.single-list (some (keys (e ∷ r))) (values (e ∷ r)))) y ≡ find (e ∷ r) y
+    step : (t : Bool) → agree (e ∷ r) ≡ t → substitute (cond t (Table.single-delta (some (keys (e ∷ r))) (deltaOf e)) (Table.single-list (some (keys (e ∷ r))) (values (e ∷ r)))) y ≡ find (e ∷ r) y
     step true q =
         let same = all-map (λ (x : ℕ × ℕ). eqb (deltaOf x) (deltaOf e) ≡ true) (λ x. deltaOf x ≡ deltaOf e) (λ x p. eqb-true (deltaOf x) (deltaOf e) p) r (all-every (λ x. eqb (deltaOf x) (deltaOf e)) r q) in
         ap (λ (l : List (ℕ × ℕ)). find l y) (delta-is (deltaOf e) (e ∷ r) w (refl, same))

@@ -12,13 +12,13 @@ use lib.Dec.{eqb}
 use borrow.Author.Tests.{eq-eqb, ne-eqb, eqb-true, eqb-false}
 use Rattle.meaning.specs.Words.{word, every, bind, push, mapSome}
 use Rattle.meaning.specs.Tables.{plusDelta}
-use Rattle.meaning.specs.Cut.{deltaOf}
+use Rattle.meaning.specs.Cut.{deltaOf, agree}
 use Rattle.laws.specs.Left.{words-at}
 use Rattle.fold.specs.Cells.{cellOf, cellEntry, folded, Kept, kept-all, kept-more, kept-set, answer-own, answer-other}
 use Rattle.fold.specs.declared.Map.{Map}
 use Rattle.area.specs.Part.{part, part-append, notes, oldAt}
 use Rattle.area.specs.Stored.{part-same, part-store}
-use Rattle.single_subst.specs.Pairs.{covered, substitutes, Singles, Substitute, pairOf, pairs, agree, pairAt, pairCell, noted, KeepsPair, KeptPair, KeepsPairs, KeptPairs}
+use Rattle.single_subst.specs.Pairs.{covered, substitutes, Singles, Substitute, pairOf, pairs, pairAt, pairCell, noted, KeepsPair, KeptPair, KeepsPairs, KeptPairs}
 use Rattle.single_subst.proofs.Checking.{Good, good-table}
 
 -- Substitutes.

@@ -7,11 +7,11 @@ use mathlib.Core.List.{List, [], _∷_, _++_, map, append-nil}
 use native.Mathlib.Omega.{arith}
 use lib.ListN.{length, getD, length-append, length-map}
 use lib.Seq.{sets, length-sets}
-use lib.Dec.{leb, ltb, eqb}
+use lib.Dec.{leb, ltb}
 use borrow.Author.Tests.{leb-false, lt-ltb, le-ltb, ltb-true, ltb-false}
-use Rattle.meaning.specs.Words.{bytes2, flat, threes, keys, values, every}
+use Rattle.meaning.specs.Words.{bytes2, flat, threes, keys, values}
 use Rattle.meaning.specs.Tables.{Table}
-use Rattle.meaning.specs.Cut.{deltaOf, keptSingles}
+use Rattle.meaning.specs.Cut.{deltaOf, agree, keptSingles}
 use Rattle.meaning.specs.Layout.{offsets, blocks, block, runs, indexed, coverageWords, coverLayout, tableWords, wordsFit}
 use Rattle.meaning.specs.Subset.{Outcome, refused, limit, written}
 use Rattle.laws.specs.Stands.{All, Word, threes-length}
@@ -28,7 +28,7 @@ use Rattle.room.specs.declared.Laid.{Laid}
 use Rattle.tried.specs.Tries.{Tries, tries-less}
 use Rattle.tried.specs.declared.Tried as Answer
 use Rattle.tried.specs.declared.Tried.the-variants.{Short, Became}
-use Rattle.single_subst.specs.Pairs.{pairOf, pairs, subs, agree}
+use Rattle.single_subst.specs.Pairs.{pairOf, pairs, subs}
 use Rattle.single_subst.specs.Writing.{deltaLayout, listLayout, Standing, Stands, Hands, Writes}
 
 -- Substitutes, written one after the other.
@@ -183,8 +183,7 @@ module _ {t : List ℕ} {at n : ℕ} {same : Bool} (a : Writes t at n same) wher
     all = let e : n ≡ suc (n - 1) = omega arith in ap (part t at) e
 
     -- by a delta, and by a list
-    kept-is : same ≡ every (λ x. eqb (deltaOf x) (deltaOf (pairOf first))) (map pairOf others)
-    unfolding agree
+    kept-is : same ≡ agree (map pairOf (first ∷ others))
     kept-is = a .agreed ∙ ap (λ (l : List ℕ). agree (map pairOf l)) all
 
     pub kept-delta : same ≡ true → keptSingles (pairs t at n) ≡ some (Table.single-delta (some (news t at n)) (deltaOf (pairOf first)))

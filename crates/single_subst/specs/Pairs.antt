@@ -1,16 +1,16 @@
 -- The pairs of glyph and substitute that stay.
 use Prim.Native.Nat.{ℕ, _+_, _*_, _/_, _%_, _≤_, _<_}
 use mathlib.Core.Path.{_≡_}
-use mathlib.Core.Bool.{Bool, true, cond, _&&_, _||_}
+use mathlib.Core.Bool.{Bool, cond, _&&_, _||_}
 use mathlib.Core.Option.{Option, none, some}
-use mathlib.Core.List.{List, [], _∷_, map}
+use mathlib.Core.List.{List, map}
 use lib.ListN.{length, getD, set}
 use lib.Dec.{eqb}
-use Rattle.meaning.specs.Words.{word, words, inside, every, bind, mapSome}
+use Rattle.meaning.specs.Words.{word, words, inside, bind, mapSome}
 use Rattle.meaning.specs.Parts.{coverage}
 use Rattle.meaning.specs.Tables.{plusDelta}
 use Rattle.meaning.specs.Fault.{equalCount, singleFault}
-use Rattle.meaning.specs.Cut.{deltaOf}
+use Rattle.meaning.specs.Cut.{agree}
 use Rattle.fold.specs.Cells.{cellEntry, folded, Inside, Kept}
 use Rattle.fold.specs.declared.Map.{Map}
 use Rattle.area.specs.Part.{part, notes, oldAt}
@@ -48,11 +48,6 @@ pairs t at n = map pairOf (part t at n)
 
 abbrev pub subs : List ℕ → ℕ → ℕ → List ℕ
 subs t at n = map (λ c. c / 65536) (part t at n)
-
--- the differences of pairs agree modulo 65,536
-unfoldable pub agree : List (ℕ × ℕ) → Bool
-agree [] = true
-agree (e ∷ r) = every (λ x. eqb (deltaOf x) (deltaOf e)) r
 
 -- the pair of a note, if its substitute is answered by the map f: `all` has the substitute of each coverage index
 abbrev pub pairAt : (ℕ → Option ℕ) → List ℕ → ℕ × ℕ → Option (ℕ × ℕ)

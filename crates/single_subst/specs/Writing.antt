@@ -5,7 +5,7 @@ use mathlib.Core.Bool.{Bool, true}
 use mathlib.Core.List.{List, _∷_, _++_}
 use lib.ListN.{length, getD}
 use Rattle.meaning.specs.Words.{flat}
-use Rattle.meaning.specs.Cut.{deltaOf, keptSingles}
+use Rattle.meaning.specs.Cut.{deltaOf, agree, keptSingles}
 use Rattle.meaning.specs.Layout.{coverageWords}
 use Rattle.laws.specs.Through.{Opt}
 use Rattle.laws.specs.CutGood.{GoodOf}
@@ -14,7 +14,7 @@ use Rattle.area.specs.Extends as Extends
 use Rattle.area.specs.Part.{news}
 use Rattle.tried.specs.Tries.{Tries}
 use Rattle.tried.specs.declared.Tried.{Tried}
-use Rattle.single_subst.specs.Pairs.{pairOf, pairs, subs, agree}
+use Rattle.single_subst.specs.Pairs.{pairOf, pairs, subs}
 
 -- the words of format 1: the first pair's difference, and the coverage of the pairs' glyphs
 abbrev pub deltaLayout : List ℕ → ℕ → ℕ → List ℕ

@@ -29,13 +29,13 @@ ghost use Rattle.meaning.specs.Words.{flat};
 ghost use Rattle.meaning.specs.Maps.{mapEntries};
 ghost use Rattle.meaning.specs.Tables.{single};
 ghost use Rattle.meaning.specs.Fault.{equalCount, singleFault};
-ghost use Rattle.meaning.specs.Cut.{deltaOf, keptSingles, cut};
+ghost use Rattle.meaning.specs.Cut.{deltaOf, agree, keptSingles, cut};
 ghost use Rattle.meaning.specs.Subset.{limit, written};
 ghost use Rattle.wire.specs.Fault.{faultOf};
 ghost use Rattle.room.specs.Laid.{laidAs};
 ghost use Rattle.laws.specs.Written.{Wrote};
 ghost use Rattle.tried.specs.Tries.{Tries};
-ghost use Rattle.single_subst.specs.Pairs.{goodHeader, Singles, Substitute, pairOf, pairs, subs, agree, KeepsPair, KeptPair, KeepsPairs, KeptPairs};
+ghost use Rattle.single_subst.specs.Pairs.{goodHeader, Singles, Substitute, pairOf, pairs, subs, KeepsPair, KeptPair, KeepsPairs, KeptPairs};
 ghost use Rattle.single_subst.specs.Writing.{deltaLayout, listLayout, Standing, Stands, Hands, Writes};
 ghost use Rattle.single_subst.specs.Whole.{Sound, MapLaid, enoughCells};
 
