@@ -18,7 +18,7 @@ static const uint8_t lookups[] = { 0, 4, 0, 0, 0, 7, 0, 2 };             /* 4:0 
 
 static const char *const meaning[] = {
   [GILLCURTAIN_KEPT] = "kept",
-  [GILLCURTAIN_BAD_KIND] = "the kind is none of 1 to 4",
+  [GILLCURTAIN_BAD_KIND] = "the kind is none of 1 to 5",
   [GILLCURTAIN_BAD_GLYPHS] = "the glyph map is not good",
   [GILLCURTAIN_BAD_LOOKUPS] = "the lookup map is not good",
   [GILLCURTAIN_LONG_SOURCE] = "the source is over 262,144 bytes",

@@ -39,7 +39,8 @@ enum gillcurtain_kind {
   GILLCURTAIN_CONTEXT = 1,
   GILLCURTAIN_CHAINED = 2,
   GILLCURTAIN_LIGATURE = 3,
-  GILLCURTAIN_PAIR = 4
+  GILLCURTAIN_PAIR = 4,
+  GILLCURTAIN_SINGLE = 5        /* single substitution */
 };
 
 /* The answers. Where several apply, the first of 1 to 7, 12, 8, 9, 10 is given, in that order. */

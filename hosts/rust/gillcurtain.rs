@@ -11,6 +11,8 @@ pub const CONTEXT: u64 = 1;
 pub const CHAINED: u64 = 2;
 pub const LIGATURE: u64 = 3;
 pub const PAIR: u64 = 4;
+/// Single substitution.
+pub const SINGLE: u64 = 5;
 
 /// The stack, in bytes, that [`subset`] may use at most. The main thread has more on most systems; a
 /// thread that Rust starts has 2 MiB, so ask for more with `std::thread::Builder::stack_size` where
@@ -212,7 +214,7 @@ impl fmt::Display for Answer {
             Answer::NoRoom(needed) => {
                 return write!(f, "the buffer is too short: it takes {needed}");
             }
-            Answer::BadKind => "the kind is none of 1 to 4",
+            Answer::BadKind => "the kind is none of 1 to 5",
             Answer::BadGlyphs => "the glyph map is not good",
             Answer::BadLookups => "the lookup map is not good",
             Answer::LongSource => "the source is over 262,144 bytes",

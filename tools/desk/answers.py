@@ -3,13 +3,14 @@
 # The most bytes of a source and of a layout, and those of a job file.
 LIMIT = 262144
 JOB_LIMIT = 65536
-KINDS = {1: "context", 2: "chained context", 3: "ligature", 4: "pair"}
+KINDS = {1: "context", 2: "chained context", 3: "ligature", 4: "pair", 5: "single substitution"}
 
 # Each answer: when it is given, and what to do about it.
 ANSWERS = {
     0: ("kept", "The small table follows."),
-    1: ("kind not 1 to 4",
-        "Give 1 (context), 2 (chained context), 3 (ligature) or 4 (pair). Other lookup types are not covered."),
+    1: ("kind not 1 to 5",
+        "Give 1 (context), 2 (chained context), 3 (ligature), 4 (pair) or 5 (single substitution). Other lookup types "
+        "are not covered."),
     2: ("glyph map length not a multiple of 4, or a column not strictly increasing",
         "Sort the map by old id and list each id once; new ids have to rise with the old ones."),
     3: ("lookup map length not a multiple of 4, or its old column not strictly increasing",
@@ -17,7 +18,8 @@ ANSWERS = {
     4: ("source over 262,144 bytes",
         "Split the subtable, or close the gaps between its parts. Calls only: no job file can hold such a source."),
     5: ("the first two bytes stand and hold a format the kind hasn't",
-        "Contexts have formats 1 to 3, ligatures and pairs format 1. Check the kind, and where the table starts."),
+        "Contexts have formats 1 to 3, ligatures and pairs format 1, single substitutions 1 and 2. Check the kind, and "
+        "where the table starts."),
     6: ("malformed",
         "Mend the font or ask its maker; `tools/job show` names the part and its place, which a call gives as its "
         "length. Of a glyph listed twice, drop one."),

@@ -9,7 +9,7 @@ comes out of it. Exit status: 0 done, 1 (font) a subtable is damaged, 2 trouble.
 TABLE_HELP = "hex words, @ and a text file of hex words, or a binary file (write ./cafe for a file whose name reads " \
              "as hex)"
 ALL_HELP = "every fault of every faulty part, lowest part first, and not only the first"
-KIND_HELP = "1 context, 2 chained context, 3 ligature, 4 pair"
+KIND_HELP = "1 context, 2 chained context, 3 ligature, 4 pair, 5 single substitution"
 
 
 def add_make(command):

@@ -15,7 +15,7 @@ GPOS_TYPES = {1: "single", 2: "pair", 3: "cursive", 4: "mark to base", 5: "mark 
 TYPES = {"GSUB": GSUB_TYPES, "GPOS": GPOS_TYPES}
 EXTENSION = {"GSUB": 7, "GPOS": 9}
 # The kind that a lookup type is cut as.
-CUT_AS = {("GSUB", 5): 1, ("GPOS", 7): 1, ("GSUB", 6): 2, ("GPOS", 8): 2, ("GSUB", 4): 3, ("GPOS", 2): 4}
+CUT_AS = {("GSUB", 5): 1, ("GPOS", 7): 1, ("GSUB", 6): 2, ("GPOS", 8): 2, ("GSUB", 4): 3, ("GPOS", 2): 4, ("GSUB", 1): 5}
 # More subtables than any font has: in a damaged one lookups may overlap without end.
 SUBTABLES_AT_MOST = 65536
 # Which encodings are asked first, as platform and encoding: Unicode in full, in part, and a symbol font's own.

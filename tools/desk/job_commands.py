@@ -56,7 +56,7 @@ def show_job(job):
     table, glyphs, lookups = parts_of(job)
     say(f"glyphs, old:new   {map_text(glyphs) or 'empty'}", "  ", "    ")
     say(f"lookups, old:new  {map_text(lookups) or 'empty'}", "  ", "    ")
-    print(f"  kind {job['kind']}, {KINDS.get(job['kind'], 'which is none of 1 to 4')}")
+    print(f"  kind {job['kind']}, {KINDS.get(job['kind'], 'which is none of 1 to 5')}")
     if job["kind"] not in KINDS:
         return say(f"The table, not decoded for want of its kind: {table.hex(' ', -2)}")
     tree = decode(job["kind"], table)
@@ -101,11 +101,15 @@ def read_kept(count, data, kind, job, before):
 
 def print_changes(job, before, after, size):
     print(f"What changed:\n  bytes: {job['parts']['table']['length']} -> {size}")
+    forms = [tree["parts"][0]["value"] for tree in (before, after)]
+    if forms[0] != forms[1]:
+        print(f"  format: {forms[0]} -> {forms[1]}")
+    why = "its substitute is not" if job["kind"] == 5 else "nothing in its set survives"
     for (name, old), (_, new) in zip(coverages(before), coverages(after)):
         print(f"  {name}: {len(old)} -> {len(new)} glyphs")
         emptied = [(glyph, glyph) for glyph, new_id in new_ids(job).items() if glyph in old and new_id not in new]
         if emptied:
-            say("retained, but nothing in its set survives: " + ranges_text(joined(emptied)), "    ", "      ")
+            say(f"retained, but {why}: " + ranges_text(joined(emptied)), "    ", "      ")
     for name in ("set", "rule", "record", "ligature", "pair"):
         old, new = tally(before["parts"], name, {}), tally(after["parts"], name, {})
         if old or new:

@@ -25,6 +25,8 @@ SHAPES = {
             "lookahead count, lookahead coverage*>coverage, record count, record*",
     (3, 1): "coverage>coverage, set count, set*>ligatures",
     (4, 1): "coverage>coverage, value format 1, value format 2, set count, set*>pairs",
+    (5, 1): "coverage>coverage, delta",
+    (5, 2): "coverage>coverage, substitute count, substitute*",
     "rules": "rule count, rule*>rule",
     "rule": "input count, record count, input+, record*",
     "chained rules": "rule count, rule*>chained rule",
@@ -130,6 +132,10 @@ def fields(part, shape):
                 if place >= words["input count"]:
                     part.fault(at, f"record {index}, for lookup {lookup}, has sequence index {place}, and the input "
                                f"count is {words['input count']}", answer=12)
+        elif name == "substitute":
+            notes = glyph_notes(part, count, "substitutes", exactly=True)
+            for index, ((at, (glyph,)), note) in enumerate(zip(part.take(count, "substitutes"), notes)):
+                part.add(name, at, glyph, index=index, note=note)
         elif many and count:
             title = f"{name} {part.source.unit}" + (" after the first" if many == "+" else "")
             part.add(title, part.at, [value for _, (value,) in part.take(count, title)])
@@ -137,27 +143,34 @@ def fields(part, shape):
             words[name] = part.word(name)
             if name.startswith("value format"):
                 check_value_format(part, words[name])
+            elif name == "delta":
+                part.nodes[-1]["value"] = signed(words[name])
 
 
 def subtable(part, _):
     kind, form = part.source.kind, part.word("format")
     if (kind, form) not in SHAPES:
         return part.fault(0, f"kind {kind}, {KINDS[kind]}, has no format {form}", answer=5)
-    part.source.unit = "classes" if form == 2 else "glyphs"
+    part.source.unit = "classes" if "class table" in SHAPES[kind, form] else "glyphs"
     return fields(part, (kind, form))
 
 
 def set_notes(part, count):
-    """What each set of a subtable is for; where glyphs index them, a sound coverage has to have no more."""
+    """What each set of a subtable is for."""
     if part.source.unit == "classes":
         return (f"for class {held}" for held in itertools.count())
+    return glyph_notes(part, count, "sets")
+
+
+def glyph_notes(part, count, what, exactly=False):
+    """Which covered glyph each set or substitute is for; a sound coverage has to have no more, or exactly as many."""
     covered = next(node for node in part.nodes if node["name"] == "coverage")
     if covered["to"]:
         cover = part.source.parts[covered["to"], "coverage"]
         cover.read()
         size = sum(last - first + 1 for first, last in glyphs_of(covered))
-        if not cover.faults and count < size:
-            part.fault(part.at - 2, f"{count} sets for {size} covered glyphs")
+        if not cover.faults and (count < size or exactly and count > size):
+            part.fault(part.at - 2, f"{count} {what} for {size} covered glyphs")
     glyphs = (f"for glyph {glyph}" for first, last in glyphs_of(covered) for glyph in range(first, last + 1))
     return itertools.chain(glyphs, itertools.repeat("for no glyph"))
 
@@ -205,6 +218,10 @@ def check_ranges(part, listed, has_classes):
         before, previous = before + last - first + 1, last
 
 
+def signed(word):
+    return word - 0x10000 if word >= 0x8000 else word
+
+
 def bit_names(bits):
     return [(bit, VALUE_FIELDS[bit] if bit < 8 else f"bit {1 << bit:#06x}") for bit in range(16) if bits >> bit & 1]
 
@@ -223,7 +240,7 @@ def pairs(part, _):
     for index, (at, (glyph, *words)) in enumerate(part.take(part.word("pair count"), "pairs", 1 + len(values))):
         pair = part.add("pair", at, {"second glyph": glyph})
         for (bit, name), word in zip(values, words):
-            pair["value"][name] = word - 0x10000 if bit < 4 and word >= 0x8000 else word
+            pair["value"][name] = signed(word) if bit < 4 else word
         if glyph <= before:
             part.fault(at, f"pair {index} has second glyph {glyph}, and pair {index - 1} has {before}")
         before = glyph

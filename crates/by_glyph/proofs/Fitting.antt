@@ -15,7 +15,8 @@ use Rattle.meaning.specs.Cut.{cutSet, cutLigatures, cutPairs, keptSets, keptByG
 use Rattle.meaning.specs.Layout.{blocks, block, ruleWords, ligatureWords, setWords, pairSetWords, coverageWords, setsLayout, tableWords}
 use Rattle.laws.specs.Through.{Opt}
 use Rattle.laws.specs.ReadsBack.{Good, kindOf}
-use Rattle.laws.specs.CutGood.{GoodOf, cut-good}
+use Rattle.laws.specs.CutGood.{GoodOf}
+use Rattle.laws.specs.CutTables.{cut-good}
 use Rattle.laws.specs.SoundGood.{Bytes, format-1, ligature-format-1, pair-format-1}
 use Rattle.laws.specs.CallBack.{good-map, map-values}
 use Rattle.laws.specs.FitsExactly.{by-glyph-exactly, ligatures-exactly, pairs-exactly}

@@ -11,7 +11,7 @@ use lib.Dec.{leb}
 use borrow.Author.Tests.{ne-eqb, le-leb, lt-leb, leb-true, leb-false}
 use Rattle.meaning.specs.Words.{word, inside}
 use Rattle.meaning.specs.Parts.{coverage, coverageSound}
-use Rattle.meaning.specs.Fault.{partFault, lowest, faultThrough, coverageFault, classesFault, enough, headerFault, coversFault, contextFault, fault}
+use Rattle.meaning.specs.Fault.{partFault, lowest, faultThrough, coverageFault, classesFault, enough, headerFault, coversFault, contextFault, singleFault, fault}
 use Rattle.laws.specs.ReadsBack.{fault-is}
 use Rattle.wire.specs.declared.Fault.{Fault}
 use Rattle.wire.specs.declared.Fault.the-variants.{At, Sound}
@@ -178,6 +178,10 @@ module _ (kind : ℕ) (s : List ℕ) where
   unfolding partFault
   source-ligatures h e = fault-is kind s ∙ rw (h, e)
 
-  pub source-pairs : inside s 0 2 ≡ true → (kind ≡ 1 → ⊥) → (kind ≡ 2 → ⊥) → (kind ≡ 3 → ⊥) → fault kind s ≡ pairsFault s
+  pub source-pairs : inside s 0 2 ≡ true → kind ≡ 4 → fault kind s ≡ pairsFault s
   unfolding partFault
-  source-pairs h a b c = fault-is kind s ∙ rw (h, ne-eqb kind 1 a, ne-eqb kind 2 b, ne-eqb kind 3 c)
+  source-pairs h e = fault-is kind s ∙ rw (h, e)
+
+  pub source-singles : inside s 0 2 ≡ true → (kind ≡ 1 → ⊥) → (kind ≡ 2 → ⊥) → (kind ≡ 3 → ⊥) → (kind ≡ 4 → ⊥) → fault kind s ≡ singleFault s
+  unfolding partFault
+  source-singles h a b c d = fault-is kind s ∙ rw (h, ne-eqb kind 1 a, ne-eqb kind 2 b, ne-eqb kind 3 c, ne-eqb kind 4 d)

@@ -8,7 +8,7 @@ use native.Mathlib.Omega.{arith}
 use lib.ListN.{getD, replicate, length-replicate, getD-replicate, List·getD-eq-default}
 use lib.Dec.{eqb}
 use borrow.Author.Tests.{ne-eqb}
-use Rattle.meaning.specs.Words.{word, entries}
+use Rattle.meaning.specs.Words.{word, words, entries}
 use Rattle.meaning.specs.Parts.{coverage}
 use Rattle.meaning.specs.Tables.{Table, reach, reaches, ruleSet, ligatureSet, pairSet, fieldCount, classContext, coverContext, context, table}
 use Rattle.meaning.specs.Records.{indexesBelow, setsWithin, recordsWithin}
@@ -61,7 +61,7 @@ module _ (chained : Bool) (s : List ℕ) {t : Bool} {format : ℕ} (e : format �
   unfolding context
   within-3 f g h = rw (← e, ne-eqb format 1 f, ne-eqb format 2 g) h
 
--- a source by its kind: ligatures and pairs have no records
+-- a source by its kind: ligatures, pairs and single substitutions have no records
 module _ (kind : ℕ) (s : List ℕ) where
   pub within-plain : kind ≡ 1 → {t : Bool} → t ≡ recordsWithin (context false s) → t ≡ recordsWithin (table kind s)
   unfolding table
@@ -73,9 +73,12 @@ module _ (kind : ℕ) (s : List ℕ) where
 
   pub within-other : (kind ≡ 1 → ⊥) → (kind ≡ 2 → ⊥) → true ≡ recordsWithin (table kind s)
   unfolding table recordsWithin
-  within-other a b = rw (ne-eqb kind 1 a, ne-eqb kind 2 b) (step (eqb kind 3))
+  within-other a b = rw (ne-eqb kind 1 a, ne-eqb kind 2 b) (step (eqb kind 3) (eqb kind 4) (eqb (word s 0) 1))
     where
-      step : (b : Bool) → true ≡ recordsWithin (cond b (Table.ligatures (reach (coverage s) s 0 2) (reaches (ligatureSet s) s 0 6 (word s 4)))
-          (Table.pairs-of (reach (coverage s) s 0 2) (word s 4) (word s 6) (reaches (pairSet (fieldCount (word s 4)) (fieldCount (word s 6)) s) s 0 10 (word s 8))))
-      step true = refl
-      step false = refl
+      step : (b d e : Bool) → true ≡ recordsWithin (cond b (Table.ligatures (reach (coverage s) s 0 2) (reaches (ligatureSet s) s 0 6 (word s 4)))
+          (cond d (Table.pairs-of (reach (coverage s) s 0 2) (word s 4) (word s 6) (reaches (pairSet (fieldCount (word s 4)) (fieldCount (word s 6)) s) s 0 10 (word s 8)))
+          (cond e (Table.single-delta (reach (coverage s) s 0 2) (word s 4)) (Table.single-list (reach (coverage s) s 0 2) (words s 6 (word s 4))))))
+      step true d e = refl
+      step false true e = refl
+      step false false true = refl
+      step false false false = refl

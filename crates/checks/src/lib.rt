@@ -249,7 +249,7 @@ fn check_pairs(src: &[u8]) -> Fault
     check_header(src, pair_fields(src), 0, 8, Part::Pairs)
 }
 
-// Where the lowest faulty part of a source of this kind starts, or that it is sound: 1 context, 2 chained, 3 ligature, and pair for any other.
+// Where the lowest faulty part of a source of this kind starts, or that it is sound: 1 context, 2 chained, 3 ligature, 4 pair, and single substitution for any other.
 pub fn check(kind: usize, src: &[u8]) -> Fault
     ensures { λ r. ⌜ r ≡ faultOf (fault kind (now (src .entry))) ⌝ }
 {
@@ -260,7 +260,8 @@ pub fn check(kind: usize, src: &[u8]) -> Fault
         1 => check_context(false, src),
         2 => check_context(true, src),
         3 => check_ligatures(src),
-        _ => check_pairs(src),
+        4 => check_pairs(src),
+        _ => single_subst::check(src),
     }
 }
 

@@ -20,7 +20,8 @@ use Rattle.laws.specs.Stands.{All, Word}
 use Rattle.laws.specs.Runs.{Up}
 use Rattle.laws.specs.Through.{Opt}
 use Rattle.laws.specs.ReadsBack.{Good, kindOf, ruleSetKind}
-use Rattle.laws.specs.CutGood.{GoodMap, Values, GoodOf, cut-good}
+use Rattle.laws.specs.CutGood.{GoodMap, Values, GoodOf}
+use Rattle.laws.specs.CutTables.{cut-good}
 use Rattle.laws.specs.FitsExactly.{shortTables, coverAt, offsets-exactly, by-class-exactly}
 use Rattle.room.specs.Laid.{laid-words}
 use Rattle.class_lists.specs.Tables.{tableAt, classesAt, NullOrSound, table-there}

@@ -17,7 +17,8 @@ use Rattle.laws.specs.Stands.{flat-length}
 use Rattle.laws.specs.Left.{entries-length}
 use Rattle.laws.specs.Through.{Opt}
 use Rattle.laws.specs.ReadsBack.{Good, kindOf}
-use Rattle.laws.specs.CutGood.{GoodMap, Values, GoodOf, cut-good}
+use Rattle.laws.specs.CutGood.{GoodMap, Values, GoodOf}
+use Rattle.laws.specs.CutTables.{cut-good}
 use Rattle.laws.specs.SoundGood.{reaches-length, covers-context-good}
 use Rattle.laws.specs.FitsExactly.{covers-exactly, chained-covers-exactly}
 use Rattle.fold.specs.Cells.{Holds}

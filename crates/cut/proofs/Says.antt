@@ -10,13 +10,13 @@ use lib.Dec.{eqb}
 use borrow.Author.Tests.{ne-eqb, eq-eqb, le-leb}
 use Rattle.meaning.specs.Words.{word, inside, isSome, keys, values, ascends}
 use Rattle.meaning.specs.Maps.{mapEntries}
-use Rattle.meaning.specs.Tables.{Table, classContext, coverContext, context, table}
+use Rattle.meaning.specs.Tables.{Table, classContext, coverContext, context, single, table}
 use Rattle.meaning.specs.Fault.{headerFault, enough, fault}
 use Rattle.meaning.specs.Cut.{cut}
 use Rattle.meaning.specs.Subset.{limit, written}
 use Rattle.laws.specs.Ascends.{glyphs-ascend, lookups-ascend}
 use Rattle.laws.specs.ClassesLeft.{glyph-values}
-use Rattle.checks.proofs.Laws.{context-1, context-3, source-short, source-plain, source-chained, source-ligatures, source-pairs}
+use Rattle.checks.proofs.Laws.{context-1, context-3, source-short, source-plain, source-chained, source-ligatures, source-pairs, source-singles}
 use Rattle.kept_sets.specs.Sorts.{setFaultOf}
 use Rattle.kept_sets.specs.declared.Sort.the-variants.{Rules, Ligatures}
 use Rattle.tried.specs.Tries.{Tries, tries-less}
@@ -24,6 +24,7 @@ use Rattle.tried.specs.declared.Tried.{Tried}
 use Rattle.by_glyph.specs.Whole.{glyphContext, ligatureTable}
 use Rattle.by_glyph.specs.PairTables.{pairFault, pairTable}
 use Rattle.covers.specs.Cutting as covers
+use Rattle.single_subst.specs.Whole as singles
 use Rattle.class_contexts.specs.Cutting as classes
 use Rattle.cut.specs.Cutting.{Sound, SoundContext, enoughBytes, classCells, otherCells, byClasses, contextCells, cellsFor}
 
@@ -117,8 +118,11 @@ module _ (kind : ℕ) (s : List ℕ) where
     unfolding setFaultOf
     asks-ligatures e = (sym (source-ligatures kind s starts e) ∙ a .sound, a .source, glyphs-ascend g (a .glyphs-good), glyph-values g (a .glyphs-good))
 
-    pub asks-pairs : (kind ≡ 1 → ⊥) → (kind ≡ 2 → ⊥) → (kind ≡ 3 → ⊥) → (pairFault s ≡ none) × (length s ≤ limit) × (ascends (keys (mapEntries g)) ≡ true) × (ascends (values (mapEntries g)) ≡ true)
-    asks-pairs x y z = (sym (source-pairs kind s starts x y z) ∙ a .sound, a .source, glyphs-ascend g (a .glyphs-good), glyph-values g (a .glyphs-good))
+    pub asks-pairs : kind ≡ 4 → (pairFault s ≡ none) × (length s ≤ limit) × (ascends (keys (mapEntries g)) ≡ true) × (ascends (values (mapEntries g)) ≡ true)
+    asks-pairs e = (sym (source-pairs kind s starts e) ∙ a .sound, a .source, glyphs-ascend g (a .glyphs-good), glyph-values g (a .glyphs-good))
+
+    pub asks-singles : (kind ≡ 1 → ⊥) → (kind ≡ 2 → ⊥) → (kind ≡ 3 → ⊥) → (kind ≡ 4 → ⊥) → singles.Sound s g
+    asks-singles x y z w = record { sound = sym (source-singles kind s starts x y z w) ∙ a .sound; source = a .source; glyphs-ascend = glyphs-ascend g (a .glyphs-good); new-ascend = glyph-values g (a .glyphs-good) }
 
   says-plain : kind ≡ 1 → context false s ≡ table kind s
   unfolding table
@@ -128,14 +132,21 @@ module _ (kind : ℕ) (s : List ℕ) where
   unfolding table
   says-chained e = rw e
 
-  -- no lookup is named by ligatures and pairs
+  -- no lookup is named by ligatures, pairs and single substitutions
   says-ligatures : (g l : List (ℕ × ℕ)) → kind ≡ 3 → cut g [] (ligatureTable s) ≡ cut g l (table kind s)
   unfolding table cut
   says-ligatures g l e = rw e
 
-  says-pairs : (g l : List (ℕ × ℕ)) → (kind ≡ 1 → ⊥) → (kind ≡ 2 → ⊥) → (kind ≡ 3 → ⊥) → cut g [] (pairTable s) ≡ cut g l (table kind s)
+  says-pairs : (g l : List (ℕ × ℕ)) → kind ≡ 4 → cut g [] (pairTable s) ≡ cut g l (table kind s)
   unfolding table cut
-  says-pairs g l x y z = rw (ne-eqb kind 1 x, ne-eqb kind 2 y, ne-eqb kind 3 z)
+  says-pairs g l e = rw e
+
+  single-is : (kind ≡ 1 → ⊥) → (kind ≡ 2 → ⊥) → (kind ≡ 3 → ⊥) → (kind ≡ 4 → ⊥) → single s ≡ table kind s
+  unfolding table
+  single-is x y z w = rw (ne-eqb kind 1 x, ne-eqb kind 2 y, ne-eqb kind 3 z, ne-eqb kind 4 w)
+
+  says-singles : (g l : List (ℕ × ℕ)) → (kind ≡ 1 → ⊥) → (kind ≡ 2 → ⊥) → (kind ≡ 3 → ⊥) → (kind ≡ 4 → ⊥) → cut g [] (single s) ≡ cut g l (table kind s)
+  says-singles g l x y z w = sym (singles.any-lookups g l s) ∙ ap (cut g l) (single-is x y z w)
 
   -- what each kind's cut answers is what a source's cut answers
   module _ (g l : List (ℕ × ℕ)) (n b : ℕ) (r : Tried) (out after : List ℕ) where
@@ -154,5 +165,11 @@ module _ (kind : ℕ) (s : List ℕ) where
     pub tries-ligatures : kind ≡ 3 → Tries (n < otherCells) (b < enoughBytes) r out after (written out (cut g [] (ligatureTable s))) → Cut
     tries-ligatures e h = tries-other (says-ligatures g l e) h
 
-    pub tries-pairs : (kind ≡ 1 → ⊥) → (kind ≡ 2 → ⊥) → (kind ≡ 3 → ⊥) → Tries (n < otherCells) (b < enoughBytes) r out after (written out (cut g [] (pairTable s))) → Cut
-    tries-pairs x y z h = tries-other (says-pairs g l x y z) h
+    pub tries-pairs : kind ≡ 4 → Tries (n < otherCells) (b < enoughBytes) r out after (written out (cut g [] (pairTable s))) → Cut
+    tries-pairs e h = tries-other (says-pairs g l e) h
+
+    pub tries-singles : (kind ≡ 1 → ⊥) → (kind ≡ 2 → ⊥) → (kind ≡ 3 → ⊥) → (kind ≡ 4 → ⊥) → Tries (n < singles.enoughCells) (b < limit) r out after (written out (cut g [] (single s))) → Cut
+    unfolding limit
+    tries-singles x y z w h =
+        tries-other (says-singles g l x y z w)
+        (tries-less (n < singles.enoughCells) (b < limit) (n < otherCells) (b < enoughBytes) r out after (written out (cut g [] (single s))) (λ x. x) (λ x. omega arith) h)

@@ -7,6 +7,7 @@ use covers::by_cover;
 use fold::cells;
 use room::LIMIT;
 use room::Laid;
+use single_subst::singles;
 use tried::Tried;
 use wire::word_at;
 ghost use mathlib.Core.Path.{_≡_};
@@ -67,7 +68,7 @@ fn context_in(
     }
 }
 
-// What is left of a sound source of this kind under a glyph map and a lookup map, handed over if there is room, with lent scratch whose content is arbitrary: 1 context, 2 chained, 3 ligature, and pair for any other.
+// What is left of a sound source of this kind under a glyph map and a lookup map, handed over if there is room, with lent scratch whose content is arbitrary: 1 context, 2 chained, 3 ligature, 4 pair, and single substitution for any other.
 // Where the scratch is too short the buffer is untouched; with `CELLS` cells and `BYTES` bytes it never is.
 pub fn cut_in(
     kind: usize,
@@ -85,7 +86,8 @@ pub fn cut_in(
         1 => context_in(false, src, glyphs, lookups, t, area, out),
         2 => context_in(true, src, glyphs, lookups, t, area, out),
         3 => ligatures(src, glyphs, t, area, out),
-        _ => pairs(src, glyphs, t, area, out),
+        4 => pairs(src, glyphs, t, area, out),
+        _ => singles(src, glyphs, t, area, out),
     }
 }
 

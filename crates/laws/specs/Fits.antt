@@ -10,7 +10,7 @@ use lib.Dec.{leb, ltb, eqb}
 use borrow.Author.Tests.{leb-true, leb-false, lt-ltb, eqb-true, eqb-false}
 use Rattle.meaning.specs.Words.{every, keys, twos, threes, flat}
 use Rattle.meaning.specs.Tables.{Rule, Ligature, Pair, Table, fieldCount}
-use Rattle.meaning.specs.Layout.{offsets, blocks, block, join, runs, indexed, coverageWords, spread, classWords, setsLayout, coversLayout, tableWords, wordsFit}
+use Rattle.meaning.specs.Layout.{offsets, blocks, block, join, runs, indexed, coverageWords, spread, classWords, setsLayout, coversLayout, coverLayout, tableWords, wordsFit}
 use Rattle.laws.specs.Stands.{wordEnd, All, all-map, all-append, all-front, all-back, Word, flat-length, twos-length, threes-length}
 use Rattle.laws.specs.Runs.{Up, Words3, both, runs-apart, runs-all, indexed-length, indexed-words}
 use Rattle.laws.specs.PartsBack.{Glyphs, Classes, Classed, coverage-words, classes-words, keys-of, words-of, threes-words, spread-ends, spread-words}
@@ -309,6 +309,40 @@ module _ (b i a : List (Option (List ℕ))) (rs : List (ℕ × ℕ)) (gb : All (
         ),
       )
 
+-- single substitutions
+pub single-fit : (format : ℕ) (cover : Option (List ℕ)) (more : List ℕ) → Word format → All Word more → Opt Glyphs cover
+    → All Word (offsets (2 + 2 * length (block coverageWords cover ∷ []) + 2 * length more) (block coverageWords cover ∷ [])) → All Word (coverLayout format (block coverageWords cover ∷ []) more)
+unfolding coverLayout
+single-fit format cover more f m g o =
+    let h = block coverageWords cover ∷ [] in
+    (f, all-append Word (offsets (2 + 2 * length h + 2 * length more) h) (more ++ blocks h) o (all-append Word more (blocks h) m (covers-words (cover ∷ []) (g, tt))))
+
+-- offsets of blocks that end by 65,536 fit
+offsets-fit : (n : ℕ) (bs : List (Option (List ℕ))) → All (Opt (λ b. 0 < length b)) bs → n + 2 * length (blocks bs) ≤ wordEnd → All Word (offsets n bs)
+unfolding offsets blocks
+offsets-fit n [] h l = tt
+offsets-fit n (none ∷ bs) h l = (omega arith, offsets-fit n bs (h .1) l)
+offsets-fit n (some b ∷ bs) h l = let e = length-append b (blocks bs) in (omega (arith, h .0), offsets-fit (n + 2 * length b) bs (h .1) (omega arith))
+
+cover-some : (cover : Option (List ℕ)) → Opt Glyphs cover → Opt (λ b. 0 < length b) (block coverageWords cover)
+unfolding block
+cover-some none g = tt
+cover-some (some gs) g = coverage-words gs g .0
+
+cover-length : (format : ℕ) (h : List (Option (List ℕ))) (more : List ℕ) → length (coverLayout format h more) ≡ 1 + length h + length more + length (blocks h)
+unfolding coverLayout
+cover-length format h more =
+    let o = offsets (4 + 2 * length more) h in
+    omega (arith, length-append o (more ++ blocks h), length-append more (blocks h), offsets-length (4 + 2 * length more) h)
+
+single-small : (format : ℕ) (cover : Option (List ℕ)) (more : List ℕ) → Word format → All Word more → Opt Glyphs cover → 2 * length (coverLayout format (block coverageWords cover ∷ []) more) ≤ wordEnd → All Word (coverLayout format (block coverageWords cover ∷ []) more)
+single-small format cover more f m g l =
+    let h = block coverageWords cover ∷ [] in
+    single-fit format cover more f m g (offsets-fit (2 + 2 * length h + 2 * length more) h (cover-some cover g, tt) (omega (arith, cover-length format h more)))
+
+subs-few : (format : ℕ) (cover : Option (List ℕ)) (subs : List ℕ) → 2 * length (coverLayout format (block coverageWords cover ∷ []) (length subs ∷ subs)) ≤ wordEnd → Word (length subs)
+subs-few format cover subs l = omega (arith, cover-length format (block coverageWords cover ∷ []) (length subs ∷ subs))
+
 -- Each word of the plain layout of a good table fits, offsets and counts too, if the layout is at most 65,536 bytes.
 pub words-small : (t : Table) → Good t → 2 * length (tableWords t) ≤ wordEnd → All Word (tableWords t)
 unfolding tableWords coversLayout ruleSetKind ligatureSetKind
@@ -324,3 +358,5 @@ words-small (Table.pairs-of cover f1 f2 sets) g l =
     let a = fieldCount f1 in
     let b = fieldCount f2 in
     by-sets-small (pairSetKind a b) 1 cover [] (f1 ∷ f2 ∷ []) sets [] (omega arith) (omega (arith, g .1), (omega (arith, g .2), tt)) (g .0) tt (all-opt (GoodPairs a b) (Back (pairSetKind a b) []) (pair-set-back a b []) sets (g .3)) l
+words-small (Table.single-delta cover d) g l = single-small 1 cover (d ∷ []) (omega arith) (g .1, tt) (g .0) l
+words-small (Table.single-list cover subs) g l = single-small 2 cover (length subs ∷ subs) (omega arith) (subs-few 2 cover subs l, g .1) (g .0) l

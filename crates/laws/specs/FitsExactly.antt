@@ -10,14 +10,14 @@ use lib.Dec.{leb, ltb, eqb}
 use borrow.Author.Tests.{leb-true, le-leb, ltb-true, lt-ltb, eqb-true, eqb-false}
 use Rattle.meaning.specs.Words.{every, twos}
 use Rattle.meaning.specs.Tables.{Rule, Ligature, Pair, Table, fieldCount}
-use Rattle.meaning.specs.Layout.{offsets, blocks, block, ruleWords, ligatureWords, setWords, pairSetWords, coverageWords, classWords, setsLayout, coversLayout, tableWords, wordsFit}
+use Rattle.meaning.specs.Layout.{offsets, blocks, block, ruleWords, ligatureWords, setWords, pairSetWords, coverageWords, classWords, setsLayout, coversLayout, coverLayout, tableWords, wordsFit}
 use Rattle.laws.specs.Stands.{wordEnd, All, all-append, all-front, all-back, Word}
 use Rattle.laws.specs.Runs.{both}
 use Rattle.laws.specs.PartsBack.{Glyphs, Classes}
 use Rattle.laws.specs.Through.{Kind, Back, Opt, all-opt}
 use Rattle.laws.specs.SetsBack.{Words2, GoodRule, GoodLigature, GoodPairs, pairSetKind, pair-set-back}
 use Rattle.laws.specs.ReadsBack.{Good, ruleSetKind, ligatureSetKind, rule-set-back, ligature-set-back, fit-words}
-use Rattle.laws.specs.Fits.{Short, words-fit, classes-fit, sets-fit, covers-fit, chained-covers-fit}
+use Rattle.laws.specs.Fits.{Short, words-fit, classes-fit, sets-fit, covers-fit, chained-covers-fit, single-fit}
 
 -- a test that holds exactly if each word fits
 pub fits-exactly : (ws : List ℕ) (b : Bool) → (All Word ws → b ≡ true) → (b ≡ true → All Word ws) → wordsFit ws ≡ b
@@ -146,6 +146,15 @@ module _ (b i a : List (Option (List ℕ))) (rs : List (ℕ × ℕ)) where
       let r = both (wordsFit oi) (wordsFit oa) (q .1) in
       chained-covers-fit b i a rs gb gi ga k nb ni na nr (fit-words ob (q .0)) (fit-words oi (r .0)) (fit-words oa (r .1)))
 
+-- single substitutions
+pub single-exactly : (format : ℕ) (cover : Option (List ℕ)) (more : List ℕ) → Word format → All Word more → Opt Glyphs cover
+    → let h = block coverageWords cover ∷ [] in wordsFit (coverLayout format h more) ≡ wordsFit (offsets (2 + 2 * length h + 2 * length more) h)
+unfolding coverLayout
+single-exactly format cover more f m g =
+    let h = block coverageWords cover ∷ [] in
+    let o = offsets (2 + 2 * length h + 2 * length more) h in
+    fits-exactly (coverLayout format h more) (wordsFit o) (λ k. words-fit o (all-front Word o (more ++ blocks h) (k .1))) (λ k. single-fit format cover more f m g (fit-words o k))
+
 -- the largest offset of blocks that stand one after the other, the last one's; 0 if there is none
 unfoldable pub lastOffset : ℕ → List (Option (List ℕ)) → ℕ
 lastOffset p [] = 0
@@ -254,3 +263,14 @@ unfolding tableWords
 chained-cover-exactly b i a rs g nb ni na nr =
     chained-covers-exactly b i a rs (g .0) (g .1) (g .2) (g .3) nb ni na nr
     ∙ rw (offsets-exactly (p₁ b i a rs) (bb b i a rs), offsets-exactly (p₂ b i a rs) (ib b i a rs), offsets-exactly (p₃ b i a rs) (ab b i a rs))
+
+-- single substitutions: by a delta they always fit; by a list exactly if the coverage's offset does
+pub single-delta-fits : (cov : List ℕ) (d : ℕ) → Good (Table.single-delta (some cov) d) → wordsFit (tableWords (Table.single-delta (some cov) d)) ≡ true
+unfolding tableWords block
+single-delta-fits cov d g = single-exactly 1 (some cov) (d ∷ []) (omega arith) (g .1, tt) (g .0) ∙ one-offset 6 (coverageWords cov)
+
+pub single-list-exactly : (cov subs : List ℕ) → Good (Table.single-list (some cov) subs) → Word (length subs) → wordsFit (tableWords (Table.single-list (some cov) subs)) ≡ ltb (6 + 2 * length subs) 65536
+unfolding tableWords block
+single-list-exactly cov subs g n =
+    let e : 2 + 2 * 1 + 2 * suc (length subs) ≡ 6 + 2 * length subs = omega arith in
+    single-exactly 2 (some cov) (length subs ∷ subs) (omega arith) (n, g .1) (g .0) ∙ one-offset (2 + 2 * 1 + 2 * suc (length subs)) (coverageWords cov) ∙ ap (λ (m : ℕ). ltb m 65536) e

@@ -9,7 +9,7 @@ use lib.IntN.{pos, negsuc}
 use Rattle.meaning.specs.Words.{bytes2, flat}
 use Rattle.meaning.specs.Tables.{table}
 use Rattle.meaning.specs.Subset.{Outcome, left, subset}
-use Rattle.meaning.specs.Matching.{Move, atPlace, match, ligate, adjust, skips}
+use Rattle.meaning.specs.Matching.{Move, atPlace, match, ligate, adjust, skips, substitute}
 
 -- chained, by glyph: for glyph 5 first a rule with backtrack 1, input 5 and 6, lookahead 7 and the record (1, 4), then one for 5 alone with the record (0, 9)
 abbrev two-rules : List ℕ
@@ -167,3 +167,24 @@ less-silent = subset 4 silent-pairs (flat (4 ∷ 0 ∷ 5 ∷ 1 ∷ [])) [] (repl
 pub still-skipped : (skips (table 4 silent-pairs) 4 5 ≡ true) × (less-silent .number ≡ 0) × (skips (table 4 (left less-silent)) 0 1 ≡ true) × (skips (table 4 silent-pairs) 5 4 ≡ false) × (skips (table 4 first-only) 5 6 ≡ false)
 unfolding bytes2 flat table subset skips
 still-skipped = (refl, refl, refl, refl, refl)
+
+-- glyph 5 becomes 4 and 0 becomes 65,535 by the delta −1; 5 becomes 9 and 7 becomes 3 by a list
+abbrev by-delta : List ℕ
+by-delta = flat (1 ∷ 6 ∷ 0xFFFF ∷ 1 ∷ 2 ∷ 0 ∷ 5 ∷ [])
+
+abbrev pub by-list : List ℕ
+by-list = flat (2 ∷ 10 ∷ 2 ∷ 9 ∷ 3 ∷ 1 ∷ 2 ∷ 5 ∷ 7 ∷ [])
+
+-- a covered glyph is replaced, modulo 65,536, and one that is not covered is not
+pub substitutes : (substitute (table 5 by-delta) 5 ≡ some 4) × (substitute (table 5 by-delta) 0 ≡ some 65535) × (substitute (table 5 by-delta) 4 ≡ none) × (substitute (table 5 by-list) 7 ≡ some 3) × (substitute (table 5 by-list) 9 ≡ none)
+unfolding bytes2 flat table substitute
+substitutes = (refl, refl, refl, refl, refl)
+
+-- the cut of the list by the map 5 → 0, 7 → 1, 9 → 2, in which 3, the substitute of 7, is not retained
+abbrev pub less-substitute : Outcome
+less-substitute = subset 5 by-list (flat (5 ∷ 0 ∷ 7 ∷ 1 ∷ 9 ∷ 2 ∷ [])) [] (replicate 12 0)
+
+-- 5, whose substitute is retained, is replaced as in the source; 7, whose substitute is not, is replaced in the source and not in the small table
+pub substitute-needed : (less-substitute .number ≡ 0) × (substitute (table 5 by-list) 5 ≡ some 9) × (substitute (table 5 (left less-substitute)) 0 ≡ some 2) × (substitute (table 5 by-list) 7 ≡ some 3) × (substitute (table 5 (left less-substitute)) 1 ≡ none)
+unfolding bytes2 flat table subset substitute
+substitute-needed = (refl, refl, refl, refl, refl)

@@ -10,11 +10,11 @@ use borrow.Author.Tests.{eqb-true, eqb-false, eq-eqb, ne-eqb}
 use Rattle.meaning.specs.Words.{bytes2, flat, keys, find, isSome, bind, mapAll, push, mapSome, member}
 use Rattle.meaning.specs.Maps.{mapEntries}
 use Rattle.meaning.specs.Parts.{classOf, listed, classIn}
-use Rattle.meaning.specs.Tables.{Rule, Ligature, Pair, Table, table}
-use Rattle.meaning.specs.Cut.{insertUp, heldBy, numbered, classMap, classMap?, newClasses?, RuleMaps, cutRecords, cutRule, unlessEmpty, cutSet, keptSets, keptByGlyph, newCoverage, retained, slots, keepSlot, trim, keptByClass, coversLeft, cutLigature, cutLigatures, keptLigatures, cutPair, cutPairs, keptPairs, cut}
+use Rattle.meaning.specs.Tables.{Rule, Ligature, Pair, Table, deltaPairs, listPairs, table}
+use Rattle.meaning.specs.Cut.{insertUp, heldBy, numbered, classMap, classMap?, newClasses?, RuleMaps, cutRecords, cutRule, unlessEmpty, cutSet, keptSets, keptByGlyph, newCoverage, retained, slots, keepSlot, trim, keptByClass, coversLeft, cutLigature, cutLigatures, keptLigatures, cutPair, cutPairs, keptPairs, keptSubstitutes, keptSingles, cut}
 use Rattle.promises.specs.Covers.{keys-same}
 use Rattle.promises.specs.Classes.{held-member}
-use Rattle.promises.specs.Survives.{someOf, each, notNullAnd, isRetained, classSurvives, ruleSurvives, glyphRuleSurvives, classRuleSurvives, setKept, someSetKept, someSlotKept, coverageSurvives, ligatureSurvives, pairSurvives, survives}
+use Rattle.promises.specs.Survives.{someOf, each, notNullAnd, isRetained, classSurvives, ruleSurvives, glyphRuleSurvives, classRuleSurvives, setKept, someSetKept, someSlotKept, coverageSurvives, ligatureSurvives, pairSurvives, substituteSurvives, survives}
 
 -- Answers: what is made of one, two or three answers is there exactly if each of them is.
 
@@ -341,6 +341,17 @@ module _ (g l : List (ℕ × ℕ)) where
       kept [] = refl
       kept (k ∷ ks) = refl
 
+  singles-left : (es : List (ℕ × ℕ)) → isSome (keptSingles (keptSubstitutes g es)) ≡ someOf (substituteSurvives g) es
+  unfolding cut substituteSurvives
+  singles-left es =
+      kept (keptSubstitutes g es)
+      ∙ some-left (λ e. bind (find g (e .0)) (λ n. bind (find g (e .1)) (λ m. some (n, m)))) (λ e. isRetained g (e .0) && isRetained g (e .1))
+      (λ e. two-left {C = ℕ × ℕ} (λ n m. (n, m)) (find g (e .0)) (find g (e .1)) ∙ ap₂ _&&_ (glyph-left g (e .0)) (glyph-left g (e .1))) es
+    where
+      kept : (ks : List (ℕ × ℕ)) → isSome (keptSingles ks) ≡ isSome (unlessEmpty ks)
+      kept [] = refl
+      kept (e ∷ ks) = refl
+
   -- `cut` leaves something of a table exactly if something of it survives, for any two maps, good or not, and any table
   pub cut-survives : (t : Table) → isSome (cut g l t) ≡ survives g t
   unfolding cut survives
@@ -354,6 +365,10 @@ module _ (g l : List (ℕ × ℕ)) where
   cut-survives (Table.ligatures (some cov) sets) = ligatures-left cov sets
   cut-survives (Table.pairs-of none f1 f2 sets) = refl
   cut-survives (Table.pairs-of (some cov) f1 f2 sets) = pairs-left cov f1 f2 sets
+  cut-survives (Table.single-delta none d) = refl
+  cut-survives (Table.single-delta (some cov) d) = singles-left (deltaPairs cov d)
+  cut-survives (Table.single-list none subs) = refl
+  cut-survives (Table.single-list (some cov) subs) = singles-left (listPairs cov subs)
 
 -- `survives` computes. A chained rule with input count 0 stays, and its set and its table with it.
 pub chained-count-0-stays :

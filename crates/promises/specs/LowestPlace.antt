@@ -12,14 +12,14 @@ use borrow.Author.Tests.{le-leb, leb-true, leb-false, lt-ltb, le-ltb}
 use Rattle.meaning.specs.Words.{word, words, inside, mapSome, push, isSome}
 use Rattle.meaning.specs.Parts.{coverage, coverageSound, classesSound}
 use Rattle.meaning.specs.Tables.{fieldCount}
-use Rattle.meaning.specs.Fault.{lowest, partFault, faultThrough, coverageFault, classesFault, ruleSound, ruleFault, ligatureFault, setFault, pairSetFault, enough, headerFault, coversFault, contextFault, fault}
+use Rattle.meaning.specs.Fault.{lowest, partFault, faultThrough, coverageFault, classesFault, ruleSound, ruleFault, ligatureFault, setFault, pairSetFault, enough, equalCount, headerFault, coversFault, contextFault, singleFault, fault}
 use Rattle.laws.specs.Stands.{all-map, all-append}
 use Rattle.laws.specs.FaultsLeft.{lowest-none}
 use Rattle.laws.specs.ReadsBack.{fault-is}
 use Rattle.promises.specs.Strings.{All}
 use Rattle.promises.specs.Numbers.{and-left}
 use Rattle.promises.specs.Refusals.{Call, answer, refusals, NoneOf, given-exactly, malformed-place}
-use Rattle.promises.specs.Places.{Sort, Part, contextHeader, headerOf, offsetsOf, targets, reachedBy, reachedFrom, eachOf, withReached, parts, endsBy, ruleEnd, atOdds, lowBits, sound, Sound, Faulty, Any, Lowest}
+use Rattle.promises.specs.Places.{Sort, Part, contextHeader, singleHeader, headerOf, offsetsOf, targets, reachedBy, reachedFrom, eachOf, withReached, parts, endsBy, ruleEnd, atOdds, otherCount, lowBits, sound, Sound, Faulty, Any, Lowest}
 
 any-left : {A : Type 0} (P : A → Type 0) (xs ys : List A) → Any P xs → Any P (xs ++ ys)
 any-left P [] ys h = absurd h
@@ -35,6 +35,10 @@ implied : (a b : Bool) → (b ≡ true → a ≡ true) → a && b ≡ b
 implied a true h = rw (h refl)
 implied true false h = refl
 implied false false h = refl
+
+and-true : (b : Bool) → b && true ≡ b
+and-true true = refl
+and-true false = refl
 
 -- faults of one place
 one-place : (at : ℕ) (a b : Bool) (r : Option ℕ) → partFault at a (partFault at b r) ≡ partFault at (a && b) r
@@ -301,11 +305,7 @@ module _ (s : List ℕ) where
       let sets = faultThrough faultAt s 0 (slot + 2) (word s slot) in
       let tables = before-rows Sort.class-table (classesFault s) 4 k ((member, slot + 2, word s slot) ∷ []) sets (classes-least 1) (sets-row member faultAt (slot + 2) (word s slot) h) in
       let rows = before-rows Sort.coverage-table (coverageFault s) 2 1 ((Sort.class-table, 4, k) ∷ (member, slot + 2, word s slot) ∷ []) (lowest (faultThrough (classesFault s) s 0 4 k) sets) (coverage-least 1) tables in
-      header-least to true k slot faultAt (t ∙ and-true (endsBy s (slot + 2 + 2 * word s slot))) (rw e rows)
-    where
-      and-true : (b : Bool) → b ≡ b && true
-      and-true true = refl
-      and-true false = refl
+      header-least to true k slot faultAt (t ∙ sym (and-true (endsBy s (slot + 2 + 2 * word s slot)))) (rw e rows)
 
   -- format 3
   covers-least : (chained : Bool) → Least (withReached 2 s (part (Sort.cover-header chained) 0)) (partFault 0 (inside s 0 2) (coversFault chained s))
@@ -348,15 +348,47 @@ module _ (s : List ℕ) where
       classed false = by-class (Sort.class-header false) (Sort.rule-set false) 1 6 (setFault (ruleFault false s) s) refl refl (rules-least false)
       classed true = by-class (Sort.class-header true) (Sort.rule-set true) 3 10 (setFault (ruleFault true s) s) refl refl (rules-least true)
 
+  -- a header of single substitutions: a coverage alone is reached
+  single-least : (to : Sort) (test : Bool) → offsetsOf s to 0 ≡ (Sort.coverage-table, 2, 1) ∷ [] → inside s 0 2 && test ≡ sound s to 0 → Header to (partFault 0 test (faultThrough (coverageFault s) s 0 2 1))
+  unfolding reachedFrom
+  single-least to test e t =
+      let reached = faultThrough (coverageFault s) s 0 2 1 in
+      rw (one-place 0 (inside s 0 2) test reached, t) (least-reached 1 (part to 0) reached (rw e (sets-row Sort.coverage-table (coverageFault s) 2 1 (coverage-least 1))))
+
+  -- as many substitutes: not at odds with a sound coverage
+  count-is : (n : ℕ) → equalCount s n ≡ not (otherCount s n)
+  unfolding equalCount otherCount
+  count-is n = step (eqb (word s 2) 0) (coverageSound s (word s 2)) (eqb (length (coverage s (word s 2))) n)
+    where
+      step : (a b t : Bool) → a || (not b || t) ≡ not (not a && (b && not t))
+      step true b t = refl
+      step false false t = refl
+      step false true true = refl
+      step false true false = refl
+
+  singles-least : Header (singleHeader s) (singleFault s)
+  unfolding singleHeader singleFault inside endsBy sound offsetsOf
+  singles-least = step (eqb (word s 0) 1)
+    where
+      end : ℕ
+      end = 6 + 2 * word s 4
+
+      step : (t : Bool) → Header (cond t Sort.delta-header Sort.list-header) (partFault 0 (inside s 0 6 && (t || (inside s 6 (2 * word s 4) && equalCount s (word s 4)))) (faultThrough (coverageFault s) s 0 2 1))
+      step true = single-least Sort.delta-header (inside s 0 6 && true) refl (also-good 0 2 6 true (omega arith) ∙ and-true (endsBy s 6))
+      step false =
+          single-least Sort.list-header (inside s 0 6 && (endsBy s end && equalCount s (word s 4))) refl
+          (rw (also-good 0 6 end (equalCount s (word s 4)) (omega arith)) (also-good 0 2 end (equalCount s (word s 4)) (omega arith) ∙ rw (count-is (word s 4))))
+
   pub fault-least : (kind : ℕ) → Least (parts kind s) (fault kind s)
   unfolding parts headerOf sound offsetsOf
   fault-least kind =
       rw (fault-is kind s)
       (either (eqb kind 1) (contextHeader false s) _ (contextFault false s) _ (context-least false)
       (either (eqb kind 2) (contextHeader true s) _ (contextFault true s) _ (context-least true)
-      (either (eqb kind 3) Sort.ligature-header Sort.pair-header _ _
+      (either (eqb kind 3) Sort.ligature-header _ _ _
       (by-index Sort.ligature-header Sort.ligature-set (enough s (word s 4)) 4 (setFault (ligatureFault s) s) (rw (enough-is (word s 4))) refl ligatures-least)
-      (by-index Sort.pair-header (Sort.pair-set a b) (lowBits (word s 4) && (lowBits (word s 6) && enough s (word s 8))) 8 (pairSetFault a b s) (rw (enough-is (word s 8))) refl (pairs-least a b 1)))))
+      (either (eqb kind 4) Sort.pair-header (singleHeader s) _ (singleFault s) (by-index Sort.pair-header (Sort.pair-set a b) (lowBits (word s 4) && (lowBits (word s 6) && enough s (word s 8))) 8 (pairSetFault a b s) (rw (enough-is (word s 8))) refl (pairs-least a b 1))
+      singles-least))))
     where
       a : ℕ
       a = fieldCount (word s 4)

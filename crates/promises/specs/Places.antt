@@ -15,6 +15,7 @@ use Rattle.meaning.specs.Subset.{subset}
 use Rattle.promises.specs.Strings.{All}
 
 -- The sorts of part. Those of contexts are plain (false) or chained (true), and a context's header goes by its format: by glyph (1), by class (2), by cover (3).
+-- So does that of a single substitution: by a delta (1), by a list (2).
 -- A pair set's records have so many values of the first glyph and so many of the second.
 pub data Sort : Type 0 where
   glyph-header : Bool → Sort
@@ -22,6 +23,8 @@ pub data Sort : Type 0 where
   cover-header : Bool → Sort
   ligature-header : Sort
   pair-header : Sort
+  delta-header : Sort
+  list-header : Sort
   rule-set : Bool → Sort
   rule : Bool → Sort
   ligature-set : Sort
@@ -41,9 +44,14 @@ pub record Part : Type 0 where
 unfoldable pub contextHeader : Bool → List ℕ → Sort
 contextHeader chained s = cond (eqb (word s 0) 1) (glyph-header chained) (cond (eqb (word s 0) 2) (class-header chained) (cover-header chained))
 
--- the header of a source of this kind: 1 context, 2 chained, 3 ligature, 4 pair
+-- a single substitution's header, by its format
+unfoldable pub singleHeader : List ℕ → Sort
+singleHeader s = cond (eqb (word s 0) 1) delta-header list-header
+
+-- the header of a source of this kind: 1 context, 2 chained, 3 ligature, 4 pair, 5 single substitution
 unfoldable pub headerOf : ℕ → List ℕ → Sort
-headerOf kind s = cond (eqb kind 1) (contextHeader false s) (cond (eqb kind 2) (contextHeader true s) (cond (eqb kind 3) ligature-header pair-header))
+headerOf kind s =
+    cond (eqb kind 1) (contextHeader false s) (cond (eqb kind 2) (contextHeader true s) (cond (eqb kind 3) ligature-header (cond (eqb kind 4) pair-header (singleHeader s))))
 
 -- the offsets that a part has, row by row: the sort of part that a row reaches, where the row stands, and how many offsets it has;
 -- rules, ligatures, pair sets, coverages and class tables have none
@@ -58,6 +66,8 @@ offsetsOf s (cover-header true) at =
     (coverage-table, 4, word s 2) ∷ (coverage-table, i + 2, word s i) ∷ (coverage-table, a + 2, word s a) ∷ []
 offsetsOf s ligature-header at = (coverage-table, 2, 1) ∷ (ligature-set, 6, word s 4) ∷ []
 offsetsOf s pair-header at = (coverage-table, 2, 1) ∷ (pair-set (fieldCount (word s 4)) (fieldCount (word s 6)), 10, word s 8) ∷ []
+offsetsOf s delta-header at = (coverage-table, 2, 1) ∷ []
+offsetsOf s list-header at = (coverage-table, 2, 1) ∷ []
 offsetsOf s (rule-set chained) at = (rule chained, at + 2, word s at) ∷ []
 offsetsOf s ligature-set at = (ligature, at + 2, word s at) ∷ []
 offsetsOf s (rule chained) at = []
@@ -91,7 +101,7 @@ withReached (suc n) s p = p ∷ eachOf (withReached n s) (reachedFrom s p)
 
 -- the parts of a source: a header reaches sets, coverage and class tables, and a set reaches rules or ligatures, which have no offsets
 unfoldable pub parts : ℕ → List ℕ → List Part
-unfolding contextHeader headerOf offsetsOf targets reachedBy reachedFrom eachOf withReached
+unfolding contextHeader singleHeader headerOf offsetsOf targets reachedBy reachedFrom eachOf withReached
 parts kind s = withReached 2 s (record { sort = headerOf kind s; start = 0 })
 
 -- When a part is sound by its own bytes.
@@ -122,20 +132,26 @@ coverEnd true s =
 unfoldable pub atOdds : List ℕ → ℕ → Bool
 atOdds s n = not (eqb (word s 2) 0) && (coverageSound s (word s 2) && ltb n (length (coverage s (word s 2))))
 
+-- n substitutes are at odds with a sound coverage: it has another number of glyphs
+unfoldable pub otherCount : List ℕ → ℕ → Bool
+otherCount s n = not (eqb (word s 2) 0) && (coverageSound s (word s 2) && not (eqb (length (coverage s (word s 2))) n))
+
 -- a value format has no bit of 0xFF00
 unfoldable pub lowBits : ℕ → Bool
 lowBits f = eqb (f / 256) 0
 
--- each part lies inside; besides, a header's set count is not at odds with a sound coverage, value formats have low bits only, a pair set's second glyphs ascend,
+-- each part lies inside; besides, a header's set count or substitute count is not at odds with a sound coverage, value formats have low bits only, a pair set's second glyphs ascend,
 -- and a coverage or a class table is sound as Parts.antt says
 unfoldable pub sound : List ℕ → Sort → ℕ → Bool
-unfolding endsBy ruleEnd coverEnd atOdds lowBits
+unfolding endsBy ruleEnd coverEnd atOdds otherCount lowBits
 sound s (glyph-header chained) at = endsBy s (6 + 2 * word s 4) && not (atOdds s (word s 4))
 sound s (class-header false) at = endsBy s (8 + 2 * word s 6)
 sound s (class-header true) at = endsBy s (12 + 2 * word s 10)
 sound s (cover-header chained) at = endsBy s (coverEnd chained s)
 sound s ligature-header at = endsBy s (6 + 2 * word s 4) && not (atOdds s (word s 4))
 sound s pair-header at = endsBy s (10 + 2 * word s 8) && (lowBits (word s 4) && (lowBits (word s 6) && not (atOdds s (word s 8))))
+sound s delta-header at = endsBy s 6
+sound s list-header at = endsBy s (6 + 2 * word s 4) && not (otherCount s (word s 4))
 sound s (rule-set chained) at = endsBy s (at + 2 + 2 * word s at)
 sound s (rule chained) at = endsBy s (ruleEnd chained s at)
 sound s ligature-set at = endsBy s (at + 2 + 2 * word s at)

@@ -1,8 +1,8 @@
 -- Every promise in one place, each with its words above it. They hold of every call: any kind, any source bytes, any two maps, any buffer.
 -- A reader who believes the definitions of `meaning` needs of this crate what stands here, the statements that it names in Refusals.antt (`Call`, `answer`, `plain`, `refusals`, `Meets`),
--- Survives.antt, and `Retained`, `new`, `renumbered`, `cutMatch`, `cutLigated`, `Closed`, and `Faulty` and `callOf` of the job, each a line or two.
+-- Survives.antt, and `Retained`, `new`, `renumbered`, `cutMatch`, `cutLigated`, `Closed`, `SubstituteRetained`, `SubstitutesRetained`, and `Faulty` and `callOf` of the job, each a line or two.
 use Prim.Native.Nat.{ℕ, _≤_, _<_}
-use mathlib.Core.Path.{_≡_, ap, _∙_}
+use mathlib.Core.Path.{_≡_}
 use mathlib.Core.Bool.{Bool, true, false, not}
 use mathlib.Core.Option.{none, some, Option·map}
 use mathlib.Core.List.{List, [], _∷_, _++_, map}
@@ -15,7 +15,7 @@ use Rattle.meaning.specs.Fault.{fault}
 use Rattle.meaning.specs.Cut.{classMap?}
 use Rattle.meaning.specs.Layout.{wordsFit}
 use Rattle.meaning.specs.Subset.{Outcome, left, refused, limit, goodKind, tooBig}
-use Rattle.meaning.specs.Matching.{atPlace, match, ligate, adjust, skips}
+use Rattle.meaning.specs.Matching.{atPlace, match, ligate, adjust, skips, substitute}
 use Rattle.meaning.specs.Job.{ascii, job, program}
 use Rattle.meaning.specs.Calls.{call, stated}
 use Rattle.meaning.specs.Rows as Rows
@@ -23,11 +23,13 @@ use Rattle.meaning.specs.Points as Points
 use Rattle.meaning.specs.Jobs as Jobs
 use Rattle.meaning.specs.Matches as Matches
 use Rattle.limits.specs.Limits as Limits
+use Rattle.laws.specs.CutGood.{GoodMap}
 use Rattle.laws.specs.SoundGood.{Bytes}
-use Rattle.laws.specs.CallBack.{Passed, passed, left-good, call-reads-back}
+use Rattle.laws.specs.CallBack.{Passed, passed, good-glyphs, left-good, call-reads-back}
 use Rattle.promises.specs.Strings.{All, Retained, new}
 use Rattle.promises.specs.Rules.{cutMatch}
 use Rattle.promises.specs.Ligatures.{cutLigated, Closed}
+use Rattle.promises.specs.Singles.{SubstituteRetained, SubstitutesRetained}
 use Rattle.promises.specs.Classes.{null-map}
 use Rattle.promises.specs.Sizes as Sizes
 use Rattle.promises.specs.Sizes.{refusalsBefore}
@@ -150,6 +152,9 @@ module _ (c : Call) (bytes : BytesOf c) (kept : (answer c) .number ≡ 0) where
   abbrev tests : Passed (c .kind) (c .source) (c .glyphs) (c .lookups) (c .buffer)
   tests = passed (c .kind) (c .source) (c .glyphs) (c .lookups) (c .buffer) kept
 
+  abbrev good : GoodMap g
+  good = good-glyphs (c .glyphs) (bytes .glyphs) (tests .glyphs-good)
+
   -- `reads-back`: the bytes that are left say what was cut, and have no fault.
   pub reads-back : (left? c ≡ some (small-says c)) × (fault (c .kind) (left (answer c)) ≡ none)
   reads-back = call-reads-back (c .kind) (c .source) (c .glyphs) (c .lookups) (c .buffer) (bytes .source) (bytes .glyphs) (bytes .lookups) kept
@@ -161,23 +166,32 @@ module _ (c : Call) (bytes : BytesOf c) (kept : (answer c) .number ≡ 0) where
   pub context-same : (string : List ℕ) (i : ℕ) → All (Retained g) string
       → atPlace (match (small-says c)) [] (map (new g) string) i ≡ Option·map (cutMatch l) (atPlace (match (says c)) [] string i)
   unfolding bind
-  context-same string i r = rw (reads-back .0) at (Same.context-same (c .glyphs) (c .lookups) (tests .glyphs-good) (c .kind) (c .source) (tests .sound) string i r)
+  context-same string i r = rw (reads-back .0) at (Same.context-same g l good (c .kind) (c .source) (tests .sound) string i r)
 
   -- `ligature-same`: the small table forms the same ligature, under its new number and of as many components, where the source forms one, and none where it forms none,
   -- if each ligature whose components are all retained has its own glyph retained (`Closed`).
   pub ligature-same : c .kind ≡ 3 → Closed g (says c) → (string : List ℕ) (i : ℕ) → All (Retained g) string
       → atPlace (λ before x after. ligate (small-says c) x after) [] (map (new g) string) i ≡ Option·map (cutLigated g) (atPlace (λ before x after. ligate (says c) x after) [] string i)
   unfolding bind
-  ligature-same k closed string i r = rw (reads-back .0) at (Same.ligature-same (c .glyphs) (c .lookups) (tests .glyphs-good) (c .kind) k (c .source) (tests .sound) closed string i r)
+  ligature-same k closed string i r = rw (reads-back .0) at (Same.ligature-same g l good (c .kind) k (c .source) (tests .sound) closed string i r)
 
   -- `pair-same`: each pair of retained glyphs is found or not as before, with equal adjustments: signed 16-bit, absent fields 0.
   pub pair-same : c .kind ≡ 4 → (x y : ℕ) → Retained g x → Retained g y → adjust (small-says c) (new g x) (new g y) ≡ adjust (says c) x y
   unfolding bind
-  pair-same k x y rx ry = rw (reads-back .0) at (Same.pair-same (c .glyphs) (c .lookups) (tests .glyphs-good) (c .kind) k (c .source) (tests .sound) x y rx ry .0)
+  pair-same k x y rx ry = rw (reads-back .0) at (Same.pair-same g l good (c .kind) k (c .source) (tests .sound) x y rx ry .0)
 
   -- `pair-skipped`: its second glyph is skipped or not as before.
   pub pair-skipped : c .kind ≡ 4 → (x y : ℕ) → Retained g x → Retained g y → skips (small-says c) (new g x) (new g y) ≡ skips (says c) x y
-  pair-skipped k x y rx ry = rw (reads-back .0) at (Same.pair-same (c .glyphs) (c .lookups) (tests .glyphs-good) (c .kind) k (c .source) (tests .sound) x y rx ry .1)
+  pair-skipped k x y rx ry = rw (reads-back .0) at (Same.pair-same g l good (c .kind) k (c .source) (tests .sound) x y rx ry .1)
+
+  -- `single-same`: a retained glyph whose substitute is retained is replaced as in the source, by the new number of that substitute, and one that had no substitute has none.
+  pub single-same : c .kind ≡ 5 → (x : ℕ) → Retained g x → SubstituteRetained g (says c) x → substitute (small-says c) (new g x) ≡ Option·map (new g) (substitute (says c) x)
+  unfolding bind
+  single-same k x rx closed = rw (reads-back .0) at (Same.single-same g l good (c .kind) k (c .source) x rx closed)
+
+  -- `singles-same`: so each retained glyph is replaced as in the source, where retained glyphs have retained substitutes (`SubstitutesRetained`).
+  pub singles-same : c .kind ≡ 5 → SubstitutesRetained g (says c) → (x : ℕ) → Retained g x → substitute (small-says c) (new g x) ≡ Option·map (new g) (substitute (says c) x)
+  singles-same k closed x rx = single-same k x rx (closed x rx)
 
 -- An absent class table.
 
@@ -200,6 +214,11 @@ bytes-kept-before c bytes n = Sizes.kept-before c (kept-as-before c bytes) n
 -- The condition on ligatures is needed: without it the small table forms another ligature than the source.
 pub closed-needed : (Matches.less-one .number ≡ 0) × (ligate (table 3 Matches.two-ligatures) 5 (6 ∷ 7 ∷ []) ≡ some (20, 3)) × (ligate (table 3 (left Matches.less-one)) 0 (1 ∷ 2 ∷ []) ≡ some (3, 2))
 closed-needed = Matches.condition-needed
+
+-- The condition on single substitutions is needed: a glyph whose substitute is not retained is replaced in the source and not in the small table; another one, in the same tables, is replaced in both.
+pub substitute-needed : (Matches.less-substitute .number ≡ 0) × (substitute (table 5 Matches.by-list) 5 ≡ some 9) × (substitute (table 5 (left Matches.less-substitute)) 0 ≡ some 2)
+    × (substitute (table 5 Matches.by-list) 7 ≡ some 3) × (substitute (table 5 (left Matches.less-substitute)) 1 ≡ none)
+substitute-needed = Matches.substitute-needed
 
 -- Records past their rule.
 

@@ -53,7 +53,7 @@ plain c = flat (plainWords c)
 -- the table of refusals of documents 01 and 02, in the written order: the number of each, and whether it applies to a call, each judged by itself
 unfoldable pub refusals : Call → List (ℕ × Bool)
 refusals c =
-    -- kind not 1 to 4
+    -- kind not 1 to 5
     (1, not (goodKind (c .kind)))
     -- glyph map length not a multiple of 4, or a column not strictly increasing
     ∷ (2, not (goodGlyphs (c .glyphs)))

@@ -9,7 +9,7 @@ use lib.ListN.{getD}
 use lib.Dec.{eqb}
 use Rattle.meaning.specs.Words.{keys, find, member}
 use Rattle.meaning.specs.Parts.{classOf, listed, classIn}
-use Rattle.meaning.specs.Tables.{Rule, Ligature, Pair, Table}
+use Rattle.meaning.specs.Tables.{Rule, Ligature, Pair, Table, plusDelta, deltaPairs, listPairs}
 
 -- some of a list pass a test
 unfoldable pub someOf : {A : Type 0} → (A → Bool) → List A → Bool
@@ -73,11 +73,17 @@ ligatureSurvives g x = isRetained g (x .glyph) && each (isRetained g) (x .parts)
 unfoldable pub pairSurvives : List (ℕ × ℕ) → ℕ → Pair → Bool
 pairSurvives g c p = isRetained g c && isRetained g (p .second)
 
+-- a single substitution survives if glyph and substitute are both retained
+unfoldable pub substituteSurvives : List (ℕ × ℕ) → ℕ × ℕ → Bool
+substituteSurvives g e = isRetained g (e .0) && isRetained g (e .1)
+
 -- something of a table survives: its coverage, and in format 2 its input class table, isn't null and some set or slot is kept; in format 3 no coverage empties it, and with no coverage at all it is kept
 unfoldable pub survives : List (ℕ × ℕ) → Table → Bool
-unfolding keys find member classOf someOf each notNullAnd isRetained classSurvives ruleSurvives glyphRuleSurvives classRuleSurvives setKept someSetKept someSlotKept coverageSurvives ligatureSurvives pairSurvives listed classIn
+unfolding keys find member classOf someOf each notNullAnd isRetained classSurvives ruleSurvives glyphRuleSurvives classRuleSurvives setKept someSetKept someSlotKept coverageSurvives ligatureSurvives pairSurvives substituteSurvives plusDelta deltaPairs listPairs listed classIn
 survives g (Table.by-glyph chained cover sets) = notNullAnd (λ cov. someSetKept (λ c. glyphRuleSurvives chained g) g cov sets) cover
 survives g (Table.by-class chained cover b i a sets) = notNullAnd (λ cov. notNullAnd (λ cs. someSlotKept (classRuleSurvives chained g b i a) g cs cov sets) i) cover
 survives g (Table.by-cover chained b i a records) = each (coverageSurvives g) b && (each (coverageSurvives g) i && each (coverageSurvives g) a)
 survives g (Table.ligatures cover sets) = notNullAnd (λ cov. someSetKept (λ c. ligatureSurvives g) g cov sets) cover
 survives g (Table.pairs-of cover format1 format2 sets) = notNullAnd (λ cov. someSetKept (pairSurvives g) g cov sets) cover
+survives g (Table.single-delta cover d) = notNullAnd (λ cov. someOf (substituteSurvives g) (deltaPairs cov d)) cover
+survives g (Table.single-list cover subs) = notNullAnd (λ cov. someOf (substituteSurvives g) (listPairs cov subs)) cover

@@ -1,33 +1,23 @@
 -- What is cut has no record past its rule, if the source has none: records keep their places, and rules their input counts. So what is kept is never refused as 12.
 use Prim.Native.Nat.{ℕ, suc}
 use mathlib.Core.Path.{_≡_, refl, sym, ap, _∙_, subst}
-use mathlib.Core.Bool.{Bool, true, _&&_, not, true≢false}
+use mathlib.Core.Bool.{Bool, true, false, cond, _&&_, not, true≢false}
 use mathlib.Core.Option.{Option, none, some}
 use mathlib.Core.List.{List, [], _∷_}
 use lib.ListN.{length, take, drop}
 use lib.Dec.{ltb, eqb}
-use Rattle.meaning.specs.Words.{keys, every, find, bind, mapAll, push, mapSome}
+use Rattle.meaning.specs.Words.{keys, values, every, find, bind, mapAll, push, mapSome}
 use Rattle.meaning.specs.Maps.{mapEntries}
-use Rattle.meaning.specs.Tables.{Rule, Ligature, Pair, Table, dropNull, table}
+use Rattle.meaning.specs.Tables.{Rule, Ligature, Pair, Table, dropNull, deltaPairs, listPairs, table}
 use Rattle.meaning.specs.Records.{indexesBelow, ruleWithin, setsWithin, recordsWithin}
-use Rattle.meaning.specs.Cut.{RuleMaps, cutRecords, cutRule, cutSet, keptSets, setsOf, keptByGlyph, heldBy, classMap, classMap?, newClasses?, newCoverage, retained, slots, trim, keptByClass, coversLeft, cutLigatures, keptLigatures, cutPairs, keptPairs, cut}
+use Rattle.meaning.specs.Cut.{RuleMaps, cutRecords, cutRule, cutSet, keptSets, setsOf, keptByGlyph, heldBy, classMap, classMap?, newClasses?, newCoverage, retained, slots, trim, keptByClass, coversLeft, cutLigatures, keptLigatures, cutPairs, keptPairs, keptSubstitutes, deltaOf, agree, keptSingles, cut}
 use Rattle.laws.specs.Through.{Opt}
 use Rattle.laws.specs.CutGood.{opt-bind, all-mapSome, opt-cond, opt-unlessEmpty, slots-all, trim-all}
+use Rattle.laws.specs.CutCells.{every-all, all-every}
 use Rattle.laws.specs.CallBack.{passed}
 use Rattle.promises.specs.Strings.{All}
 use Rattle.promises.specs.Numbers.{and-left, and-right}
 use Rattle.promises.specs.Refusals.{Call, answer, left?, refusals, given-exactly}
-
--- a test of each element, as one test and as facts
-facts : {A : Type 0} (test : A → Bool) (l : List A) → every test l ≡ true → All (λ a. test a ≡ true) l
-unfolding every
-facts test [] h = tt
-facts test (a ∷ l) h = (and-left (test a) _ h, facts test l (and-right (test a) _ h))
-
-tested : {A : Type 0} (test : A → Bool) (l : List A) → All (λ a. test a ≡ true) l → every test l ≡ true
-unfolding every
-tested test [] h = refl
-tested test (a ∷ l) h = rw (h .0) (tested test l (h .1))
 
 -- nothing is said of an answer
 abbrev Anything : {A : Type 0} → A → Type 0
@@ -41,9 +31,9 @@ any (some a) = tt
 cut-places : (n : ℕ) (l rs : List (ℕ × ℕ)) → indexesBelow n rs ≡ true → indexesBelow n (cutRecords l rs) ≡ true
 unfolding indexesBelow cutRecords
 cut-places n l rs h =
-    tested (λ e. ltb (e .0) n) (cutRecords l rs)
+    every-all (λ e. ltb (e .0) n) (cutRecords l rs)
     (all-mapSome (λ e. ltb (e .0) n ≡ true) (λ e. ltb (e .0) n ≡ true) (λ e. bind (find l (e .1)) (λ x. some (e .0, x)))
-    (λ e p. opt-bind Anything (λ e. ltb (e .0) n ≡ true) (find l (e .1)) (λ x. some (e .0, x)) (any (find l (e .1))) (λ x u. p)) rs (facts (λ e. ltb (e .0) n) rs h))
+    (λ e p. opt-bind Anything (λ e. ltb (e .0) n ≡ true) (find l (e .1)) (λ x. some (e .0, x)) (any (find l (e .1))) (λ x u. p)) rs (all-every (λ e. ltb (e .0) n) rs h))
 
 -- rules keep their counts
 abbrev RuleWithin : Rule → Type 0
@@ -65,7 +55,7 @@ cut-set : (chained : Bool) (m : RuleMaps) (rs : List Rule) → SetWithin rs → 
 unfolding cutSet
 cut-set chained m rs h =
     let left = mapSome (cutRule chained m) rs in
-    opt-unlessEmpty SetWithin left (tested ruleWithin left (all-mapSome RuleWithin RuleWithin (cutRule chained m) (cut-rule chained m) rs (facts ruleWithin rs h)))
+    opt-unlessEmpty SetWithin left (every-all ruleWithin left (all-mapSome RuleWithin RuleWithin (cutRule chained m) (cut-rule chained m) rs (all-every ruleWithin rs h)))
 
 -- sets, as one test and as facts
 sets-facts : (ss : List (Option (List Rule))) → setsWithin ss ≡ true → All (Opt SetWithin) ss
@@ -114,6 +104,16 @@ unfolding recordsWithin
 by-cover-within chained l rs i b′ i′ a′ e h =
     opt-bind Anything Within b′ _ (any b′) (λ b u. opt-bind (AsMany i) Within i′ _ e (λ r n. opt-bind Anything Within a′ _ (any a′) (λ a v. rw n (cut-places (length i) l rs h))))
 
+-- single substitutions have no records
+singles-within : (ks : List (ℕ × ℕ)) → Opt Within (keptSingles ks)
+unfolding keptSingles recordsWithin
+singles-within [] = tt
+singles-within (e ∷ r) = step (agree (e ∷ r))
+  where
+    step : (t : Bool) → Within (cond t (Table.single-delta (some (keys (e ∷ r))) (deltaOf e)) (Table.single-list (some (keys (e ∷ r))) (values (e ∷ r))))
+    step true = refl
+    step false = refl
+
 -- What is cut of such a table is such a table.
 pub cut-within : (g l : List (ℕ × ℕ)) (t : Table) → Within t → Opt Within (cut g l t)
 unfolding cut recordsWithin
@@ -153,6 +153,10 @@ cut-within g l (Table.pairs-of (some cov) f1 f2 sets) h = step (keptSets (cutPai
     step : (ks : List (ℕ × List Pair)) → Opt Within (keptPairs f1 f2 ks)
     step [] = tt
     step (e ∷ ks) = refl
+cut-within g l (Table.single-delta none d) h = tt
+cut-within g l (Table.single-delta (some cov) d) h = singles-within (keptSubstitutes g (deltaPairs cov d))
+cut-within g l (Table.single-list none subs) h = tt
+cut-within g l (Table.single-list (some cov) subs) h = singles-within (keptSubstitutes g (listPairs cov subs))
 
 module _ (c : Call) where
   -- what a call keeps is one

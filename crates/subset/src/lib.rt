@@ -16,7 +16,7 @@ ghost use Prim.Native.Nat.{_+_, _*_, _≤_};
 ghost use lib.ListN.{length};
 ghost use lib.Dec.{ltb, eqb};
 ghost use Rattle.meaning.specs.Words.{word, inside};
-ghost use Rattle.meaning.specs.Subset.{limit, goodKind, hasFormat, hasDevice, subset};
+ghost use Rattle.meaning.specs.Subset.{limit, goodKind, lastFormat, hasFormat, hasDevice, subset};
 ghost use Rattle.subset.specs.Answers.{numberOf, lengthOf, outcome, decoded, answerOf};
 ghost use Rattle.subset.specs.Refusals.{Judges};
 
@@ -44,27 +44,37 @@ pub enum Judged {
     Sound,
 }
 
-// Whether the kind is 1 context, 2 chained, 3 ligature or 4 pair.
+// Whether the kind is 1 context, 2 chained, 3 ligature, 4 pair or 5 single substitution.
 fn good_kind(kind: usize) -> bool
     ensures { λ r. ⌜ r ≡ goodKind kind ⌝ }
 {
     if kind < 1 {
         return false;
     }
-    kind <= 4
+    kind <= 5
 }
 
-// Whether the kind has this format: contexts have 1, 2 and 3, ligatures and pairs have 1.
+// The last format of a kind: 3 for contexts, 1 for ligatures and pairs, 2 for single substitutions.
+fn last_format(kind: usize) -> usize
+    ensures { λ r. ⌜ r ≡ lastFormat kind ⌝ }
+{
+    if kind <= 2 {
+        return 3;
+    }
+    if kind <= 4 {
+        return 1;
+    }
+    2
+}
+
+// Whether the kind has this format: from 1 to its last.
 fn has_format(kind: usize, format: usize) -> bool
     ensures { λ r. ⌜ r ≡ hasFormat kind format ⌝ }
 {
-    if 2 < kind {
-        return format == 1;
-    }
     if format < 1 {
         return false;
     }
-    format <= 3
+    format <= last_format(kind)
 }
 
 // Whether a source is over the limit.

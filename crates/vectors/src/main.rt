@@ -532,6 +532,63 @@ fn wide_pairs() -> usize
     verdict(b"pairs of a shared set: ", 300, good)
 }
 
+// A single substitution of each of the first `n` glyphs by the next one: a delta of 1, and a coverage of one range.
+fn put_next(out: &mut [u8], n: usize)
+    requires { ⌜ 0 < n ⌝ }
+{
+    put_record(out, 0, 1, 6, 1);
+    put_record(out, 6, 2, 1, 0);
+    put_entry(out, 12, n - 1, 0);
+}
+
+// What is kept of it where the last substitute alone gets another number, 65,535: a list, and that coverage.
+fn put_list(out: &mut [u8], n: usize)
+    requires { ⌜ (0 < n) × (n ≤ 65536) ⌝ }
+{
+    put_record(out, 0, 2, 6 + 2 * n, n);
+    let mut i = 1;
+    while i < n {
+        put(out, 4 + 2 * i, i);
+        i += 1;
+    }
+    put_record(out, 4 + 2 * n, 65535, 2, 1);
+    put_record(out, 10 + 2 * n, 0, n - 1, 0);
+}
+
+// The map that gives it that number: of the first `n` glyphs, each to itself, and of the next one.
+fn put_same_but_last(out: &mut [u8], n: usize)
+    requires { ⌜ n ≤ 65536 ⌝ }
+{
+    put_same(out, n);
+    put_entry(out, 4 * n, n, 65535);
+}
+
+// How many agree of the calls whose plain layout has the coverage at 65,534, behind 32,764 substitutes.
+fn most_substitutes() -> usize
+    ensures { λ r. ⌜ r ≤ 3 ⌝ }
+{
+    let mut source = [0u8; 16];
+    put_next(&mut source, 32764);
+    let mut glyphs = [0u8; 131060];
+    put_same_but_last(&mut glyphs, 32764);
+    let mut kept = [0u8; 65544];
+    put_list(&mut kept, 32764);
+    let good = kept_calls(5, &source, &glyphs, b"", &kept);
+    verdict(b"substitutes: ", 32764, good)
+}
+
+// How many agree of the calls whose plain layout would have it at 65,536.
+fn more_substitutes() -> usize
+    ensures { λ r. ⌜ r ≤ 3 ⌝ }
+{
+    let mut source = [0u8; 16];
+    put_next(&mut source, 32765);
+    let mut glyphs = [0u8; 131064];
+    put_same_but_last(&mut glyphs, 32765);
+    let good = refused_calls(5, &source, &glyphs, b"", 9, 0);
+    verdict(b"substitutes: ", 32765, good)
+}
+
 // How many agree of the calls on large tables.
 fn large_tables() -> usize
     ensures { λ r. ⌜ r ≤ 9 ⌝ }
@@ -541,16 +598,17 @@ fn large_tables() -> usize
 
 // How many agree of the calls at the limits.
 fn limits() -> usize
-    ensures { λ r. ⌜ r ≤ 30 ⌝ }
+    ensures { λ r. ⌜ r ≤ 42 ⌝ }
 {
     let contexts = sources(1) + sources(2);
-    let others = sources(3) + sources(4);
-    contexts + others + highest_offset() + higher_offset()
+    let others = sources(3) + sources(4) + sources(5);
+    let offsets = highest_offset() + higher_offset();
+    contexts + others + offsets + most_substitutes() + more_substitutes()
 }
 
 fn main() {
     let good = limits() + large_tables();
     let mut file = [0u8; FILE];
     let n = io::read_full(0, &mut file);
-    run(&file[..n], 13 * TIMES, good);
+    run(&file[..n], 17 * TIMES, good);
 }

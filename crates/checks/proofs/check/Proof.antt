@@ -1,7 +1,7 @@
 use borrow.Author.Needs.{needs}
 use borrow.Author.Tests.{not-true, not-false}
 use Rattle.wire.specs.Fault.{faultOf}
-use Rattle.checks.proofs.Laws.{source-short, source-plain, source-chained, source-ligatures, source-pairs}
+use Rattle.checks.proofs.Laws.{source-short, source-plain, source-chained, source-ligatures, source-pairs, source-singles}
 use mathlib.Core.Path.{sym, ap, _∙_}
 use native.Mathlib.Omega.{arith}
 use borrow.Author.Needs.{needs}
@@ -40,7 +40,14 @@ returns-5 c =
     let t = c .before .before in
     let i = t .before in
     let a = i .before .before .args in
-    c .check-pairs .ensures ∙ sym (ap faultOf (source-pairs (a .kind) (a .src .now) (sym (i .inside .ensures) ∙ not-false _ (t .if1 .left)) (omega arith) (omega arith) (omega arith)))
+    c .check-pairs .ensures ∙ sym (ap faultOf (source-pairs (a .kind) (a .src .now) (sym (i .inside .ensures) ∙ not-false _ (t .if1 .left)) (omega arith)))
+
+returns-6 : tie.Need-returns-6
+returns-6 c =
+    let t = c .before .before in
+    let i = t .before in
+    let a = i .before .before .args in
+    c .check .ensures ∙ sym (ap faultOf (source-singles (a .kind) (a .src .now) (sym (i .inside .ensures) ∙ not-false _ (t .if1 .left)) (omega arith) (omega arith) (omega arith) (omega arith)))
 
 pub check-spec : {M : Type 1} → statement M
 check-spec =
@@ -52,7 +59,9 @@ check-spec =
     (λ c κs. search needs)
     (λ c κs. search needs)
     (λ c κs. search needs)
+    (λ c κs. search needs)
     returns-2
     returns-3
     returns-4
-    returns-5)
+    returns-5
+    returns-6)

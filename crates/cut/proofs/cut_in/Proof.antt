@@ -3,7 +3,7 @@ use native.Mathlib.Omega.{arith}
 use lib.ListN.{length}
 use borrow.Author.Needs.{needs}
 use Rattle.meaning.specs.Maps.{mapEntries}
-use Rattle.cut.proofs.Says.{asks-plain, asks-chained, asks-ligatures, asks-pairs, tries-plain, tries-chained, tries-ligatures, tries-pairs}
+use Rattle.cut.proofs.Says.{asks-plain, asks-chained, asks-ligatures, asks-pairs, asks-singles, tries-plain, tries-chained, tries-ligatures, tries-pairs, tries-singles}
 use Rattle.cut.proofs.cut_in.Statement.{statement}
 use Rattle.cut.proofs.cut_in.Tie as tie
 
@@ -25,7 +25,12 @@ ligatures-requires c κs =
 pairs-requires : tie.Need-pairs-requires
 pairs-requires c κs =
     let a = c .before .before .before .before .before .before .before .before .before .before in
-    asks-pairs (a .args .kind) (a .args .src .now) (a .pre) (omega arith) (omega arith) (omega arith)
+    asks-pairs (a .args .kind) (a .args .src .now) (a .pre) (omega arith)
+
+singles-requires : tie.Need-singles-requires
+singles-requires c κs =
+    let a = c .before .before .before .before .before .before .before .before .before .before in
+    asks-singles (a .args .kind) (a .args .src .now) (a .pre) (omega arith) (omega arith) (omega arith) (omega arith)
 
 returns : tie.Need-returns
 returns c =
@@ -49,7 +54,13 @@ returns-4 : tie.Need-returns-4
 returns-4 c =
     let k = c .before .before .before .before .before .before in
     let a = k .before .before .before .before .before .before .before .before .before .before .before .args in
-    tries-pairs (a .kind) (a .src .now) (mapEntries (a .glyphs .now)) (mapEntries (a .lookups .now)) (length (a .t .now)) (length (a .area .now)) (k .pairs .result) (a .out .now) (k .pairs .last .1 .1 .1 .1 .0) (omega arith) (omega arith) (omega arith) (k .pairs .ensures)
+    tries-pairs (a .kind) (a .src .now) (mapEntries (a .glyphs .now)) (mapEntries (a .lookups .now)) (length (a .t .now)) (length (a .area .now)) (k .pairs .result) (a .out .now) (k .pairs .last .1 .1 .1 .1 .0) (omega arith) (k .pairs .ensures)
+
+returns-5 : tie.Need-returns-5
+returns-5 c =
+    let k = c .before .before .before .before .before .before in
+    let a = k .before .before .before .before .before .before .before .before .before .before .before .args in
+    tries-singles (a .kind) (a .src .now) (mapEntries (a .glyphs .now)) (mapEntries (a .lookups .now)) (length (a .t .now)) (length (a .area .now)) (k .singles .result) (a .out .now) (k .singles .last .1 .1 .1 .1 .0) (omega arith) (omega arith) (omega arith) (omega arith) (k .singles .ensures)
 
 pub cut-in-spec : {M : Type 1} → statement M
 cut-in-spec =
@@ -59,6 +70,7 @@ cut-in-spec =
     context-in-requires-2
     ligatures-requires
     pairs-requires
+    singles-requires
     (λ c. search needs)
     (λ c. search needs)
     (λ c. search needs)
@@ -74,4 +86,8 @@ cut-in-spec =
     (λ c. search needs)
     (λ c. search needs)
     (λ c. search needs)
-    returns-4)
+    returns-4
+    (λ c. search needs)
+    (λ c. search needs)
+    (λ c. search needs)
+    returns-5)

@@ -1,0 +1,4 @@
+pub mod Checking
+pub mod Keeping
+pub mod Laying
+pub mod Cutting
