@@ -30,6 +30,7 @@ use Rattle.matching.specs.declared.Matched.the-variants.{Nothing as NoRule, Rul
 use Rattle.holding.proofs.Holding.{place-glyph}
 use Rattle.matching.proofs.Rows.{offset-sound, cover-fine}
 use Rattle.lookup_list.specs.Ready.{Lookup, sourceAt, Ready}
+use Rattle.lookup_list.proofs.Parts.{listed-source}
 use Rattle.asking.specs.Asks.{answerBy, Asks, InList}
 use Rattle.asking.specs.declared.Asked.{Asked}
 use Rattle.asking.specs.declared.Asked.the-variants.{Nothing, Instead, Rule}
@@ -199,10 +200,7 @@ module _ (list buffer : List ℕ) (lookup : ℕ) (h : lookup < length list / 10)
 
   module _ {src : List ℕ} (k : src ≡ bytesOf buffer (record { start = start; len = len })) where
     same-source : src ≡ sourceAt list buffer lookup
-    unfolding sourceAt partAt
-    same-source =
-        let d : 10 * lookup + 2 + 4 ≡ 10 * lookup + 6 = omega arith in
-        rw (k, d, e, f)
+    same-source = listed-source list buffer lookup e f k
 
     pub listed-word : (at : ℕ) {w : ℕ} → (w ≡ word src at) × (w < 65536) → (w ≡ word (sourceAt list buffer lookup) at) × (w < 65536)
     listed-word at t = rw (← same-source) t

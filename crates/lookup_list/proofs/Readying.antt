@@ -78,7 +78,7 @@ module _ (list buffer : List ℕ) (h : goodList list buffer ≡ true) where
       let e : 0 + 10 * k ≡ 10 * k = omega arith in
       rw e at (entries-every (goodEntry buffer) list 0 (length list / 10) k (q .1) l)
 
-  list-short : length list ≤ 160
+  pub list-short : length list ≤ 160
   unfolding goodList listLimit
   list-short =
       let p = both (eqb (length list % 10) 0) _ h in
@@ -87,12 +87,24 @@ module _ (list buffer : List ℕ) (h : goodList list buffer ≡ true) where
       let b : length list / 10 ≤ 16 = leb-true (length list / 10) 16 (q .0) in
       omega arith
 
+  -- each part lies inside the buffer
+  pub list-inside : (k : ℕ) → k < length list / 10 → long list (10 * k + 2) + long list (10 * k + 2 + 4) ≤ length buffer
+  unfolding goodEntry entryAt partAt
+  list-inside k l = leb-true (long list (10 * k + 2) + long list (10 * k + 2 + 4)) (length buffer) (both (eqb (word list (10 * k)) 1 || (eqb (word list (10 * k)) 2 || eqb (word list (10 * k)) 5)) _ (entry-good k l) .1)
+
+  -- the same of a start and a length as they stand in the list
+  pub part-inside : (k : ℕ) → k < length list / 10 → {start len : ℕ} → start ≡ long list (10 * k + 2) → len ≡ long list (10 * k + 6) → start + len ≤ length buffer
+  part-inside k l e f =
+      let d : 10 * k + 2 + 4 ≡ 10 * k + 6 = omega arith in
+      let q = rw d at (list-inside k l) in
+      omega (arith, e, f)
+
   -- `list-ready`: a good list whose lookups are not refused can be asked
   pub list-ready : firstRefusal buffer (listed list) ≡ none → Ready list buffer
   unfolding listed goodEntry entryAt partAt sourceOf sourceAt
   list-ready f = record {
     short = list-short;
-    inside = λ k l. leb-true (long list (10 * k + 2) + long list (10 * k + 2 + 4)) (length buffer) (both (eqb (word list (10 * k)) 1 || (eqb (word list (10 * k)) 2 || eqb (word list (10 * k)) 5)) _ (entry-good k l) .1);
+    inside = list-inside;
     lookup = λ k l. record {
       known = kind-known (word list (10 * k)) (both (eqb (word list (10 * k)) 1 || (eqb (word list (10 * k)) 2 || eqb (word list (10 * k)) 5)) _ (entry-good k l) .0);
       sound = fine-sound (word list (10 * k)) (sourceAt list buffer k) (fine k l);

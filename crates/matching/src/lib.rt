@@ -192,7 +192,7 @@ fn chained_covers(src: &[u8]) -> RuleParts
 }
 
 // The same of either.
-fn cover_parts(chained: bool, src: &[u8]) -> RuleParts
+pub fn cover_parts(chained: bool, src: &[u8]) -> RuleParts
     ensures { λ r. ⌜ IsCovers chained (now (src .entry)) r ⌝ }
 {
     if chained {

@@ -86,9 +86,13 @@ firstRefusal buffer (e ∷ es) = orElse (lookupRefusal (e .kind) (sourceOf buffe
 unfoldable pub namesBelow : ℕ → List (ℕ × ℕ) → Bool
 namesBelow n records = every (λ e. ltb (e .1) n) records
 
+-- so in a rule
+unfoldable pub ruleNames : ℕ → Rule → Bool
+ruleNames n r = namesBelow n (r .records)
+
 -- so in each rule of each set that is not null
 unfoldable pub setsName : ℕ → List (Option (List Rule)) → Bool
-setsName n sets = every (every (λ r. namesBelow n (r .records))) (dropNull sets)
+setsName n sets = every (every (ruleNames n)) (dropNull sets)
 
 -- so in a table; a context of format 3 is one rule
 unfoldable pub recordsName : ℕ → Table → Bool

@@ -11,7 +11,7 @@ use Rattle.meaning.specs.Fault.{fault}
 use Rattle.meaning.specs.Records.{recordsWithin}
 use Rattle.meaning.specs.Subset.{limit, lastFormat, hasFormat}
 use Rattle.meaning.specs.Job.{long, partAt, bytesOf, eqList}
-use Rattle.replaying.specs.Listed.{orElse, ifSome, entryAt, entriesFrom, listed, listLimit, goodEntry, goodList, sourceOf, lookupOf, lookupsOf, malformed, lookupRefusal, firstRefusal, namesBelow, setsName, recordsName, allNamed}
+use Rattle.replaying.specs.Listed.{orElse, ifSome, entryAt, entriesFrom, listed, listLimit, goodEntry, goodList, sourceOf, lookupOf, lookupsOf, malformed, lookupRefusal, firstRefusal, namesBelow, ruleNames, setsName, recordsName, allNamed}
 use Rattle.replaying.specs.Trace.{Run, runsOf}
 use Rattle.replaying.specs.Applying.{run}
 
@@ -81,5 +81,5 @@ runsIn (some rs) = rs
 
 -- the replay of a trace over a list of lookups in a buffer
 unfoldable pub replay : List ℕ → List ℕ → List ℕ → Replayed
-unfolding word inside every isSome dropNull table fault recordsWithin limit lastFormat hasFormat long partAt bytesOf eqList orElse ifSome entryAt entriesFrom listed listLimit goodEntry goodList sourceOf lookupOf lookupsOf malformed lookupRefusal firstRefusal namesBelow setsName recordsName allNamed runsOf run agreeing firstOut counted verdicts shallow played refusing refusal runsIn
+unfolding word inside every isSome dropNull table fault recordsWithin limit lastFormat hasFormat long partAt bytesOf eqList orElse ifSome entryAt entriesFrom listed listLimit goodEntry goodList sourceOf lookupOf lookupsOf malformed lookupRefusal firstRefusal namesBelow ruleNames setsName recordsName allNamed runsOf run agreeing firstOut counted verdicts shallow played refusing refusal runsIn
 replay list buffer trace = ifSome (refusal list buffer trace) (played (lookupsOf list buffer) (runsIn (runsOf trace))) refusing
