@@ -18,7 +18,7 @@ use Rattle.replaying.specs.Tallies.{play, in-place}
 use Rattle.replaying.specs.Turns.{runsLeft, runs-all, runs-turn, runs-short, runs-end}
 use Rattle.traces.specs.Whole.{Whole}
 use Rattle.runs.specs.Verdicts.{verdictOf}
-use Rattle.replay.specs.Counting.{tallyOf, playedOf, isDeep, doesAgree}
+use Rattle.replay.specs.Counting.{tallyOf, replayedOf, isDeep, doesAgree}
 use Rattle.replay.specs.declared.Tally.{Tally}
 use Rattle.runs.specs.declared.Verdict.{Verdict}
 use Rattle.runs.specs.declared.Verdict.the-variants.{Agrees, Differs, Deep}
@@ -101,13 +101,13 @@ module _ {ts : List Table} {trace : List ℕ} where
 
     module _ {v : Verdict} (e : v ≡ verdictOf (run ts (runAt trace at .given)) (runAt trace at .came)) where
       -- a lookup goes too deep
-      pub playing-deep : {d : Bool} → d ≡ isDeep v → d ≡ true → playedOf (record { number = 18; tally = tally }) ≡ played ts (runsIn (runsOf trace))
+      pub playing-deep : {d : Bool} → d ≡ isDeep v → d ≡ true → replayedOf (record { number = 18; place = 0; tally = tally }) ≡ played ts (runsIn (runsOf trace))
       unfolding ifSome
       playing-deep {d} f q = go (run ts (runAt trace at .given)) e whole
         where
           go : (o : Option (List ℕ)) → v ≡ verdictOf o (runAt trace at .came)
               → ifSome o (record { number = 18; place = 0; tally = tallyOf tally }) (λ s. play ts (changed (eqList s (runAt trace at .came)) (tallyOf tally)) (runsIn rest)) ≡ played ts (runsIn (runsOf trace))
-              → playedOf (record { number = 18; tally = tally }) ≡ played ts (runsIn (runsOf trace))
+              → replayedOf (record { number = 18; place = 0; tally = tally }) ≡ played ts (runsIn (runsOf trace))
           go none p w = w
           go (some s) p w = absurd (true≢false (sym q ∙ f ∙ ap isDeep p ∙ never-deep (eqList s (runAt trace at .came))))
 
@@ -132,6 +132,6 @@ module _ {ts : List Table} {trace : List ℕ} where
           go none p w = absurd (true≢false (sym (f ∙ ap isDeep p) ∙ q))
           go (some s) p w = rw (g ∙ ap doesAgree p ∙ agree-same (eqList s (runAt trace at .came))) w
 
-  pub playing-end : {tally : Tally} {at : ℕ} → Playing ts trace tally at → length trace ≤ at → playedOf (record { number = 0; tally = tally }) ≡ played ts (runsIn (runsOf trace))
+  pub playing-end : {tally : Tally} {at : ℕ} → Playing ts trace tally at → length trace ≤ at → replayedOf (record { number = 0; place = 0; tally = tally }) ≡ played ts (runsIn (runsOf trace))
   unfolding play runsIn
   playing-end {tally} {at} k h = rw (runs-end trace at h) at (k .left)

@@ -1,9 +1,9 @@
 -- The tally of the code, and what a verdict says.
 use Prim.Native.Nat.{ℕ}
 use mathlib.Core.Bool.{Bool, true, false}
-use Rattle.replaying.specs.Replay.{Tally as TallyOf, Replayed}
+use Rattle.replaying.specs.Replay.{Tally as TallyOf, Replayed as ReplayedOf}
 use Rattle.replay.specs.declared.Tally.{Tally}
-use Rattle.replay.specs.declared.Played.{Played}
+use Rattle.replay.specs.declared.Replayed.{Replayed}
 use Rattle.runs.specs.declared.Verdict.{Verdict}
 use Rattle.runs.specs.declared.Verdict.the-variants.{Agrees, Differs, Deep}
 
@@ -12,8 +12,8 @@ abbrev pub tallyOf : Tally → TallyOf
 tallyOf t = record { runs = t .runs; agreements = t .agreements; first = t .first }
 
 -- what is given back, by the definition
-abbrev pub playedOf : Played → Replayed
-playedOf r = record { number = r .number; place = 0; tally = tallyOf (r .tally) }
+abbrev pub replayedOf : Replayed → ReplayedOf
+replayedOf r = record { number = r .number; place = r .place; tally = tallyOf (r .tally) }
 
 -- a run went too deep
 abbrev pub isDeep : Verdict → Bool

@@ -1,6 +1,11 @@
 // Replay of label runs: a recorded trace, run over a list of lookups in a lent buffer, and the tally of its runs.
+use lookup_checks::Checked;
+use lookup_checks::check_lookups;
+use lookup_list::good_list;
+use names::all_named;
 use runs::Verdict;
 use runs::replay_run;
+use traces::good_trace;
 use wire::word_at;
 ghost use mathlib.Core.Path.{_≡_};
 ghost use mathlib.Core.Bool.{true, cond};
@@ -9,9 +14,9 @@ ghost use lib.Dec.{eqb};
 ghost use Rattle.meaning.specs.Words.{isSome};
 ghost use Rattle.replaying.specs.Listed.{lookupsOf};
 ghost use Rattle.replaying.specs.Trace.{runsOf};
-ghost use Rattle.replaying.specs.Replay.{changed, played, runsIn};
+ghost use Rattle.replaying.specs.Replay.{changed, played, refusing, runsIn, replay};
 ghost use Rattle.lookup_list.specs.Ready.{Ready};
-ghost use Rattle.replay.specs.Counting.{tallyOf, playedOf, isDeep, doesAgree};
+ghost use Rattle.replay.specs.Counting.{tallyOf, replayedOf, isDeep, doesAgree};
 
 // How many runs there were, how many agreed, and the first that did not, from 1; 0 if none.
 pub struct Tally {
@@ -20,9 +25,10 @@ pub struct Tally {
     pub first: usize,
 }
 
-// What the runs of a trace give: 0, or 18 where one goes too deep, with the tally as before that run.
-pub struct Played {
+// What a replay gives back: its number, the place that comes with 6, and the tally. With 18 it is as before the run that goes too deep.
+pub struct Replayed {
     pub number: usize,
+    pub place: usize,
     pub tally: Tally,
 }
 
@@ -79,9 +85,9 @@ fn does_agree(v: Verdict) -> bool
 }
 
 // Replays the runs of a trace, one after another.
-fn play_runs(list: &[u8], buffer: &[u8], trace: &[u8]) -> Played
+fn play_runs(list: &[u8], buffer: &[u8], trace: &[u8]) -> Replayed
     requires { ⌜ Ready (now list) (now buffer) × (isSome (runsOf (now trace)) ≡ true) ⌝ }
-    ensures { λ r. ⌜ playedOf r ≡ played (lookupsOf (now (list .entry)) (now (buffer .entry))) (runsIn (runsOf (now (trace .entry)))) ⌝ }
+    ensures { λ r. ⌜ replayedOf r ≡ played (lookupsOf (now (list .entry)) (now (buffer .entry))) (runsIn (runsOf (now (trace .entry)))) ⌝ }
 {
     let mut tally = Tally {
         runs: 0,
@@ -92,10 +98,52 @@ fn play_runs(list: &[u8], buffer: &[u8], trace: &[u8]) -> Played
     while at < trace.len() {
         let v = replay_run(list, buffer, trace, at);
         if is_deep(v) {
-            return Played { number: 18, tally };
+            return Replayed {
+                number: 18,
+                place: 0,
+                tally,
+            };
         }
         tally = changed(tally, does_agree(v));
         at += 2 + 4 * word_at(trace, at);
     }
-    Played { number: 0, tally }
+    Replayed {
+        number: 0,
+        place: 0,
+        tally,
+    }
+}
+
+// A refusal before any run.
+fn refusing(number: usize, place: usize) -> Replayed
+    ensures { λ r. ⌜ replayedOf r ≡ refusing (number, place) ⌝ }
+{
+    Replayed {
+        number,
+        place,
+        tally: Tally {
+            runs: 0,
+            agreements: 0,
+            first: 0,
+        },
+    }
+}
+
+// The replay of a trace over a list of lookups in a buffer: the first refusal that applies, 15, then 4, 5, 6 or 12 for the first faulty lookup, then 16, then 17; or the runs.
+pub fn replay_all(list: &[u8], buffer: &[u8], trace: &[u8]) -> Replayed
+    ensures { λ r. ⌜ replayedOf r ≡ replay (now (list .entry)) (now (buffer .entry)) (now (trace .entry)) ⌝ }
+{
+    if !good_list(list, buffer) {
+        return refusing(15, 0);
+    }
+    if let Checked::Refused(number, place) = check_lookups(list, buffer) {
+        return refusing(number, place);
+    }
+    if !good_trace(trace) {
+        return refusing(16, 0);
+    }
+    if !all_named(list, buffer) {
+        return refusing(17, 0);
+    }
+    play_runs(list, buffer, trace)
 }
