@@ -42,7 +42,14 @@ fn ask_source(kind: usize, src: &[u8], string: &[u8], n: usize, place: usize) ->
 }
 
 // The same of a lookup of the list; past the list, and past the string's end, nothing.
-pub fn ask_at(list: &[u8], buffer: &[u8], string: &[u8], n: usize, lookup: usize, place: usize) -> Asked
+pub fn ask_at(
+    list: &[u8],
+    buffer: &[u8],
+    string: &[u8],
+    n: usize,
+    lookup: usize,
+    place: usize,
+) -> Asked
     requires { ⌜ Ready (now list) (now buffer) × (n < 0x1_0000_0000) ⌝ }
     ensures { λ a. ⌜ Asks (sourceAt (now (list .entry)) (now (buffer .entry)) lookup) place n (ask (lookupAt (lookupsOf (now (list .entry)) (now (buffer .entry))) lookup) (words (now (string .entry)) 0 n) place) a × InList lookup (length (now (list .entry)) / 10) a ⌝ }
 {
