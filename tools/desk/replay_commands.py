@@ -20,8 +20,8 @@ EMPTY = bytes.fromhex("0003 0000 0000")
 
 DESCRIPTION = """Replays recorded label runs over a list of lookups, and says whether what comes out is what was
 recorded. With --cut the lookups are also cut, by ./label, and the runs replayed over what is kept, renumbered."""
-EPILOG = """LIST has one lookup a line, in order, 16 at most; `#` starts a comment. Records name lookups by their place in
-the list, from 0:
+EPILOG = """LIST has one lookup a line, in order, 16 at most; `#` starts a comment. Records name lookups by their
+place in the list, from 0:
   5 small.table            the kind (1 context, 2 chained context, 5 single substitution), and the subtable: a binary
   1 @rules.txt             file, @ and a text file of hex words, or hex words
   font Font.otf            a font, for the lines that follow:
@@ -71,7 +71,8 @@ class Program:
     """The program that replays a file, under a time limit."""
 
     def __init__(self, args):
-        self.command, self.seconds = [args.program] if args.program else [PROVED, "replay_job", "./replay"], args.seconds
+        self.command = [args.program] if args.program else [PROVED, "replay_job", "./replay"]
+        self.seconds = args.seconds
         if not args.program and subprocess.run([PROVED, "--build", *self.command[1:]], check=False).returncode:
             raise Trouble("there is no program to replay with")
         self.end = time.monotonic() + self.seconds
@@ -118,8 +119,8 @@ def say_run(lookups, wheres, runs, told):
         given, came = runs[told.first - 1]
         out = walk.run([walk.lookup(one.kind, one.data) for one in lookups], given)
         if out == came:
-            raise Trouble(f"the program says that run {told.first} disagrees, and a walk by hand that it agrees; please "
-                          "report it")
+            raise Trouble(f"the program says that run {told.first} disagrees, and a walk by hand that it agrees; "
+                          "please report it")
         print(f"The first that does not is run {told.first} ({wheres[told.first - 1]}):")
         print("  place  in     came out  recorded")
         for place, (one, two, three) in enumerate(zip(given, out, came)):
