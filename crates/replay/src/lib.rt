@@ -115,7 +115,7 @@ fn play_runs(list: &[u8], buffer: &[u8], trace: &[u8]) -> Replayed
 }
 
 // A refusal before any run.
-fn refusing(number: usize, place: usize) -> Replayed
+pub fn refusing(number: usize, place: usize) -> Replayed
     ensures { λ r. ⌜ replayedOf r ≡ refusing (number, place) ⌝ }
 {
     Replayed {
