@@ -22,7 +22,7 @@ use Rattle.promises.specs.Strings.{All, Retained, new}
 use Rattle.promises.specs.Rules.{cutMatch, records-renumbered}
 use Rattle.promises.specs.Contexts as Contexts
 use Rattle.promises.specs.Contexts.{ordered}
-use Rattle.promises.specs.Singles.{Closes, delta-same, list-same}
+use Rattle.promises.specs.Singles.{SubstitutesRetained, delta-same, list-same}
 use Rattle.replaying.specs.Asking.{answerOf, ask}
 use Rattle.replaying.specs.Listed.{orElse, malformed, lookupRefusal, namesBelow, recordsName}
 use Rattle.renumbering.specs.Same.{Own, newAnswer, Keeps}
@@ -94,7 +94,7 @@ module _ (y : ℕ) where
   no-pair f1 f2 (k ∷ ks) = refl
 
 -- what is left of a table gives a retained glyph the substitute that the table gave it, renumbered, if retained glyphs have retained substitutes
-substitute-same : (g l : List (ℕ × ℕ)) → GoodMap g → (t : Table) → Closes g t → (x : ℕ) → Retained g x
+substitute-same : (g l : List (ℕ × ℕ)) → GoodMap g → (t : Table) → SubstitutesRetained g t → (x : ℕ) → Retained g x
     → bind (cut g l t) (λ u. substitute u (new g x)) ≡ Option·map (new g) (substitute t x)
 unfolding cut bind substitute
 substitute-same g l good (Table.by-glyph chained none sets) k x rx = refl
@@ -204,7 +204,7 @@ module _ (g l : List (ℕ × ℕ)) (good : GoodMap g) (kind : ℕ) (source small
         all-names n (table kind small) (rw (left .says) at c)
 
     -- what it answers stays retained
-    pub source-keeps : Closes g (table kind source) → (string : List ℕ) (place : ℕ) → All (Retained g) string → Keeps g l (ask (table kind source) string place)
+    pub source-keeps : SubstitutesRetained g (table kind source) → (string : List ℕ) (place : ℕ) → All (Retained g) string → Keeps g l (ask (table kind source) string place)
     unfolding ask
     source-keeps closed string place h =
         let t = table kind source in
@@ -214,7 +214,7 @@ module _ (g l : List (ℕ × ℕ)) (good : GoodMap g) (kind : ℕ) (source small
         (at-all g (Retained g) (λ before x after. substitute t x) (λ before x after r. closed x r) [] string place h)
 
   -- it answers alike
-  pub small-same : ordered (table kind source) ≡ true → Closes g (table kind source) → (string : List ℕ) (place : ℕ) → All (Retained g) string
+  pub small-same : ordered (table kind source) ≡ true → SubstitutesRetained g (table kind source) → (string : List ℕ) (place : ℕ) → All (Retained g) string
       → ask (table kind small) (map (new g) string) place ≡ newAnswer g l (ask (table kind source) string place)
   unfolding ask bind
   small-same o closed string place h =

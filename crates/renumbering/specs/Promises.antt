@@ -20,7 +20,7 @@ use Rattle.laws.specs.CallBack.{good-glyphs}
 use Rattle.promises.specs.Strings.{Retained, new}
 use Rattle.promises.specs.Contexts.{ordered}
 use Rattle.promises.specs.Ordered.{source-ordered}
-use Rattle.promises.specs.Singles.{Closes}
+use Rattle.promises.specs.Singles.{SubstitutesRetained}
 use Rattle.replaying.specs.Listed.{Entry, listed, goodEntry, sourceOf, lookupOf, lookupsOf, lookupRefusal, firstRefusal}
 use Rattle.replaying.specs.Trace.{Run, runsOf}
 use Rattle.replaying.specs.Applying.{run}
@@ -76,7 +76,7 @@ module _ (glyphs lookups list buffer small cut : List ℕ) (bg : Bytes glyphs) (
 
   -- retained glyphs have retained substitutes, in each listed lookup
   abbrev pub AllClosed : Type 0
-  AllClosed = All (λ x. Closes g (lookupOf buffer x)) (listed list)
+  AllClosed = All (λ x. SubstitutesRetained g (lookupOf buffer x)) (listed list)
 
   good-map : GoodMap g
   good-map = good-glyphs glyphs bg good

@@ -10,7 +10,7 @@ use Rattle.meaning.specs.Words.{every, find, bind, mapAll, push, mapSome, membe
 use Rattle.meaning.specs.Parts.{classOf}
 use Rattle.meaning.specs.Tables.{Rule, Ligature, Pair, Table, dropNull, deltaPairs, listPairs}
 use Rattle.meaning.specs.Records.{indexesBelow, recordsWithin}
-use Rattle.meaning.specs.Cut.{RuleMaps, cut, cutRecords, cutRule, cutSet, keptSets, setsOf, keptByGlyph, heldBy, retained, slots, keepSlot, trim, keptByClass, newCoverage, newClasses?, classMap, classMap?, coversLeft, keptLigatures, keptPairs, cutLigatures, cutPairs, keptSubstitutes, deltaOf, keptSingles}
+use Rattle.meaning.specs.Cut.{RuleMaps, cut, cutRecords, cutRule, cutSet, keptSets, setsOf, keptByGlyph, heldBy, retained, slots, keepSlot, trim, keptByClass, newCoverage, newClasses?, classMap, classMap?, coversLeft, keptLigatures, keptPairs, cutLigatures, cutPairs, keptSubstitutes, deltaOf, agree, keptSingles}
 use Rattle.meaning.specs.Matching.{Holds, fits, covers?, setAt, ruleFits, firstFit, sameGlyph, sameClass, match}
 use Rattle.laws.specs.Runs.{both}
 use Rattle.laws.specs.Through.{Opt}
@@ -243,7 +243,7 @@ module _ (P Q : Told → Type 0) (l : List (ℕ × ℕ)) (f : (t : Told) → P t
   no-single : (es : List (ℕ × ℕ)) → Opt (RulesAll Q) (keptSingles es)
   unfolding keptSingles
   no-single [] = tt
-  no-single (e ∷ r) = go (every (λ y. eqb (deltaOf y) (deltaOf e)) r)
+  no-single (e ∷ r) = go (agree (e ∷ r))
     where
       go : (b : Bool) → RulesAll Q (cond b (Table.single-delta (some (keys (e ∷ r))) (deltaOf e)) (Table.single-list (some (keys (e ∷ r))) (values (e ∷ r))))
       go true = tt
