@@ -104,10 +104,10 @@ module _ (s : List ℕ) (g : ℕ) {cover : ℕ} (e : cover ≡ word s 2) where
     single-not q = gone (rw (← e, ne-eqb cover 0 z, zero-add cover) (not-there (word s 4) g (words s 6 (word s 4)) (coverage s cover) (eqb (word s 0) 1) (is-not (indexOf (coverage s cover) g) q k)))
 
     module _ {i : ℕ} (q : r ≡ At i) {format last : ℕ} (f : last ≡ word s 4) (j : format ≡ word s 0) where
-      pub single-delta : format ≡ 1 → Substitutes (substitute (single s) g) (By ((g + last) % 65536))
+      pub single-delta : format ≡ 1 → {w : ℕ} → w ≡ (g + last) % 65536 → Substitutes (substitute (single s) g) (By w)
       unfolding single reach substitute bind plusDelta
-      single-delta y =
-          new (rw (← e, ne-eqb cover 0 z, zero-add cover, ← j, eq-eqb format 1 y, delta-index (coverage s cover) (word s 4) g, is-at (indexOf (coverage s cover) g) q k, f)) (omega arith)
+      single-delta y v =
+          new (rw (← e, ne-eqb cover 0 z, zero-add cover, ← j, eq-eqb format 1 y, delta-index (coverage s cover) (word s 4) g, is-at (indexOf (coverage s cover) g) q k, v, f)) (omega arith)
 
       listed : (format ≡ 1 → ⊥) → substitute (single s) g ≡ nth (words s 6 last) i
       unfolding single reach substitute bind

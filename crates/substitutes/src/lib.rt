@@ -1,6 +1,7 @@
 // The substitute of a glyph by a single substitution: by a delta, or by a list.
 use coverage_index::Covered;
 use coverage_index::index_of;
+use std::num::wrapping_add_u16;
 use wire::word_at;
 ghost use Prim.Native.Nat.{_<_};
 ghost use Rattle.meaning.specs.Tables.{single};
@@ -27,7 +28,7 @@ pub fn substitute(src: &[u8], glyph: usize) -> Substituted
     };
     let last = word_at(src, 4);
     if word_at(src, 0) == 1 {
-        return Substituted::By((glyph + last) % 65536);
+        return Substituted::By(wrapping_add_u16(glyph as u16, last as u16) as usize);
     }
     if last <= i {
         return Substituted::Not;

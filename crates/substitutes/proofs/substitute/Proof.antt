@@ -1,19 +1,8 @@
-use mathlib.Core.Path.{_≡_, refl, sym, ap, _∙_}
-use mathlib.Core.List.{List, [], _∷_, _++_}
-use mathlib.Core.Logic.{⊎-elim}
-use Prim.Native.Nat.{ℕ, zero, suc, _+_, _-_, _*_, _/_, _%_, _≤_, _<_}
-use native.Mathlib.Omega.{arith}
-use lib.ListN.{length, getD, set, length-set}
-use lib.Seq.{sets, length-sets}
 use borrow.Author.Needs.{needs}
 use Rattle.substitutes.proofs.Singles.{cover-sound}
 use Rattle.substitutes.proofs.Singles.{single-null, single-not, single-delta, single-past, single-listed}
 use Rattle.substitutes.proofs.substitute.Statement.{statement}
 use Rattle.substitutes.proofs.substitute.Tie as tie
-use Rattle.substitutes.proofs.substitute.Reads as reads
-use Rattle.substitutes.proofs.substitute.Lts as lts
-use Rattle.coverage_index.proofs.index_of.Reads as index-of-reads
-use Rattle.wire.proofs.word_at.Reads as word-at-reads
 
 word-at-requires : tie.Need-word-at-requires
 word-at-requires c κs = search needs
@@ -46,15 +35,12 @@ word-at-requires-2 c κs = search needs
 word-at-requires-3 : tie.Need-word-at-requires-3
 word-at-requires-3 c κs = search needs
 
-add-t9 : tie.Need-add-t9
-add-t9 c = search needs
-
 returns-3 : tie.Need-returns-3
 returns-3 c =
-    let w = c .before .before in
+    let w = c .before .before .before in
     let f = w .before .before .before .before in
     let a = f .before .before .before .before .args in
-    single-delta (a .src .now) (a .glyph) (f .before .before .word-at .ensures .0) (f .before .if1 .left) (f .index-of .ensures) (w .before .before .i .given .1) (w .word-at2 .ensures .0) (c .before .word-at3 .ensures .0) (c .if2 .taken)
+    single-delta (a .src .now) (a .glyph) (f .before .before .word-at .ensures .0) (f .before .if1 .left) (f .index-of .ensures) (w .before .before .i .given .1) (w .word-at2 .ensures .0) (c .before .before .word-at3 .ensures .0) (c .before .if2 .taken) (c .wrapping-add-u16 .ensures)
 
 returns-4 : tie.Need-returns-4
 returns-4 c =
@@ -91,7 +77,10 @@ substitute-spec =
     returns-2
     word-at-requires-2
     word-at-requires-3
-    add-t9
+    (λ c. search needs)
+    (λ c. search needs)
+    (λ c κs. search needs)
+    (λ c. search needs)
     returns-3
     returns-4
     mul-word-at
