@@ -5,8 +5,7 @@ use mathlib.Core.Bool.{Bool, true, false, true≢false}
 use mathlib.Core.Option.{Option, none, some}
 use mathlib.Core.List.{List}
 use native.Mathlib.Omega.{arith}
-use native.Mathlib.Nat.{zero-add}
-use lib.ListN.{length, set}
+use lib.ListN.{length}
 use lib.Seq.{sets}
 use Rattle.meaning.specs.Words.{word, words, entries, bytes2, bind}
 use Rattle.meaning.specs.Tables.{Table}
@@ -14,8 +13,8 @@ use Rattle.replaying.specs.Asking.{Answer, ask}
 use Rattle.replaying.specs.Applying.{Step as StepOf, lookupAt, runRecords, act, apply}
 use Rattle.replaying.specs.Places.{put-glyph}
 use Rattle.replaying.specs.Turns.{records-turn, records-end}
-use Rattle.asking.specs.Asks.{answerBy, Small, Asks, InList}
-use Rattle.steps.specs.Stepping.{Room, Stepped, Ruled}
+use Rattle.asking.specs.Asks.{answerBy, Asks, InList}
+use Rattle.steps.specs.Stepping.{Stepped, Ruled}
 use Rattle.asking.specs.declared.Asked.{Asked}
 use Rattle.asking.specs.declared.Asked.the-variants.{Nothing, Instead, Rule}
 use Rattle.steps.specs.declared.Step.{Step}

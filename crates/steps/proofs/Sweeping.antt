@@ -1,17 +1,17 @@
 -- The ways through a lookup at every place, and through the lookups of a list.
-use Prim.Native.Nat.{ℕ, zero, suc, _+_, _-_, _*_, _/_, _≤_, _<_}
+use Prim.Native.Nat.{ℕ, zero, suc, _+_, _-_, _/_, _≤_, _<_}
 use mathlib.Core.Path.{_≡_, refl, sym, ap, _∙_}
 use mathlib.Core.Bool.{Bool, true, false, not, true≢false}
 use mathlib.Core.Option.{Option, none, some}
-use mathlib.Core.List.{List, [], _∷_, map}
+use mathlib.Core.List.{List, map}
 use native.Mathlib.Omega.{arith}
 use lib.ListN.{length}
 use borrow.Author.Tests.{not-true, not-false}
 use Rattle.meaning.specs.Words.{words, bind, upFrom}
 use Rattle.meaning.specs.Tables.{Table}
 use Rattle.laws.specs.Left.{words-length}
-use Rattle.replaying.specs.Listed.{Entry, entriesFrom, listed, lookupOf, lookupsOf}
-use Rattle.replaying.specs.Applying.{Step as StepOf, apply, sweep, depthLimit, sweepAll, inOrder, run}
+use Rattle.replaying.specs.Listed.{entriesFrom, listed, lookupOf, lookupsOf}
+use Rattle.replaying.specs.Applying.{Step as StepOf, apply, depthLimit, sweepAll, inOrder, run}
 use Rattle.replaying.specs.Turns.{sweepLeft, onward, sweep-turn, sweep-end, order-turn, order-end}
 use Rattle.steps.specs.Stepping.{Stepped, Ruled}
 use Rattle.steps.specs.declared.Step.{Step}

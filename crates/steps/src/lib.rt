@@ -2,6 +2,7 @@
 use asking::Asked;
 use asking::ask_at;
 use asking::source_word;
+use rules::Row;
 use wire::put;
 ghost use mathlib.Core.Path.{_≡_};
 ghost use Prim.Native.Nat.{_+_, _*_, _/_, _≤_, _<_};
@@ -48,7 +49,8 @@ fn lookup_step(
             return Step::Took(1);
         }
         Asked::Rule(took, at, count) => {
-            if record_step(list, buffer, string, n, lookup, at, count, place, depth - 1) {
+            let records = Row { at, len: count };
+            if record_step(list, buffer, string, n, lookup, records, place, depth - 1) {
                 return Step::Took(took);
             }
             return Step::Deep;
@@ -56,25 +58,24 @@ fn lookup_step(
     }
 }
 
-// Runs the `count` records from `at` on in a lookup's bytes, for a rule that matched at a place; false if one goes too deep.
+// Runs the records that stand in a row of a lookup's bytes, for a rule that matched at a place; false if one goes too deep.
 fn record_step(
     list: &[u8],
     buffer: &[u8],
     string: &mut [u8],
     n: usize,
     owner: usize,
-    at: usize,
-    count: usize,
+    records: Row,
     place: usize,
     depth: usize,
 ) -> bool
-    requires { ⌜ Ready (now list) (now buffer) × Room n (now string) × (owner < length (now list) / 10) × (at < 0x1_0000_0000) × (count < 65536) × (place + 65536 * (depth + 1) < 0x1_0000_0000_0000) ⌝ }
-    ensures { λ b. ⌜ Ruled (runRecords (apply depth (lookupsOf (now (list .entry)) (now (buffer .entry)))) (entries (sourceAt (now (list .entry)) (now (buffer .entry)) owner) at count) (words (now (string .entry)) 0 n) place) n b (now (string .exit)) ⌝ }
+    requires { ⌜ Ready (now list) (now buffer) × Room n (now string) × (owner < length (now list) / 10) × (records .at < 0x1_0000_0000) × (records .len < 65536) × (place + 65536 * (depth + 1) < 0x1_0000_0000_0000) ⌝ }
+    ensures { λ b. ⌜ Ruled (runRecords (apply depth (lookupsOf (now (list .entry)) (now (buffer .entry)))) (entries (sourceAt (now (list .entry)) (now (buffer .entry)) owner) (records .at) (records .len)) (words (now (string .entry)) 0 n) place) n b (now (string .exit)) ⌝ }
 {
     let mut i = 0;
-    while i < count {
-        let index = source_word(list, buffer, owner, at + 4 * i);
-        let lookup = source_word(list, buffer, owner, at + 4 * i + 2);
+    while i < records.len {
+        let index = source_word(list, buffer, owner, records.at + 4 * i);
+        let lookup = source_word(list, buffer, owner, records.at + 4 * i + 2);
         let Step::Took(_) = lookup_step(list, buffer, string, n, lookup, place + index, depth)
         else {
             return false;

@@ -1,10 +1,5 @@
-use mathlib.Core.Path.{_≡_, refl, sym, ap, _∙_}
-use mathlib.Core.List.{List, [], _∷_, _++_}
-use mathlib.Core.Logic.{⊎-elim}
-use Prim.Native.Nat.{ℕ, zero, suc, _+_, _-_, _*_, _/_, _%_, _≤_, _<_}
+use Prim.Native.Nat.{ℕ, _+_, _-_, _*_, _<_}
 use native.Mathlib.Omega.{arith}
-use lib.ListN.{length, getD, set, length-set}
-use lib.Seq.{sets, length-sets}
 use Prim.Native.Nat.{ℕ, _<_}
 use borrow.Fn.Kinds.{In}
 use borrow.Fn.PlainCycle.{Measures, is, falls, and}
@@ -29,7 +24,7 @@ abbrev μ-lookup-step : Measures 3 lookup-step-kinds.ps ℕ
 μ-lookup-step κs a = 2 * a .1 .1 .1 .1 .1 .1 .0
 
 abbrev μ-record-step : Measures 3 record-step-kinds.ps ℕ
-μ-record-step κs a = 2 * a .1 .1 .1 .1 .1 .1 .1 .1 .0 + 1
+μ-record-step κs a = 2 * a .1 .1 .1 .1 .1 .1 .1 .0 + 1
 
 abbrev lookup-step-at : ℕ → In 3 lookup-step-kinds.ps
 lookup-step-at t =
@@ -136,10 +131,10 @@ lookup-step-returns-5 t c =
     step-rule (a .depth) (lookupsOf (a .list .now) (a .buffer .now)) (a .lookup) (a .string .now) (a .n) (a .place) (f .before .before .if1 .left) (f .ask-at .ensures .0) (r .record-step .last .1 .1 .0) (w .a2 .given .1) (r .record-step .ensures) .1 (c .if2 .left)
 
 abbrev record-step-Inv-loop : record-step-lts.InvT-loop
-record-step-Inv-loop list buffer string₀ n owner at count place depth i₀ string i = Running (lookupsOf list buffer) (sourceAt list buffer owner) string₀ n at count place depth string i
+record-step-Inv-loop list buffer string₀ n owner records place depth i₀ string i = Running (lookupsOf list buffer) (sourceAt list buffer owner) string₀ n (records .at) (records .len) place depth string i
 
 abbrev record-step-μ-loop : record-step-lts.MeasureT-loop
-record-step-μ-loop list buffer string₀ n owner at count place depth i₀ string i = count - i
+record-step-μ-loop list buffer string₀ n owner records place depth i₀ string i = records .len - i
 
 record-step-loop-holds : (t : ℕ) → record-step-lts.Need-loop-holds (source-word-reads.Asked, source-word-reads.Learnt, lookup-step-below t, lookup-step.Post) (record-step-at t) record-step.Post record-step-Inv-loop record-step-μ-loop
 record-step-loop-holds t c = running-all
@@ -170,7 +165,7 @@ record-step-add-lookup-step t c = search needs
 
 record-step-lookup-step-requires : (t : ℕ) → record-step-lts.Need-lookup-step-requires (source-word-reads.Asked, source-word-reads.Learnt, lookup-step-below t, lookup-step.Post) (record-step-at t) record-step.Post record-step-Inv-loop record-step-μ-loop
 record-step-lookup-step-requires t c κs =
-    let l = c .before .before .before .before in
+    let l = c .before .before .before .before .before .before .before in
     let b = l .before .before .before .before .pre in
     (search needs, (b .1 .0, record { fits = omega (arith, l .loop .inv .long, b .1 .1 .fits); small = b .1 .1 .small }, search needs))
 
@@ -187,8 +182,8 @@ record-step-returns : (t : ℕ) → record-step-lts.Need-returns (source-word-re
 record-step-returns t c =
     let k = c .before .before .before .before in
     let b = k .before .before in
-    let l = b .before .before .before in
-    running-deep (l .loop .inv) (b .before .before .loop-test .taken) (b .before .source-word .ensures .0) (b .source-word2 .ensures .0) (k .lookup-step .last .1 .1 .0) (k .lookup-step .ensures) (c .enum-told2 .given .1)
+    let l = b .before .before .before .before .before .before in
+    running-deep (l .loop .inv) (b .before .before .before .before .if1 .taken) (b .before .before .source-word .ensures .0) (b .source-word2 .ensures .0) (k .lookup-step .last .1 .1 .0) (k .lookup-step .ensures) (c .enum-told2 .given .1)
 
 record-step-add-i : (t : ℕ) → record-step-lts.Need-add-i (source-word-reads.Asked, source-word-reads.Learnt, lookup-step-below t, lookup-step.Post) (record-step-at t) record-step.Post record-step-Inv-loop record-step-μ-loop
 record-step-add-i t c = search needs
@@ -200,14 +195,14 @@ record-step-loop-again : (t : ℕ) → record-step-lts.Need-loop-again (source-w
 record-step-loop-again t c =
     let k = c .before .before .before .before in
     let b = k .before .before in
-    let l = b .before .before .before in
-    running-turn (l .loop .inv) (b .before .before .loop-test .taken) (b .before .source-word .ensures .0) (b .source-word2 .ensures .0) (k .lookup-step .ensures) (k .lookup-step .kept .1 .1 .0) (c .enum-told .given .1)
+    let l = b .before .before .before .before .before .before in
+    running-turn (l .loop .inv) (b .before .before .before .before .if1 .taken) (b .before .before .source-word .ensures .0) (b .source-word2 .ensures .0) (k .lookup-step .ensures) (k .lookup-step .kept .1 .1 .0) (c .enum-told .given .1)
 
 record-step-same-length-2 : (t : ℕ) → record-step-lts.Need-same-length-2 (source-word-reads.Asked, source-word-reads.Learnt, lookup-step-below t, lookup-step.Post) (record-step-at t) record-step.Post record-step-Inv-loop record-step-μ-loop
 record-step-same-length-2 t c = search needs
 
 record-step-returns-2 : (t : ℕ) → record-step-lts.Need-returns-2 (source-word-reads.Asked, source-word-reads.Learnt, lookup-step-below t, lookup-step.Post) (record-step-at t) record-step.Post record-step-Inv-loop record-step-μ-loop
-record-step-returns-2 t c = running-end (c .before .loop .inv) (c .loop-test .left)
+record-step-returns-2 t c = running-end (c .before .before .loop .inv) (c .if1 .left)
 
 pub +lookup-step+record-step-spec : {M : Type 1} → statement M
 +lookup-step+record-step-spec = close μ-lookup-step μ-record-step (λ t. lookup-step-lts.spec (

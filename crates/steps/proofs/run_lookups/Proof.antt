@@ -1,18 +1,10 @@
-use mathlib.Core.Path.{_≡_, refl, sym, ap, _∙_}
-use mathlib.Core.List.{List, [], _∷_, _++_}
-use mathlib.Core.Logic.{⊎-elim}
-use Prim.Native.Nat.{ℕ, zero, suc, _+_, _-_, _*_, _/_, _%_, _≤_, _<_}
+use Prim.Native.Nat.{_-_}
 use native.Mathlib.Omega.{arith}
-use lib.ListN.{length, getD, set, length-set}
-use lib.Seq.{sets, length-sets}
 use borrow.Author.Needs.{needs}
 use Rattle.replaying.specs.Listed.{lookupsOf}
 use Rattle.steps.proofs.Sweeping.{Ordering, ordering-all, ordering-turn, ordering-deep, ordering-end}
 use Rattle.steps.proofs.run_lookups.Statement.{statement}
 use Rattle.steps.proofs.run_lookups.Tie as tie
-use Rattle.steps.proofs.run_lookups.Reads as reads
-use Rattle.steps.proofs.run_lookups.Lts as lts
-use Rattle.steps.proofs.sweep_lookup.Reads as sweep-lookup-reads
 
 abbrev Inv-loop : tie.InvT-loop
 Inv-loop list buffer string₀ n many lookup₀ string lookup = Ordering (lookupsOf list buffer) many n string₀ string lookup

@@ -1,10 +1,5 @@
-use mathlib.Core.Path.{_≡_, refl, sym, ap, _∙_}
-use mathlib.Core.List.{List, [], _∷_, _++_}
-use mathlib.Core.Logic.{⊎-elim}
-use Prim.Native.Nat.{ℕ, zero, suc, _+_, _-_, _*_, _/_, _%_, _≤_, _<_}
+use Prim.Native.Nat.{_-_}
 use native.Mathlib.Omega.{arith}
-use lib.ListN.{length, getD, set, length-set}
-use lib.Seq.{sets, length-sets}
 use borrow.Author.Needs.{needs}
 use Rattle.meaning.specs.Words.{words}
 use Rattle.replaying.specs.Listed.{lookupsOf}
@@ -12,10 +7,6 @@ use Rattle.replaying.specs.Applying.{apply}
 use Rattle.steps.proofs.Sweeping.{Sweeping, sweeping-all, sweeping-turn, sweeping-deep, sweeping-end, took-small}
 use Rattle.steps.proofs.sweep_lookup.Statement.{statement}
 use Rattle.steps.proofs.sweep_lookup.Tie as tie
-use Rattle.steps.proofs.sweep_lookup.Reads as reads
-use Rattle.steps.proofs.sweep_lookup.Lts as lts
-use Rattle.steps.proofs.lookup_step.Reads as lookup-step-reads
-use Rattle.steps.proofs.onward.Reads as onward-reads
 
 abbrev Inv-loop : tie.InvT-loop
 Inv-loop list buffer string₀ n lookup place₀ string place = Sweeping (lookupsOf list buffer) lookup n string₀ string place
