@@ -1,25 +1,24 @@
 -- The ways through asking a lookup.
-use Prim.Native.Nat.{ℕ, zero, suc, _+_, _-_, _*_, _/_, _≤_, _<_}
-use mathlib.Core.Path.{_≡_, refl, sym, ap, _∙_, subst}
+use Prim.Native.Nat.{ℕ, zero, suc, _+_, _*_, _/_, _≤_, _<_}
+use mathlib.Core.Path.{_≡_, refl, sym, _∙_}
 use mathlib.Core.Bool.{Bool, true, false, cond, true≢false}
-use mathlib.Core.Option.{Option, none, some}
+use mathlib.Core.Option.{Option, none}
 use mathlib.Core.List.{List, [], _∷_, map}
 use native.Mathlib.Omega.{arith}
-use native.Mathlib.Nat.{zero-add}
-use lib.ListN.{length, getD, drop, take}
+use lib.ListN.{length, getD, drop}
 use lib.Dec.{eqb}
 use borrow.Author.Tests.{eq-eqb, eqb-true}
-use Rattle.meaning.specs.Words.{word, words, entries, inside, bind}
+use Rattle.meaning.specs.Words.{word, words, inside}
 use Rattle.meaning.specs.Parts.{coverage, coverageSound}
 use Rattle.meaning.specs.Tables.{Table, reach, reaches, ruleSet, table, context, classContext, coverContext, single}
-use Rattle.meaning.specs.Fault.{fault, partFault, contextFault, singleFault, coverageFault, faultThrough}
+use Rattle.meaning.specs.Fault.{fault, contextFault, singleFault, coverageFault, faultThrough}
 use Rattle.meaning.specs.Matching.{atPlace, match, substitute}
-use Rattle.meaning.specs.Job.{Part, long, partAt, bytesOf}
+use Rattle.meaning.specs.Job.{long, bytesOf}
 use Rattle.laws.specs.Left.{words-length}
 use Rattle.laws.specs.SoundGood.{part-sound}
 use Rattle.replaying.specs.Places.{backward, at-place, no-place}
 use Rattle.replaying.specs.Asking.{Answer, answerOf, ask}
-use Rattle.replaying.specs.Listed.{Entry, entryAt, entriesFrom, listed, sourceOf, lookupOf, lookupsOf}
+use Rattle.replaying.specs.Listed.{entryAt, entriesFrom, listed, sourceOf, lookupOf, lookupsOf}
 use Rattle.replaying.specs.Applying.{lookupAt}
 use Rattle.matching.specs.Fitting.{toldBy, Told}
 use Rattle.substitutes.specs.Substitutes.{SoundCover, substituteBy, Substitutes}
@@ -31,7 +30,7 @@ use Rattle.holding.proofs.Holding.{place-glyph}
 use Rattle.matching.proofs.Rows.{offset-sound, cover-fine}
 use Rattle.lookup_list.specs.Ready.{Lookup, sourceAt, Ready}
 use Rattle.lookup_list.proofs.Parts.{listed-source}
-use Rattle.asking.specs.Asks.{answerBy, Asks, InList}
+use Rattle.asking.specs.Asks.{Asks, InList}
 use Rattle.asking.specs.declared.Asked.{Asked}
 use Rattle.asking.specs.declared.Asked.the-variants.{Nothing, Instead, Rule}
 

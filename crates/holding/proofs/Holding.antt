@@ -1,24 +1,23 @@
 -- The ways through holding numbers against glyphs.
-use Prim.Native.Nat.{ℕ, zero, suc, _+_, _-_, _*_, _≤_, _<_}
-use mathlib.Core.Path.{_≡_, refl, sym, ap, _∙_}
-use mathlib.Core.Bool.{Bool, true, false, cond, _&&_, not}
-use mathlib.Core.Option.{Option, none, some}
+use Prim.Native.Nat.{ℕ, suc, _+_, _-_, _*_, _≤_, _<_}
+use mathlib.Core.Path.{_≡_, sym, ap, _∙_}
+use mathlib.Core.Bool.{Bool, true, false, _&&_, not}
 use mathlib.Core.List.{List}
 use native.Mathlib.Omega.{arith}
 use native.Mathlib.Nat.{add-zero, zero-add}
-use lib.ListN.{length, getD, drop}
+use lib.ListN.{getD, drop}
 use lib.Dec.{eqb}
 use borrow.Author.Tests.{eq-eqb, ne-eqb, not-true, not-false}
-use Rattle.meaning.specs.Words.{word, words, member, isSome}
+use Rattle.meaning.specs.Words.{word, words, isSome}
 use Rattle.meaning.specs.Parts.{coverage, classIn}
-use Rattle.meaning.specs.Matching.{fits, covers?, inClass}
+use Rattle.meaning.specs.Matching.{covers?, inClass}
 use Rattle.laws.specs.Left.{words-length, words-all}
 use Rattle.replaying.specs.Places.{backward, fitsOn, on-turn, on-short, on-end, fitsBack, back-turn, back-short, back-end, glyph-at}
 use Rattle.coverage_index.specs.Index.{indexOf, coveredOf, is-at, is-not, member-index}
 use Rattle.coverage_index.specs.declared.Covered.{Covered}
 use Rattle.coverage_index.specs.declared.Covered.the-variants.{At, Not}
 use Rattle.class_lists.specs.Tables.{tableAt}
-use Rattle.holding.specs.Held.{coverAt, held, Fine, runsOn}
+use Rattle.holding.specs.Held.{coverAt, held, runsOn}
 use Rattle.holding.specs.declared.Sequence.{Sequence}
 
 -- A coverage: a null one, one that has not the glyph, one that has it.

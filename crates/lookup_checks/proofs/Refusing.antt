@@ -1,20 +1,19 @@
 -- The ways through the checks of a lookup, and of a list.
 use Prim.Native.Nat.{ℕ, suc, _+_, _-_, _*_, _/_, _≤_, _<_}
-use mathlib.Core.Path.{_≡_, refl, sym, ap, _∙_}
-use mathlib.Core.Bool.{Bool, true, false, cond, _&&_, not}
-use mathlib.Core.Option.{Option, none, some}
+use mathlib.Core.Path.{_≡_}
+use mathlib.Core.Bool.{Bool, true, false, _&&_, not}
+use mathlib.Core.Option.{none}
 use mathlib.Core.List.{List}
 use native.Mathlib.Decide.{decLt}
 use native.Mathlib.Omega.{arith}
 use lib.ListN.{length}
-use lib.Dec.{leb, ltb, eqb}
+use lib.Dec.{leb, ltb}
 use borrow.Author.Tests.{lt-ltb, le-ltb, le-leb, lt-leb, not-true, not-false}
 use Rattle.meaning.specs.Words.{word, inside}
 use Rattle.meaning.specs.Tables.{table}
 use Rattle.meaning.specs.Fault.{fault}
 use Rattle.meaning.specs.Records.{recordsWithin}
 use Rattle.meaning.specs.Subset.{limit, lastFormat, hasFormat}
-use Rattle.meaning.specs.Job.{partAt}
 use Rattle.wire.specs.Fault.{faultOf, is-at, is-sound}
 use Rattle.wire.specs.declared.Fault.{Fault}
 use Rattle.wire.specs.declared.Fault.the-variants.{At, Sound}

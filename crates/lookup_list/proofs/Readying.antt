@@ -1,6 +1,6 @@
 -- A list that is not refused can be asked.
 use Prim.Native.Nat.{ℕ, zero, suc, _+_, _-_, _*_, _/_, _%_, _≤_, _<_}
-use mathlib.Core.Path.{_≡_, refl, sym, ap, _∙_}
+use mathlib.Core.Path.{_≡_, refl, sym, _∙_}
 use mathlib.Core.Bool.{Bool, true, false, cond, _&&_, _||_, not, true≢false}
 use mathlib.Core.Option.{Option, none, some}
 use mathlib.Core.List.{List}
@@ -16,7 +16,7 @@ use Rattle.meaning.specs.Subset.{limit, hasFormat}
 use Rattle.meaning.specs.Job.{long, partAt}
 use Rattle.laws.specs.Runs.{both}
 use Rattle.replaying.specs.Listed.{orElse, Entry, entryAt, entriesFrom, listed, listLimit, goodEntry, goodList, sourceOf, malformed, lookupRefusal, firstRefusal}
-use Rattle.lookup_list.specs.Ready.{Lookup, sourceAt, Ready}
+use Rattle.lookup_list.specs.Ready.{sourceAt, Ready}
 
 no : {A : Type 0} → _≡_ {A = ℕ} 0 1 → A
 no e = absurd (omega arith)

@@ -1,26 +1,24 @@
 -- The ways through the search for a rule that fits.
 use Prim.Native.Nat.{ℕ, zero, suc, _+_, _-_, _*_, _≤_, _<_}
-use mathlib.Core.Path.{_≡_, refl, sym, ap, _∙_, subst}
-use mathlib.Core.Bool.{Bool, true, false, cond, _&&_, not}
+use mathlib.Core.Path.{_≡_, refl, sym, ap, _∙_}
+use mathlib.Core.Bool.{Bool, true, false, cond, _&&_}
 use mathlib.Core.Option.{Option, none, some}
 use mathlib.Core.List.{List, [], _∷_}
 use native.Mathlib.Omega.{arith}
 use lib.ListN.{length, drop}
 use lib.Dec.{ltb, eqb}
-use borrow.Author.Tests.{lt-ltb, le-ltb, eq-eqb, ne-eqb, not-true, not-false}
-use Rattle.meaning.specs.Words.{word, words, entries}
+use borrow.Author.Tests.{eq-eqb, ne-eqb}
+use Rattle.meaning.specs.Words.{word}
 use Rattle.meaning.specs.Tables.{reach, reaches, dropNull, plainRule, chainedRule, rule, ruleSet}
-use Rattle.meaning.specs.Matching.{Holds, fits, ruleFits, firstFit}
+use Rattle.meaning.specs.Matching.{fits, ruleFits, firstFit}
 use Rattle.laws.specs.Left.{words-length}
 use Rattle.replaying.specs.Places.{backward}
 use Rattle.rules.specs.Parts.{IsRule}
 use Rattle.rules.specs.declared.RuleParts.{RuleParts}
-use Rattle.holding.specs.Held.{held, Fine, SoundNumber, runsOn}
-use Rattle.holding.specs.Fitting.{sequenceOf, partsFit, FineParts}
-use Rattle.matching.specs.Fitting.{heldBy, SoundTables, reachFits, toldBy, Small, Told}
-use Rattle.holding.specs.declared.Sequence.{Sequence}
+use Rattle.holding.specs.Held.{held, runsOn}
+use Rattle.holding.specs.Fitting.{partsFit, FineParts}
+use Rattle.matching.specs.Fitting.{heldBy, SoundTables, reachFits, Told}
 use Rattle.holding.specs.declared.How.{How}
-use Rattle.matching.specs.declared.Matched.{Matched}
 use Rattle.matching.specs.declared.Matched.the-variants.{Nothing, Rule}
 
 -- a rule's input has one number fewer than it counts

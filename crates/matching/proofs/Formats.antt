@@ -1,29 +1,29 @@
 -- The ways through the formats of a context.
-use Prim.Native.Nat.{ℕ, zero, suc, _+_, _-_, _*_, _≤_, _<_}
-use mathlib.Core.Path.{_≡_, refl, sym, ap, _∙_, subst}
-use mathlib.Core.Bool.{Bool, true, false, cond, _&&_, not}
+use Prim.Native.Nat.{ℕ, zero, suc, _+_, _*_, _≤_, _<_}
+use mathlib.Core.Path.{_≡_, refl, sym, _∙_}
+use mathlib.Core.Bool.{Bool, true, false, cond, not}
 use mathlib.Core.Option.{Option, none, some}
-use mathlib.Core.List.{List, [], _∷_}
+use mathlib.Core.List.{List}
 use native.Mathlib.Omega.{arith}
 use native.Mathlib.Nat.{zero-add}
-use lib.ListN.{length, getD, drop}
-use lib.Dec.{ltb, eqb}
+use lib.ListN.{getD, drop}
+use lib.Dec.{eqb}
 use borrow.Author.Tests.{eq-eqb, ne-eqb, not-true, not-false}
-use Rattle.meaning.specs.Words.{word, words, bind, member, isSome}
+use Rattle.meaning.specs.Words.{word, words, bind, member}
 use Rattle.meaning.specs.Parts.{coverage, coverageSound, classes, classOf, listed, classIn}
-use Rattle.meaning.specs.Tables.{Table, reach, reaches, ruleSet}
-use Rattle.meaning.specs.Matching.{Holds, match, firstFit, setAt, covers?, inClass, sameGlyph, sameClass}
+use Rattle.meaning.specs.Tables.{reach, reaches, ruleSet}
+use Rattle.meaning.specs.Matching.{match, firstFit, covers?, sameGlyph, sameClass}
 use Rattle.replaying.specs.Places.{backward}
-use Rattle.coverage_index.specs.Index.{indexOf, coveredOf, is-at, is-not, set-index, member-index}
+use Rattle.coverage_index.specs.Index.{indexOf, coveredOf, is-at, is-not, set-index}
 use Rattle.coverage_index.specs.declared.Covered.{Covered}
 use Rattle.coverage_index.specs.declared.Covered.the-variants.{At, Not}
 use Rattle.class_lists.specs.Tables.{tableAt, null-table, table-there}
 use Rattle.holding.specs.Held.{coverAt, held}
-use Rattle.matching.specs.Fitting.{heldBy, SoundTables, toldBy, Told}
+use Rattle.matching.specs.Fitting.{heldBy, SoundTables, Told}
 use Rattle.matching.specs.Formats.{SoundCover, matchAt, setFit, glyphContext, classesAt}
 use Rattle.holding.specs.declared.How.{How}
 use Rattle.matching.specs.declared.Matched.{Matched}
-use Rattle.matching.specs.declared.Matched.the-variants.{Nothing, Rule}
+use Rattle.matching.specs.declared.Matched.the-variants.{Nothing}
 use Rattle.holding.proofs.Holding.{place-glyph}
 
 -- nothing, where there is none; and what is told of the same answer

@@ -1,31 +1,30 @@
 -- The ways through a context of format 3, and through the three formats.
-use Prim.Native.Nat.{ℕ, zero, suc, _+_, _-_, _*_, _%_, _≤_, _<_}
-use mathlib.Core.Path.{_≡_, refl, sym, ap, _∙_, subst}
-use mathlib.Core.Bool.{Bool, true, false, cond, _&&_, not, true≢false}
+use Prim.Native.Nat.{ℕ, zero, suc, _+_, _*_, _≤_, _<_}
+use mathlib.Core.Path.{_≡_, refl, sym, ap, _∙_}
+use mathlib.Core.Bool.{Bool, true, false, cond, _&&_, true≢false}
 use mathlib.Core.Option.{Option, none, some}
 use mathlib.Core.List.{List, [], _∷_}
-use mathlib.Core.Logic.{_⊎_, inl, inr}
+use mathlib.Core.Logic.{inl, inr}
 use native.Mathlib.Omega.{arith}
 use native.Mathlib.Nat.{zero-add}
 use lib.ListN.{length, getD, drop}
-use lib.Dec.{ltb, eqb}
+use lib.Dec.{eqb}
 use borrow.Author.Tests.{eq-eqb, ne-eqb}
-use Rattle.meaning.specs.Words.{word, words, entries, bind, find}
+use Rattle.meaning.specs.Words.{word, words, entries}
 use Rattle.meaning.specs.Parts.{coverage, coverageSound, classes, classesSound}
-use Rattle.meaning.specs.Tables.{Table, reach, reaches, ruleSet, plusDelta, classContext, coverContext, context, single}
-use Rattle.meaning.specs.Fault.{lowest, partFault, faultThrough, coverageFault, classesFault, ruleFault, setFault, headerFault, coversFault, contextFault}
-use Rattle.meaning.specs.Matching.{atPlace, match, fits, covers?, substitute}
+use Rattle.meaning.specs.Tables.{reach, reaches, classContext, coverContext, context}
+use Rattle.meaning.specs.Fault.{faultThrough, coverageFault, classesFault, coversFault, contextFault}
+use Rattle.meaning.specs.Matching.{atPlace, match, fits, covers?}
 use Rattle.laws.specs.Left.{words-length}
 use Rattle.laws.specs.SoundGood.{part-sound, lowest-none, header-good}
 use Rattle.replaying.specs.Places.{backward, at-place, no-place}
-use Rattle.rules.specs.declared.Row.{Row}
 use Rattle.rules.specs.declared.RuleParts.{RuleParts}
 use Rattle.class_lists.specs.Tables.{tableAt, NullOrSound}
-use Rattle.holding.specs.Held.{coverAt, held, runsOn}
-use Rattle.holding.specs.Fitting.{sequenceOf, partsFit, FineParts}
+use Rattle.holding.specs.Held.{held, runsOn}
+use Rattle.holding.specs.Fitting.{partsFit, FineParts}
 use Rattle.matching.specs.Fitting.{SoundTables, Told}
 use Rattle.matching.specs.Formats.{SoundCover, SoundClasses, matchAt, glyphContext, classesAt}
-use Rattle.matching.specs.Rows.{coversOf, SoundRow, IsCovers}
+use Rattle.matching.specs.Rows.{SoundRow, IsCovers}
 use Rattle.holding.specs.declared.How.{How}
 use Rattle.matching.specs.declared.Matched.{Matched}
 use Rattle.matching.specs.declared.Matched.the-variants.{Nothing, Rule}

@@ -2,7 +2,7 @@
 use Prim.Native.Nat.{ℕ, zero, suc, _+_, _-_, _*_, _/_, _≤_, _<_}
 use mathlib.Core.Path.{_≡_, refl, sym, ap, _∙_}
 use mathlib.Core.Bool.{Bool, true, false, cond, _&&_, not}
-use mathlib.Core.Option.{Option, none, some}
+use mathlib.Core.Option.{none}
 use mathlib.Core.List.{List, map}
 use native.Mathlib.Omega.{arith}
 use native.Mathlib.Nat.{zero-add}
@@ -11,10 +11,9 @@ use lib.Dec.{ltb, eqb}
 use borrow.Author.Tests.{lt-ltb, le-ltb, eq-eqb, ne-eqb, not-true, not-false}
 use Rattle.meaning.specs.Words.{word, words, entries, every}
 use Rattle.meaning.specs.Parts.{coverage}
-use Rattle.meaning.specs.Tables.{Rule, Table, fieldCount, reach, reaches, rule, ruleSet, ligatureSet, pairSet, classContext, coverContext, context, single, table}
-use Rattle.meaning.specs.Job.{partAt}
+use Rattle.meaning.specs.Tables.{Table, fieldCount, reach, reaches, rule, ruleSet, ligatureSet, pairSet, classContext, coverContext, context, table}
 use Rattle.laws.specs.Left.{entries-left, entries-all, entries-none}
-use Rattle.laws.specs.EachLeft.{passes, allPass, Each, each-all, each-next, each-fails, each-end}
+use Rattle.laws.specs.EachLeft.{passes, allPass}
 use Rattle.rules.specs.Parts.{IsRule}
 use Rattle.rules.specs.declared.RuleParts.{RuleParts}
 use Rattle.matching.specs.Rows.{IsCovers}

@@ -1,4 +1,4 @@
-// The lookups that records name: 17 where one is not of the list, in any rule, retained by a run or not.
+// The lookups that records name: 17 where one is not of the list, in any rule, reached by a run or not.
 use lookup_list::long_at;
 use lookup_list::part;
 use matching::cover_parts;

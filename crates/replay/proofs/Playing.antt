@@ -3,17 +3,16 @@ use Prim.Native.Nat.{ℕ, _+_, _*_, _≤_, _<_}
 use mathlib.Core.Path.{_≡_, refl, sym, ap, _∙_}
 use mathlib.Core.Bool.{Bool, true, false, cond, true≢false}
 use mathlib.Core.Option.{Option, none, some}
-use mathlib.Core.List.{List, [], _∷_}
+use mathlib.Core.List.{List, _∷_}
 use native.Mathlib.Omega.{arith}
 use lib.ListN.{length}
-use lib.Dec.{eqb}
 use Rattle.meaning.specs.Words.{word, isSome, bind}
 use Rattle.meaning.specs.Job.{eqList}
 use Rattle.meaning.specs.Tables.{Table}
 use Rattle.replaying.specs.Listed.{ifSome}
 use Rattle.replaying.specs.Applying.{run}
 use Rattle.replaying.specs.Trace.{Run, runAt, runLength, goodRun, runsOf}
-use Rattle.replaying.specs.Replay.{Tally as TallyOf, Replayed, agreeing, firstOut, counted, changed, played, runsIn}
+use Rattle.replaying.specs.Replay.{Tally as TallyOf, agreeing, firstOut, counted, changed, played, runsIn}
 use Rattle.replaying.specs.Tallies.{play, in-place}
 use Rattle.replaying.specs.Turns.{runsLeft, runs-all, runs-turn, runs-short, runs-end}
 use Rattle.traces.specs.Whole.{Whole}
@@ -21,7 +20,7 @@ use Rattle.runs.specs.Verdicts.{verdictOf}
 use Rattle.replay.specs.Counting.{tallyOf, replayedOf, isDeep, doesAgree}
 use Rattle.replay.specs.declared.Tally.{Tally}
 use Rattle.runs.specs.declared.Verdict.{Verdict}
-use Rattle.runs.specs.declared.Verdict.the-variants.{Agrees, Differs, Deep}
+use Rattle.runs.specs.declared.Verdict.the-variants.{Agrees, Differs}
 use Rattle.traces.proofs.Tracing.{good-whole}
 
 -- what a change does to the counts

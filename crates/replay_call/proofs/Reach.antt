@@ -1,6 +1,6 @@
 -- How large the number and the place of an answer can be.
-use Prim.Native.Nat.{ℕ, zero, suc, _+_, _≤_, _<_}
-use mathlib.Core.Path.{_≡_, refl, sym, ap, _∙_}
+use Prim.Native.Nat.{ℕ, zero, suc, _≤_, _<_}
+use mathlib.Core.Path.{_≡_, refl}
 use mathlib.Core.Bool.{Bool, true, false, cond, _&&_, not}
 use mathlib.Core.Option.{Option, none, some, Option·getD}
 use mathlib.Core.List.{List, [], _∷_}
@@ -15,7 +15,7 @@ use Rattle.meaning.specs.Subset.{limit, hasFormat}
 use Rattle.meaning.specs.Job.{bytesOf}
 use Rattle.replaying.specs.Listed.{orElse, Entry, listed, goodList, sourceOf, lookupsOf, malformed, lookupRefusal, firstRefusal, allNamed}
 use Rattle.replaying.specs.Trace.{runsOf}
-use Rattle.replaying.specs.Replay.{Replayed, shallow, played, refusing, refusal, runsIn, replay}
+use Rattle.replaying.specs.Replay.{shallow, played, refusing, refusal, runsIn, replay}
 use Rattle.replaying.specs.Tallies.{refused-first, replays}
 use Rattle.lookup_checks.proofs.Near.{place-near}
 

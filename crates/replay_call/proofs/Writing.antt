@@ -1,13 +1,12 @@
 -- The ways through the writing of a tally.
-use Prim.Native.Nat.{ℕ, _+_, _*_, _/_, _≤_, _<_}
-use mathlib.Core.Path.{_≡_, refl, sym, ap, _∙_}
+use Prim.Native.Nat.{ℕ, _+_, _*_, _/_, _≤_}
+use mathlib.Core.Path.{_≡_, ap, _∙_}
 use mathlib.Core.List.{List, [], _∷_, _++_}
 use native.Mathlib.Omega.{arith}
-use lib.ListN.{length}
 use lib.Seq.{sets}
 use Rattle.meaning.specs.Words.{bytes2, flat}
 use Rattle.laws.specs.Written.{sets-sets}
-use Rattle.replaying.specs.Replay.{Tally as TallyOf, Replayed as ReplayedOf}
+use Rattle.replaying.specs.Replay.{Replayed as ReplayedOf}
 use Rattle.replay.specs.Counting.{tallyOf, replayedOf}
 use Rattle.replay.specs.declared.Tally.{Tally}
 use Rattle.replay.specs.declared.Replayed.{Replayed}

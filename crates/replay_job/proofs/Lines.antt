@@ -1,11 +1,11 @@
 -- The text of an answer, line by line.
 use Prim.Native.Nat.{ℕ, _+_, _≤_}
-use mathlib.Core.Path.{_≡_, ap, _∙_}
-use mathlib.Core.List.{List, [], _∷_, _++_}
+use mathlib.Core.Path.{_≡_}
+use mathlib.Core.List.{List, _++_}
 use native.Mathlib.Omega.{arith}
 use lib.ListN.{length, take, length-append}
 use lib.Seq.{length-take-le}
-use Rattle.meaning.specs.Job.{ascii, decimal, newline}
+use Rattle.meaning.specs.Job.{ascii}
 use Rattle.replaying.specs.Replay.{Replayed}
 use Rattle.report.specs.Text.{Put, lineText}
 use Rattle.report.specs.Lengths.{decimal-length}

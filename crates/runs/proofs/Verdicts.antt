@@ -1,23 +1,16 @@
 -- The ways through a run.
-use Prim.Native.Nat.{ℕ, _+_, _-_, _*_, _≤_, _<_}
-use mathlib.Core.Path.{_≡_, refl, sym, ap, _∙_}
+use Prim.Native.Nat.{ℕ, _+_, _*_}
+use mathlib.Core.Path.{_≡_, refl, sym, _∙_}
 use mathlib.Core.Bool.{Bool, true, false, cond, not, true≢false}
 use mathlib.Core.Option.{Option, none, some}
-use mathlib.Core.List.{List, _∷_}
-use native.Mathlib.Decide.{decLt}
-use native.Mathlib.Omega.{arith}
-use lib.ListN.{length}
-use lib.Dec.{leb}
-use borrow.Author.Tests.{not-true, not-false, le-leb, lt-leb, leb-true}
-use Rattle.meaning.specs.Words.{word, words, inside, isSome, bind}
+use mathlib.Core.List.{List}
+use borrow.Author.Tests.{not-true, not-false}
+use Rattle.meaning.specs.Words.{word, words}
 use Rattle.meaning.specs.Job.{eqList}
 use Rattle.meaning.specs.Tables.{Table}
 use Rattle.replaying.specs.Applying.{run}
-use Rattle.replaying.specs.Trace.{Run, runAt, runLimit, runLength, goodRun, runsOf}
-use Rattle.replaying.specs.Turns.{runsLeft, runs-all, runs-turn, runs-short, runs-end}
-use Rattle.laws.specs.Runs.{both}
+use Rattle.replaying.specs.Trace.{runAt}
 use Rattle.steps.specs.Stepping.{Ruled}
-use Rattle.traces.specs.Whole.{Whole}
 use Rattle.runs.specs.Verdicts.{verdictOf}
 use Rattle.runs.specs.declared.Verdict.{Verdict}
 use Rattle.runs.specs.declared.Verdict.the-variants.{Agrees, Differs, Deep}

@@ -1,7 +1,7 @@
 -- The ways through the runs of a trace.
 use Prim.Native.Nat.{ℕ, _+_, _-_, _*_, _≤_, _<_}
 use mathlib.Core.Path.{_≡_, refl, sym, ap, _∙_}
-use mathlib.Core.Bool.{Bool, true, false, cond, not, true≢false}
+use mathlib.Core.Bool.{Bool, true, false, not}
 use mathlib.Core.Option.{Option, none, some}
 use mathlib.Core.List.{List, _∷_}
 use native.Mathlib.Decide.{decLt}
@@ -9,9 +9,7 @@ use native.Mathlib.Omega.{arith}
 use lib.ListN.{length}
 use lib.Dec.{leb}
 use borrow.Author.Tests.{not-true, not-false, le-leb, lt-leb, leb-true}
-use Rattle.meaning.specs.Words.{word, words, inside, isSome, bind}
-use Rattle.meaning.specs.Job.{eqList}
-use Rattle.meaning.specs.Tables.{Table}
+use Rattle.meaning.specs.Words.{word, inside, isSome, bind}
 use Rattle.replaying.specs.Applying.{run}
 use Rattle.replaying.specs.Trace.{Run, runAt, runLimit, runLength, goodRun, runsOf}
 use Rattle.replaying.specs.Turns.{runsLeft, runs-all, runs-turn, runs-short, runs-end}

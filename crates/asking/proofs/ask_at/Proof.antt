@@ -1,20 +1,7 @@
-use mathlib.Core.Path.{_≡_, refl, sym, ap, _∙_}
-use mathlib.Core.List.{List, [], _∷_, _++_}
-use mathlib.Core.Logic.{⊎-elim}
-use Prim.Native.Nat.{ℕ, zero, suc, _+_, _-_, _*_, _/_, _%_, _≤_, _<_}
-use native.Mathlib.Omega.{arith}
-use lib.ListN.{length, getD, set, length-set}
-use lib.Seq.{sets, length-sets}
 use borrow.Author.Needs.{needs}
 use Rattle.asking.proofs.Answering.{past-list, past-string, listed-inside, listed-lookup, in-list, in-any}
 use Rattle.asking.proofs.ask_at.Statement.{statement}
 use Rattle.asking.proofs.ask_at.Tie as tie
-use Rattle.asking.proofs.ask_at.Reads as reads
-use Rattle.asking.proofs.ask_at.Lts as lts
-use Rattle.asking.proofs.ask_source.Reads as ask-source-reads
-use Rattle.lookup_list.proofs.long_at.Reads as long-at-reads
-use Rattle.lookup_list.proofs.part.Reads as part-reads
-use Rattle.wire.proofs.word_at.Reads as word-at-reads
 
 returns : tie.Need-returns
 returns c =

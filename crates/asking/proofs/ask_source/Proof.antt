@@ -1,19 +1,7 @@
-use mathlib.Core.Path.{_≡_, refl, sym, ap, _∙_}
-use mathlib.Core.List.{List, [], _∷_, _++_}
-use mathlib.Core.Logic.{⊎-elim}
-use Prim.Native.Nat.{ℕ, zero, suc, _+_, _-_, _*_, _/_, _%_, _≤_, _<_}
-use native.Mathlib.Omega.{arith}
-use lib.ListN.{length, getD, set, length-set}
-use lib.Seq.{sets, length-sets}
 use borrow.Author.Needs.{needs}
 use Rattle.asking.proofs.Answering.{rule-sound, cover-sound, single-nothing, single-instead, context-nothing, context-rule}
 use Rattle.asking.proofs.ask_source.Statement.{statement}
 use Rattle.asking.proofs.ask_source.Tie as tie
-use Rattle.asking.proofs.ask_source.Reads as reads
-use Rattle.asking.proofs.ask_source.Lts as lts
-use Rattle.matching.proofs.match_context.Reads as match-context-reads
-use Rattle.substitutes.proofs.substitute.Reads as substitute-reads
-use Rattle.wire.proofs.word_at.Reads as word-at-reads
 
 mul-word-at : tie.Need-mul-word-at
 mul-word-at c = search needs

@@ -1,19 +1,7 @@
-use mathlib.Core.Path.{_≡_, refl, sym, ap, _∙_}
-use mathlib.Core.List.{List, [], _∷_, _++_}
-use mathlib.Core.Logic.{⊎-elim}
-use Prim.Native.Nat.{ℕ, zero, suc, _+_, _-_, _*_, _/_, _%_, _≤_, _<_}
-use native.Mathlib.Omega.{arith}
-use lib.ListN.{length, getD, set, length-set}
-use lib.Seq.{sets, length-sets}
 use borrow.Author.Needs.{needs}
 use Rattle.asking.proofs.Answering.{listed-inside, listed-word}
 use Rattle.asking.proofs.source_word.Statement.{statement}
 use Rattle.asking.proofs.source_word.Tie as tie
-use Rattle.asking.proofs.source_word.Reads as reads
-use Rattle.asking.proofs.source_word.Lts as lts
-use Rattle.lookup_list.proofs.long_at.Reads as long-at-reads
-use Rattle.lookup_list.proofs.part.Reads as part-reads
-use Rattle.wire.proofs.word_at.Reads as word-at-reads
 
 mul-long-at : tie.Need-mul-long-at
 mul-long-at c = search needs

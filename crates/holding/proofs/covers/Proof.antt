@@ -1,17 +1,7 @@
-use mathlib.Core.Path.{_≡_, refl, sym, ap, _∙_}
-use mathlib.Core.List.{List, [], _∷_, _++_}
-use mathlib.Core.Logic.{⊎-elim}
-use Prim.Native.Nat.{ℕ, zero, suc, _+_, _-_, _*_, _/_, _%_, _≤_, _<_}
-use native.Mathlib.Omega.{arith}
-use lib.ListN.{length, getD, set, length-set}
-use lib.Seq.{sets, length-sets}
 use borrow.Author.Needs.{needs}
 use Rattle.holding.proofs.Holding.{covers-null, covers-not, covers-at}
 use Rattle.holding.proofs.covers.Statement.{statement}
 use Rattle.holding.proofs.covers.Tie as tie
-use Rattle.holding.proofs.covers.Reads as reads
-use Rattle.holding.proofs.covers.Lts as lts
-use Rattle.coverage_index.proofs.index_of.Reads as index-of-reads
 
 returns : tie.Need-returns
 returns c = covers-null (c .before .before .args .src .now) (c .before .before .args .at) (c .before .before .args .glyph) (c .if1 .taken)

@@ -1,18 +1,8 @@
-use mathlib.Core.Path.{_≡_, refl, sym, ap, _∙_}
-use mathlib.Core.List.{List, [], _∷_, _++_}
-use mathlib.Core.Logic.{⊎-elim}
-use Prim.Native.Nat.{ℕ, zero, suc, _+_, _-_, _*_, _/_, _%_, _≤_, _<_}
-use native.Mathlib.Omega.{arith}
-use lib.ListN.{length, getD, set, length-set}
-use lib.Seq.{sets, length-sets}
+use Prim.Native.Nat.{_-_}
 use borrow.Author.Needs.{needs}
 use Rattle.holding.proofs.Holding.{Away, away-all, away-short, away-not, away-turn, away-end}
 use Rattle.holding.proofs.fits_back.Statement.{statement}
 use Rattle.holding.proofs.fits_back.Tie as tie
-use Rattle.holding.proofs.fits_back.Reads as reads
-use Rattle.holding.proofs.fits_back.Lts as lts
-use Rattle.holding.proofs.holds.Reads as holds-reads
-use Rattle.wire.proofs.word_at.Reads as word-at-reads
 
 abbrev Inv-loop : tie.InvT-loop
 Inv-loop src q string n place i₀ i = Away src q string n place i

@@ -1,18 +1,8 @@
-use mathlib.Core.Path.{_≡_, refl, sym, ap, _∙_}
-use mathlib.Core.List.{List, [], _∷_, _++_}
-use mathlib.Core.Logic.{⊎-elim}
-use Prim.Native.Nat.{ℕ, zero, suc, _+_, _-_, _*_, _/_, _%_, _≤_, _<_}
-use native.Mathlib.Omega.{arith}
-use lib.ListN.{length, getD, set, length-set}
-use lib.Seq.{sets, length-sets}
+use Prim.Native.Nat.{_-_}
 use borrow.Author.Needs.{needs}
 use Rattle.holding.proofs.Holding.{Onward, onward-all, onward-short, onward-not, onward-turn, onward-end}
 use Rattle.holding.proofs.fits_on.Statement.{statement}
 use Rattle.holding.proofs.fits_on.Tie as tie
-use Rattle.holding.proofs.fits_on.Reads as reads
-use Rattle.holding.proofs.fits_on.Lts as lts
-use Rattle.holding.proofs.holds.Reads as holds-reads
-use Rattle.wire.proofs.word_at.Reads as word-at-reads
 
 abbrev Inv-loop : tie.InvT-loop
 Inv-loop src q string n place i₀ i = Onward src q string n place i

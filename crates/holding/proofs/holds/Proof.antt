@@ -1,18 +1,6 @@
-use mathlib.Core.Path.{_≡_, refl, sym, ap, _∙_}
-use mathlib.Core.List.{List, [], _∷_, _++_}
-use mathlib.Core.Logic.{⊎-elim}
-use Prim.Native.Nat.{ℕ, zero, suc, _+_, _-_, _*_, _/_, _%_, _≤_, _<_}
-use native.Mathlib.Omega.{arith}
-use lib.ListN.{length, getD, set, length-set}
-use lib.Seq.{sets, length-sets}
-use borrow.Author.Needs.{needs}
 use Rattle.holding.proofs.Holding.{held-glyph, held-class, held-cover}
 use Rattle.holding.proofs.holds.Statement.{statement}
 use Rattle.holding.proofs.holds.Tie as tie
-use Rattle.holding.proofs.holds.Reads as reads
-use Rattle.holding.proofs.holds.Lts as lts
-use Rattle.class_lists.proofs.class_of.Reads as class-of-reads
-use Rattle.holding.proofs.covers.Reads as covers-reads
 
 returns : tie.Need-returns
 returns c =

@@ -1,21 +1,8 @@
-use mathlib.Core.Path.{_≡_, refl, sym, ap, _∙_}
-use mathlib.Core.List.{List, [], _∷_, _++_}
-use mathlib.Core.Logic.{⊎-elim}
-use Prim.Native.Nat.{ℕ, zero, suc, _+_, _-_, _*_, _/_, _%_, _≤_, _<_}
 use native.Mathlib.Omega.{arith}
-use lib.ListN.{length, getD, set, length-set}
-use lib.Seq.{sets, length-sets}
 use borrow.Author.Needs.{needs}
-use mathlib.Core.Path.{subst}
-use Rattle.holding.specs.Held.{Fine}
 use Rattle.holding.proofs.Fitting.{parts-none, parts-input, parts-ahead, parts-back, fine-row}
 use Rattle.holding.proofs.parts_fit.Statement.{statement}
 use Rattle.holding.proofs.parts_fit.Tie as tie
-use Rattle.holding.proofs.parts_fit.Reads as reads
-use Rattle.holding.proofs.parts_fit.Lts as lts
-use Rattle.holding.proofs.fits_back.Reads as fits-back-reads
-use Rattle.holding.proofs.fits_on.Reads as fits-on-reads
-use Rattle.holding.proofs.held_row.Reads as held-row-reads
 
 returns : tie.Need-returns
 returns c =

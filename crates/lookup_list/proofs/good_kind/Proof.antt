@@ -1,16 +1,6 @@
-use mathlib.Core.Path.{_≡_, refl, sym, ap, _∙_}
-use mathlib.Core.List.{List, [], _∷_, _++_}
-use mathlib.Core.Logic.{⊎-elim}
-use Prim.Native.Nat.{ℕ, zero, suc, _+_, _-_, _*_, _/_, _%_, _≤_, _<_}
-use native.Mathlib.Omega.{arith}
-use lib.ListN.{length, getD, set, length-set}
-use lib.Seq.{sets, length-sets}
-use borrow.Author.Needs.{needs}
 use Rattle.lookup_list.proofs.Readying.{kind-one, kind-chained, kind-last}
 use Rattle.lookup_list.proofs.good_kind.Statement.{statement}
 use Rattle.lookup_list.proofs.good_kind.Tie as tie
-use Rattle.lookup_list.proofs.good_kind.Reads as reads
-use Rattle.lookup_list.proofs.good_kind.Lts as lts
 
 returns : tie.Need-returns
 returns c = kind-one (c .if1 .taken)

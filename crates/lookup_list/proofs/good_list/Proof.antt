@@ -1,17 +1,8 @@
-use mathlib.Core.Path.{_≡_, refl, sym, ap, _∙_}
-use mathlib.Core.List.{List, [], _∷_, _++_}
-use mathlib.Core.Logic.{⊎-elim}
-use Prim.Native.Nat.{ℕ, zero, suc, _+_, _-_, _*_, _/_, _%_, _≤_, _<_}
-use native.Mathlib.Omega.{arith}
-use lib.ListN.{length, getD, set, length-set}
-use lib.Seq.{sets, length-sets}
+use Prim.Native.Nat.{_-_}
 use borrow.Author.Needs.{needs}
 use Rattle.lookup_list.proofs.Readying.{list-ragged, list-long, Listing, listing-all, listing-bad, listing-turn, listing-end}
 use Rattle.lookup_list.proofs.good_list.Statement.{statement}
 use Rattle.lookup_list.proofs.good_list.Tie as tie
-use Rattle.lookup_list.proofs.good_list.Reads as reads
-use Rattle.lookup_list.proofs.good_list.Lts as lts
-use Rattle.lookup_list.proofs.good_entry.Reads as good-entry-reads
 
 abbrev Inv-loop : tie.InvT-loop
 Inv-loop list buffer many k₀ k = Listing list buffer many k

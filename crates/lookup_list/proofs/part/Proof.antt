@@ -1,16 +1,7 @@
-use mathlib.Core.Path.{_≡_, refl, sym, ap, _∙_}
-use mathlib.Core.List.{List, [], _∷_, _++_}
-use mathlib.Core.Logic.{⊎-elim}
-use Prim.Native.Nat.{ℕ, zero, suc, _+_, _-_, _*_, _/_, _%_, _≤_, _<_}
-use native.Mathlib.Omega.{arith}
-use lib.ListN.{length, getD, set, length-set}
-use lib.Seq.{sets, length-sets}
 use borrow.Author.Needs.{needs}
 use Rattle.lookup_list.proofs.Parts.{part-bytes}
 use Rattle.lookup_list.proofs.part.Statement.{statement}
 use Rattle.lookup_list.proofs.part.Tie as tie
-use Rattle.lookup_list.proofs.part.Reads as reads
-use Rattle.lookup_list.proofs.part.Lts as lts
 
 add-result : tie.Need-add-result
 add-result c = search needs

@@ -1,20 +1,11 @@
-use mathlib.Core.Path.{_≡_, refl, sym, ap, _∙_}
-use mathlib.Core.List.{List, [], _∷_, _++_}
-use mathlib.Core.Logic.{⊎-elim}
-use Prim.Native.Nat.{ℕ, zero, suc, _+_, _-_, _*_, _/_, _%_, _≤_, _<_}
+use Prim.Native.Nat.{_-_}
 use native.Mathlib.Omega.{arith}
-use lib.ListN.{length, getD, set, length-set}
-use lib.Seq.{sets, length-sets}
+use lib.ListN.{set}
 use borrow.Author.Needs.{needs}
 use Rattle.meaning.specs.Words.{words}
 use Rattle.matching.proofs.Fitting.{Choosing, choosing-all, choosing-turn, choosing-found, choosing-end}
 use Rattle.matching.proofs.first_rule.Statement.{statement}
 use Rattle.matching.proofs.first_rule.Tie as tie
-use Rattle.matching.proofs.first_rule.Reads as reads
-use Rattle.matching.proofs.first_rule.Lts as lts
-use Rattle.matching.proofs.rule_fits.Reads as rule-fits-reads
-use Rattle.rules.proofs.rule_parts.Reads as rule-parts-reads
-use Rattle.wire.proofs.word_at.Reads as word-at-reads
 
 abbrev Inv-loop : tie.InvT-loop
 Inv-loop chained src how set string n place count i₀ i = Choosing chained src how set (words string 0 n) place count i

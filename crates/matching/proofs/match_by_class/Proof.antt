@@ -1,19 +1,10 @@
-use mathlib.Core.Path.{_≡_, refl, sym, ap, _∙_}
-use mathlib.Core.List.{List, [], _∷_, _++_}
-use mathlib.Core.Logic.{⊎-elim}
-use Prim.Native.Nat.{ℕ, zero, suc, _+_, _-_, _*_, _/_, _%_, _≤_, _<_}
+use mathlib.Core.Path.{refl}
 use native.Mathlib.Omega.{arith}
-use lib.ListN.{length, getD, set, length-set}
-use lib.Seq.{sets, length-sets}
 use borrow.Author.Needs.{needs}
 use Rattle.meaning.specs.Words.{words}
 use Rattle.matching.proofs.Rows.{plain-tables, chained-tables, plain-classes, chained-classes}
 use Rattle.matching.proofs.match_by_class.Statement.{statement}
 use Rattle.matching.proofs.match_by_class.Tie as tie
-use Rattle.matching.proofs.match_by_class.Reads as reads
-use Rattle.matching.proofs.match_by_class.Lts as lts
-use Rattle.matching.proofs.match_classes.Reads as match-classes-reads
-use Rattle.wire.proofs.word_at.Reads as word-at-reads
 
 word-at-requires : tie.Need-word-at-requires
 word-at-requires c κs = search needs

@@ -1,20 +1,7 @@
-use mathlib.Core.Path.{_≡_, refl, sym, ap, _∙_}
-use mathlib.Core.List.{List, [], _∷_, _++_}
-use mathlib.Core.Logic.{⊎-elim}
-use Prim.Native.Nat.{ℕ, zero, suc, _+_, _-_, _*_, _/_, _%_, _≤_, _<_}
-use native.Mathlib.Omega.{arith}
-use lib.ListN.{length, getD, set, length-set}
-use lib.Seq.{sets, length-sets}
 use borrow.Author.Needs.{needs}
 use Rattle.matching.proofs.Formats.{cover-sound, classes-null, classes-not, classes-at}
 use Rattle.matching.proofs.match_classes.Statement.{statement}
 use Rattle.matching.proofs.match_classes.Tie as tie
-use Rattle.matching.proofs.match_classes.Reads as reads
-use Rattle.matching.proofs.match_classes.Lts as lts
-use Rattle.class_lists.proofs.class_of.Reads as class-of-reads
-use Rattle.holding.proofs.covers.Reads as covers-reads
-use Rattle.matching.proofs.match_set.Reads as match-set-reads
-use Rattle.wire.proofs.word_at.Reads as word-at-reads
 
 returns : tie.Need-returns
 returns c =

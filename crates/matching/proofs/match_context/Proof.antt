@@ -1,20 +1,7 @@
-use mathlib.Core.Path.{_≡_, refl, sym, ap, _∙_}
-use mathlib.Core.List.{List, [], _∷_, _++_}
-use mathlib.Core.Logic.{⊎-elim}
-use Prim.Native.Nat.{ℕ, zero, suc, _+_, _-_, _*_, _/_, _%_, _≤_, _<_}
-use native.Mathlib.Omega.{arith}
-use lib.ListN.{length, getD, set, length-set}
-use lib.Seq.{sets, length-sets}
 use borrow.Author.Needs.{needs}
 use Rattle.matching.proofs.Rows.{context-past, context-glyphs, context-classes, context-covers, glyphs-fine, covers-fault, classes-fine}
 use Rattle.matching.proofs.match_context.Statement.{statement}
 use Rattle.matching.proofs.match_context.Tie as tie
-use Rattle.matching.proofs.match_context.Reads as reads
-use Rattle.matching.proofs.match_context.Lts as lts
-use Rattle.matching.proofs.match_by_class.Reads as match-by-class-reads
-use Rattle.matching.proofs.match_covers.Reads as match-covers-reads
-use Rattle.matching.proofs.match_glyphs.Reads as match-glyphs-reads
-use Rattle.wire.proofs.word_at.Reads as word-at-reads
 
 returns : tie.Need-returns
 returns c =

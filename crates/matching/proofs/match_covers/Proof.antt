@@ -1,19 +1,9 @@
-use mathlib.Core.Path.{_≡_, refl, sym, ap, _∙_}
-use mathlib.Core.List.{List, [], _∷_, _++_}
-use mathlib.Core.Logic.{⊎-elim}
-use Prim.Native.Nat.{ℕ, zero, suc, _+_, _-_, _*_, _/_, _%_, _≤_, _<_}
 use native.Mathlib.Omega.{arith}
-use lib.ListN.{length, getD, set, length-set}
-use lib.Seq.{sets, length-sets}
 use borrow.Author.Needs.{needs}
 use Rattle.laws.specs.Left.{words-length}
 use Rattle.matching.proofs.Rows.{covers-fine, covers-told, covers-none}
 use Rattle.matching.proofs.match_covers.Statement.{statement}
 use Rattle.matching.proofs.match_covers.Tie as tie
-use Rattle.matching.proofs.match_covers.Reads as reads
-use Rattle.matching.proofs.match_covers.Lts as lts
-use Rattle.matching.proofs.cover_parts.Reads as cover-parts-reads
-use Rattle.holding.proofs.parts_fit.Reads as parts-fit-reads
 
 cover-parts-requires : tie.Need-cover-parts-requires
 cover-parts-requires c κs = search needs

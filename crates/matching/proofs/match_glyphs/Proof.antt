@@ -1,19 +1,8 @@
-use mathlib.Core.Path.{_≡_, refl, sym, ap, _∙_}
-use mathlib.Core.List.{List, [], _∷_, _++_}
-use mathlib.Core.Logic.{⊎-elim}
-use Prim.Native.Nat.{ℕ, zero, suc, _+_, _-_, _*_, _/_, _%_, _≤_, _<_}
 use native.Mathlib.Omega.{arith}
-use lib.ListN.{length, getD, set, length-set}
-use lib.Seq.{sets, length-sets}
 use borrow.Author.Needs.{needs}
 use Rattle.matching.proofs.Formats.{cover-sound, glyphs-sound, glyphs-null, glyphs-not, glyphs-at}
 use Rattle.matching.proofs.match_glyphs.Statement.{statement}
 use Rattle.matching.proofs.match_glyphs.Tie as tie
-use Rattle.matching.proofs.match_glyphs.Reads as reads
-use Rattle.matching.proofs.match_glyphs.Lts as lts
-use Rattle.coverage_index.proofs.index_of.Reads as index-of-reads
-use Rattle.matching.proofs.match_set.Reads as match-set-reads
-use Rattle.wire.proofs.word_at.Reads as word-at-reads
 
 word-at-requires : tie.Need-word-at-requires
 word-at-requires c κs = search needs

@@ -1,19 +1,8 @@
-use mathlib.Core.Path.{_≡_, refl, sym, ap, _∙_}
-use mathlib.Core.List.{List, [], _∷_, _++_}
-use mathlib.Core.Logic.{⊎-elim}
-use Prim.Native.Nat.{ℕ, zero, suc, _+_, _-_, _*_, _/_, _%_, _≤_, _<_}
-use native.Mathlib.Omega.{arith}
-use lib.ListN.{length, getD, set, length-set}
-use lib.Seq.{sets, length-sets}
 use borrow.Author.Needs.{needs}
 use Rattle.meaning.specs.Words.{words}
 use Rattle.matching.proofs.Formats.{set-past, set-null, set-there}
 use Rattle.matching.proofs.match_set.Statement.{statement}
 use Rattle.matching.proofs.match_set.Tie as tie
-use Rattle.matching.proofs.match_set.Reads as reads
-use Rattle.matching.proofs.match_set.Lts as lts
-use Rattle.matching.proofs.first_rule.Reads as first-rule-reads
-use Rattle.wire.proofs.word_at.Reads as word-at-reads
 
 word-at-requires : tie.Need-word-at-requires
 word-at-requires c κs = search needs

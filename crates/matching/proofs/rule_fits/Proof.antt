@@ -1,19 +1,9 @@
-use mathlib.Core.Path.{_≡_, refl, sym, ap, _∙_}
-use mathlib.Core.List.{List, [], _∷_, _++_}
-use mathlib.Core.Logic.{⊎-elim}
-use Prim.Native.Nat.{ℕ, zero, suc, _+_, _-_, _*_, _/_, _%_, _≤_, _<_}
 use native.Mathlib.Omega.{arith}
-use lib.ListN.{length, getD, set, length-set}
-use lib.Seq.{sets, length-sets}
 use borrow.Author.Needs.{needs}
 use Rattle.meaning.specs.Words.{words}
 use Rattle.matching.proofs.Fitting.{rule-fine, reach-null, reach-rule}
 use Rattle.matching.proofs.rule_fits.Statement.{statement}
 use Rattle.matching.proofs.rule_fits.Tie as tie
-use Rattle.matching.proofs.rule_fits.Reads as reads
-use Rattle.matching.proofs.rule_fits.Lts as lts
-use Rattle.holding.proofs.parts_fit.Reads as parts-fit-reads
-use Rattle.rules.proofs.rule_parts.Reads as rule-parts-reads
 
 returns : tie.Need-returns
 returns c =

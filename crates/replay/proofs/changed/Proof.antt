@@ -1,17 +1,7 @@
-use mathlib.Core.Path.{_≡_, refl, sym, ap, _∙_}
-use mathlib.Core.List.{List, [], _∷_, _++_}
-use mathlib.Core.Logic.{⊎-elim}
-use Prim.Native.Nat.{ℕ, zero, suc, _+_, _-_, _*_, _/_, _%_, _≤_, _<_}
-use native.Mathlib.Omega.{arith}
-use lib.ListN.{length, getD, set, length-set}
-use lib.Seq.{sets, length-sets}
 use borrow.Author.Needs.{needs}
 use Rattle.replay.proofs.Counting.{agreed, differed}
 use Rattle.replay.proofs.changed.Statement.{statement}
 use Rattle.replay.proofs.changed.Tie as tie
-use Rattle.replay.proofs.changed.Reads as reads
-use Rattle.replay.proofs.changed.Lts as lts
-use Rattle.replay.proofs.first_out.Reads as first-out-reads
 
 add-runs : tie.Need-add-runs
 add-runs c = search needs

@@ -1,16 +1,7 @@
-use mathlib.Core.Path.{_≡_, refl, sym, ap, _∙_}
-use mathlib.Core.List.{List, [], _∷_, _++_}
-use mathlib.Core.Logic.{⊎-elim}
-use Prim.Native.Nat.{ℕ, zero, suc, _+_, _-_, _*_, _/_, _%_, _≤_, _<_}
-use native.Mathlib.Omega.{arith}
-use lib.ListN.{length, getD, set, length-set}
-use lib.Seq.{sets, length-sets}
-use borrow.Author.Needs.{needs}
+use mathlib.Core.Path.{refl, sym}
 use borrow.Author.Tests.{eq-eqb, ne-eqb}
 use Rattle.replay.proofs.first_out.Statement.{statement}
 use Rattle.replay.proofs.first_out.Tie as tie
-use Rattle.replay.proofs.first_out.Reads as reads
-use Rattle.replay.proofs.first_out.Lts as lts
 
 returns : tie.Need-returns
 returns c = sym (rw (eq-eqb (c .before .args .first) 0 (c .if1 .taken)) refl)

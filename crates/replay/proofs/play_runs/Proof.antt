@@ -1,22 +1,11 @@
-use mathlib.Core.Path.{_≡_, refl, sym, ap, _∙_}
-use mathlib.Core.List.{List, [], _∷_, _++_}
-use mathlib.Core.Logic.{⊎-elim}
-use Prim.Native.Nat.{ℕ, zero, suc, _+_, _-_, _*_, _/_, _%_, _≤_, _<_}
+use Prim.Native.Nat.{_-_}
 use native.Mathlib.Omega.{arith}
-use lib.ListN.{length, getD, set, length-set}
-use lib.Seq.{sets, length-sets}
+use lib.ListN.{length}
 use borrow.Author.Needs.{needs}
 use Rattle.replaying.specs.Listed.{lookupsOf}
 use Rattle.replay.proofs.Playing.{Playing, playing-all, playing-whole, playing-deep, playing-turn, playing-end}
 use Rattle.replay.proofs.play_runs.Statement.{statement}
 use Rattle.replay.proofs.play_runs.Tie as tie
-use Rattle.replay.proofs.play_runs.Reads as reads
-use Rattle.replay.proofs.play_runs.Lts as lts
-use Rattle.replay.proofs.changed.Reads as changed-reads
-use Rattle.replay.proofs.does_agree.Reads as does-agree-reads
-use Rattle.replay.proofs.is_deep.Reads as is-deep-reads
-use Rattle.runs.proofs.replay_run.Reads as replay-run-reads
-use Rattle.wire.proofs.word_at.Reads as word-at-reads
 
 abbrev Inv-loop : tie.InvT-loop
 Inv-loop list buffer trace tally₀ at₀ tally at = Playing (lookupsOf list buffer) trace tally at

@@ -1,21 +1,8 @@
-use mathlib.Core.Path.{_≡_, refl, sym, ap, _∙_}
-use mathlib.Core.List.{List, [], _∷_, _++_}
-use mathlib.Core.Logic.{⊎-elim}
-use Prim.Native.Nat.{ℕ, zero, suc, _+_, _-_, _*_, _/_, _%_, _≤_, _<_}
-use native.Mathlib.Omega.{arith}
-use lib.ListN.{length, getD, set, length-set}
-use lib.Seq.{sets, length-sets}
 use borrow.Author.Needs.{needs}
 use Rattle.replaying.specs.Listed.{lookupsOf}
 use Rattle.runs.proofs.Verdicts.{run-deep, run-agrees, run-differs}
 use Rattle.runs.proofs.replay_run.Statement.{statement}
 use Rattle.runs.proofs.replay_run.Tie as tie
-use Rattle.runs.proofs.replay_run.Reads as reads
-use Rattle.runs.proofs.replay_run.Lts as lts
-use Rattle.runs.proofs.copy_words.Reads as copy-words-reads
-use Rattle.steps.proofs.run_lookups.Reads as run-lookups-reads
-use Rattle.runs.proofs.same_words.Reads as same-words-reads
-use Rattle.wire.proofs.word_at.Reads as word-at-reads
 
 word-at-requires : tie.Need-word-at-requires
 word-at-requires c κs = search needs

@@ -1,17 +1,7 @@
-use mathlib.Core.Path.{_≡_, refl, sym, ap, _∙_}
-use mathlib.Core.List.{List, [], _∷_, _++_}
-use mathlib.Core.Logic.{⊎-elim}
-use Prim.Native.Nat.{ℕ, zero, suc, _+_, _-_, _*_, _/_, _%_, _≤_, _<_}
-use native.Mathlib.Omega.{arith}
-use lib.ListN.{length, getD, set, length-set}
-use lib.Seq.{sets, length-sets}
 use borrow.Author.Needs.{needs}
 use Rattle.traces.proofs.Tracing.{good-cut, good-long, good-rest}
 use Rattle.traces.proofs.good_run.Statement.{statement}
 use Rattle.traces.proofs.good_run.Tie as tie
-use Rattle.traces.proofs.good_run.Reads as reads
-use Rattle.traces.proofs.good_run.Lts as lts
-use Rattle.wire.proofs.word_at.Reads as word-at-reads
 
 sub-left : tie.Need-sub-left
 sub-left c = search needs

@@ -1,20 +1,13 @@
-use mathlib.Core.Path.{_≡_, refl, sym, ap, _∙_}
-use mathlib.Core.List.{List, [], _∷_, _++_}
-use mathlib.Core.Logic.{⊎-elim}
-use Prim.Native.Nat.{ℕ, zero, suc, _+_, _-_, _*_, _/_, _%_, _≤_, _<_}
+use mathlib.Core.Path.{sym, _∙_}
+use Prim.Native.Nat.{_-_}
 use native.Mathlib.Omega.{arith}
-use lib.ListN.{length, getD, set, length-set}
-use lib.Seq.{sets, length-sets}
+use lib.ListN.{length}
 use borrow.Author.Needs.{needs}
 use mathlib.Core.Path.{sym, _∙_}
 use borrow.Author.Tests.{not-false}
 use Rattle.traces.proofs.Tracing.{Tracing, tracing-all, tracing-bad, tracing-turn, tracing-end, good-whole}
 use Rattle.traces.proofs.good_trace.Statement.{statement}
 use Rattle.traces.proofs.good_trace.Tie as tie
-use Rattle.traces.proofs.good_trace.Reads as reads
-use Rattle.traces.proofs.good_trace.Lts as lts
-use Rattle.traces.proofs.good_run.Reads as good-run-reads
-use Rattle.wire.proofs.word_at.Reads as word-at-reads
 
 abbrev Inv-loop : tie.InvT-loop
 Inv-loop trace at₀ at = Tracing trace at
