@@ -8,6 +8,9 @@ ghost use lib.Dec.{eqb};
 ghost use Rattle.meaning.specs.Job.{long, bytesOf};
 ghost use Rattle.replaying.specs.Listed.{entryAt, goodEntry, goodList};
 
+// The most lookups of a list.
+const LIST_LIMIT: usize = 16;
+
 // The number of four bytes whose first stands at `at`.
 pub fn long_at(list: &[u8], at: usize) -> usize
     requires { ⌜ at < 0x1_0000_0000 ⌝ }
@@ -56,7 +59,7 @@ pub fn good_list(list: &[u8], buffer: &[u8]) -> bool
         return false;
     }
     let many = list.len() / 10;
-    if 16 < many {
+    if LIST_LIMIT < many {
         return false;
     }
     let mut k = 0;

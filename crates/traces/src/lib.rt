@@ -6,6 +6,9 @@ ghost use lib.ListN.{length};
 ghost use Rattle.meaning.specs.Words.{isSome};
 ghost use Rattle.replaying.specs.Trace.{goodRun, runsOf};
 
+// The most glyphs of a run.
+const RUN_LIMIT: usize = 64;
+
 // Whether the run whose count stands at `at` has at most 64 glyphs and lies inside the trace.
 fn good_run(trace: &[u8], at: usize) -> bool
     requires { ⌜ at < length (now trace) ⌝ }
@@ -16,7 +19,7 @@ fn good_run(trace: &[u8], at: usize) -> bool
         return false;
     }
     let n = word_at(trace, at);
-    if 64 < n {
+    if RUN_LIMIT < n {
         return false;
     }
     2 + 4 * n <= left
