@@ -8,8 +8,8 @@ from .replays import FILE_LIMIT, TRAILER, Lookup, build_replay, list_parts, piec
 from .words import Trouble
 
 PROVED = pathlib.Path(__file__).resolve().parents[1] / "proved"
-# How many bytes of a trace are handed over at once: few enough that the bar moves.
-PIECE = 100_000
+# How many bytes of a trace are handed over at once: few enough that the bar moves, and enough that starting is cheap.
+PIECE = 400_000
 ANSWER = re.compile(r"answer ([0-9]+)\nplace ([0-9]+)\nruns ([0-9]+)\nagreed ([0-9]+)\nfirst ([0-9]+)\n")
 REFUSALS = {number: ANSWERS[number][0] for number in (4, 5, 6, 12)}
 REFUSALS.update({11: "the replay file is faulty", 15: "the list is not good", 16: "the trace is cut short",
