@@ -1,5 +1,6 @@
 /* Cuts the first worked example, P1, and says in words what came back: a
- * context by glyph with three rules, of which the maps leave two. */
+ * context by glyph with three rules, of which the maps leave two. Then replays
+ * three recorded runs over one lookup. */
 #include <stdio.h>
 #include <stdlib.h>
 #include "gillcurtain.h"
@@ -68,6 +69,26 @@ static void print (const uint8_t *bytes, size_t n)
   for (size_t i = 0; i < n; i++) printf ("%02x%s", bytes[i], i % 16 == 15 || i + 1 == n ? "\n" : "");
 }
 
+/* One lookup, kind 5, which puts glyph 6 for glyph 5; of the three runs the last was not recorded so. */
+static const uint8_t list[] = { 0, 5, 0, 0, 0, 0, 0, 0, 0, 12 };
+static const uint8_t buffer[] = { 0, 1, 0, 6, 0, 1, 0, 1, 0, 1, 0, 5 };
+static const uint8_t trace[] = {
+  0, 2, 0, 5, 0, 7, 0, 6, 0, 7,                 /* 5 7 -> 6 7 */
+  0, 1, 0, 7, 0, 7,                             /* 7 -> 7 */
+  0, 1, 0, 5, 0, 5                              /* 5 -> 5 */
+};
+
+static int replay (void)
+{
+  uint8_t tally[GILLCURTAIN_TALLY];
+  uint64_t result = gillcurtain_replay (list, sizeof list, buffer, sizeof buffer, trace, sizeof trace,
+                                        tally, sizeof tally);
+  printf ("replay: answer %u, %u runs, %u agree, the first that does not is run %u\n",
+          gillcurtain_replay_number (result), (unsigned) gillcurtain_tallied (tally, 0),
+          (unsigned) gillcurtain_tallied (tally, 1), (unsigned) gillcurtain_tallied (tally, 2));
+  return gillcurtain_replay_number (result) == GILLCURTAIN_REPLAYED;
+}
+
 int main (void)
 {
   uint8_t out[sizeof source];
@@ -81,5 +102,5 @@ int main (void)
   result = cut_with_scratch (out, sizeof out);
   if (gillcurtain_number (result) != GILLCURTAIN_KEPT) return 1;
   print (out, gillcurtain_length (result));
-  return 0;
+  return replay () ? 0 : 1;
 }

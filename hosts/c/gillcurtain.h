@@ -122,6 +122,48 @@ static inline uint64_t gillcurtain_subset_with (uint64_t kind,
                                 (uint32_t *) (void *) start, cells_len, start + 4 * cells_len, area_len, out, out_len);
 }
 
+/* The answers of a replay. Where several apply, the first of 15, 4, 5, 6, 12,
+ * 16, 17, 18 is given, in that order; 4, 5, 6 and 12 as for a cut. */
+enum gillcurtain_replay_answer {
+  GILLCURTAIN_REPLAYED = 0,     /* all runs were replayed */
+  GILLCURTAIN_BAD_LIST = 15,    /* not of whole entries, over 16, another kind, or a part outside the buffer */
+  GILLCURTAIN_BAD_TRACE = 16,   /* cut short, or a count over 64 */
+  GILLCURTAIN_NO_SUCH_LOOKUP = 17, /* a record names no lookup of the list */
+  GILLCURTAIN_TOO_DEEP = 18     /* a record would run a lookup at depth 9; the tally is as before that run */
+};
+
+/* The bytes of a tally. */
+#define GILLCURTAIN_TALLY 24u
+
+/* Replays a recorded trace over a list of lookups. The list has ten bytes a
+ * lookup: its kind (1, 2 or 5), and start and length of its subtable in
+ * `buffer`, in two, four and four bytes. The trace has for each run a count, so
+ * many glyphs that went in, and as many that came out, two bytes each. All
+ * numbers are big-endian.
+ * The tally is written to the front of `tally`, which overlaps none of the
+ * others: how many runs there were, how many agree, and the first that does
+ * not, from 1 (0 if none), eight bytes each; a shorter slice gets what fits.
+ * The result is the answer times 2^56, plus the place, which is 0 save with
+ * GILLCURTAIN_MALFORMED.
+ * Lookups that call each other can take more steps than anyone waits for, and
+ * none of them is refused: replay a list from an unknown hand under a time
+ * limit of your own. */
+uint64_t gillcurtain_replay (const uint8_t *list, size_t list_len,
+                             const uint8_t *buffer, size_t buffer_len,
+                             const uint8_t *trace, size_t trace_len,
+                             uint8_t *tally, size_t tally_len);
+
+static inline unsigned gillcurtain_replay_number (uint64_t result) { return (unsigned) (result >> 56); }
+static inline uint64_t gillcurtain_replay_place (uint64_t result) { return result & 0xFFFFFFFFFFFFFFu; }
+
+/* A number of a tally: 0 runs, 1 agreements, 2 the first run that disagrees. */
+static inline uint64_t gillcurtain_tallied (const uint8_t *tally, unsigned which)
+{
+  uint64_t n = 0;
+  for (unsigned i = 0; i < 8; i++) n = n << 8 | tally[8 * which + i];
+  return n;
+}
+
 static inline unsigned gillcurtain_number (uint64_t result) { return (unsigned) (result >> 32); }
 static inline size_t gillcurtain_length (uint64_t result) { return (size_t) (result & 0xFFFFFFFFu); }
 

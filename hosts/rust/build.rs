@@ -1,4 +1,4 @@
-//! Says where the library is: beside this crate, as `hosts/dist` puts it, or where GILLCURTAIN_LIB_DIR says.
+//! Says where the libraries are: beside this crate, as `hosts/dist` puts it, or where GILLCURTAIN_LIB_DIR says.
 
 use std::{env, path::PathBuf};
 
@@ -8,10 +8,12 @@ fn main() {
         Some(folder) => PathBuf::from(folder),
         None => PathBuf::from(env::var_os("CARGO_MANIFEST_DIR").expect("cargo sets it")).join("../../lib"),
     };
-    let library = folder.join("libgillcurtain.a");
-    if !library.is_file() {
-        panic!("{} is not there; set GILLCURTAIN_LIB_DIR to its folder", library.display());
+    for name in ["libgillcurtain.a", "libgillcurtain_replay.a"] {
+        let library = folder.join(name);
+        if !library.is_file() {
+            panic!("{} is not there; set GILLCURTAIN_LIB_DIR to its folder", library.display());
+        }
+        println!("cargo:rerun-if-changed={}", library.display());
     }
-    println!("cargo:rerun-if-changed={}", library.display());
     println!("cargo:rustc-link-search=native={}", folder.display());
 }

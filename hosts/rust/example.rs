@@ -1,7 +1,7 @@
 //! Cuts the first worked example, P1, and says in words what came back: a context by glyph with
-//! three rules, of which the maps leave two.
+//! three rules, of which the maps leave two. Then replays three recorded runs over one lookup.
 
-use gillcurtain::{subset, Answer, Subsetter, CONTEXT};
+use gillcurtain::{replay, subset, Answer, Subsetter, CONTEXT};
 
 const SOURCE: [u16; 28] = [
     1, 48, 2, 10, 36, // format 1, coverage, two sets
@@ -14,6 +14,15 @@ const SOURCE: [u16; 28] = [
 ];
 const GLYPHS: [u16; 6] = [3, 1, 5, 2, 9, 3];
 const LOOKUPS: [u16; 4] = [4, 0, 7, 2];
+
+// One lookup, kind 5, which puts glyph 6 for glyph 5; of the three runs the last was not recorded so.
+const LIST: [u16; 5] = [5, 0, 0, 0, 12];
+const BUFFER: [u16; 6] = [1, 6, 1, 1, 1, 5];
+const TRACE: [u16; 11] = [
+    2, 5, 7, 6, 7, // 5 7 -> 6 7
+    1, 7, 7, // 7 -> 7
+    1, 5, 5, // 5 -> 5
+];
 
 /// Words as their bytes, big-endian.
 fn bytes(words: &[u16]) -> Vec<u8> {
@@ -70,4 +79,9 @@ fn main() {
         assert_eq!(cut_with(&mut Subsetter::with_bytes(bytes), &mut other), answer);
         assert_eq!(other, room);
     }
+    let told = replay(&bytes(&LIST), &bytes(&BUFFER), &bytes(&TRACE));
+    println!(
+        "replay: answer {}, {} runs, {} agree, the first that does not is run {}",
+        told.number, told.runs, told.agreements, told.first
+    );
 }

@@ -2,7 +2,8 @@
 //!
 //! [`subset`] cuts one subtable down to the glyphs and lookups that are kept, or refuses. It asks
 //! the system for nothing, keeps nothing between calls and takes no lock. A [`Subsetter`] does the
-//! same with scratch that it owns: somewhat faster, and with little stack.
+//! same with scratch that it owns: somewhat faster, and with little stack. [`replay`] replays
+//! recorded runs over a list of lookups.
 
 use std::fmt;
 
@@ -78,6 +79,68 @@ extern "C" {
         out: *mut u8,
         out_len: usize,
     ) -> u64;
+}
+
+#[link(name = "gillcurtain_replay", kind = "static")]
+extern "C" {
+    fn gillcurtain_replay(
+        list: *const u8,
+        list_len: usize,
+        buffer: *const u8,
+        buffer_len: usize,
+        trace: *const u8,
+        trace_len: usize,
+        tally: *mut u8,
+        tally_len: usize,
+    ) -> u64;
+}
+
+/// What comes of a replay.
+#[derive(Clone, Copy, Debug, PartialEq, Eq)]
+pub struct Replayed {
+    /// 0 if all runs were replayed, else the number of the refusal. Before any run that is the first
+    /// of 15 (the list), 4, 5, 6, 12 (its first faulty lookup), 16 (the trace) and 17 (a record
+    /// names no lookup of the list); 18 ends the replay at a run that goes too deep.
+    pub number: u32,
+    /// With 6, where the lowest faulty part of the lookup starts; else 0.
+    pub place: u64,
+    /// How many runs there were, and how many agree.
+    pub runs: u64,
+    pub agreements: u64,
+    /// The first run that does not agree, from 1; 0 if none.
+    pub first: u64,
+}
+
+/// Replays a recorded trace over a list of lookups. The list has ten bytes a lookup: its kind (1, 2
+/// or 5), and start and length of its subtable in `buffer`, in two, four and four bytes. The trace
+/// has for each run a count, so many glyphs that went in, and as many that came out, two bytes each.
+/// All numbers are big-endian.
+///
+/// Lookups that call each other can take more steps than anyone waits for, and none of them is
+/// refused: replay a list from an unknown hand under a time limit of your own.
+pub fn replay(list: &[u8], buffer: &[u8], trace: &[u8]) -> Replayed {
+    let mut tally = [0u8; 24];
+    // SAFETY: as in `subset`; the tally is this call's own.
+    let result = unsafe {
+        gillcurtain_replay(
+            list.as_ptr(),
+            list.len(),
+            buffer.as_ptr(),
+            buffer.len(),
+            trace.as_ptr(),
+            trace.len(),
+            tally.as_mut_ptr(),
+            tally.len(),
+        )
+    };
+    let tallied = |which: usize| tally[8 * which..][..8].iter().fold(0, |n, &byte| n << 8 | u64::from(byte));
+    Replayed {
+        number: (result >> 56) as u32,
+        place: result & 0xFF_FFFF_FFFF_FFFF,
+        runs: tallied(0),
+        agreements: tallied(1),
+        first: tallied(2),
+    }
 }
 
 /// Cuts `source`, a subtable of this kind. `glyphs` and `lookups` are maps: entries of four bytes,

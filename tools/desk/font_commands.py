@@ -136,10 +136,10 @@ class Bar:
     def __init__(self, total):
         self.total, self.done, self.shown, self.lock = total, 0, sys.stderr.isatty(), threading.Lock()
 
-    def step(self):
+    def step(self, count=1):
         with self.lock:
-            self.done += 1
-            if self.shown:
+            self.done += count
+            if self.shown and self.total:
                 filled = 40 * self.done // self.total
                 end = "\r\033[K" if self.done == self.total else ""
                 print(f"\r[{'#' * filled}{' ' * (40 - filled)}] {self.done} of {self.total}{end}", end="",

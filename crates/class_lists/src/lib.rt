@@ -1,4 +1,4 @@
-// The class of each retained glyph, in cells: one for each entry of the glyph map, in order.
+// The class of a glyph, and the class of each retained glyph, in cells: one for each entry of the glyph map, in order.
 // Map and class table both ascend, so that one walk over the map finds the classes: each search begins where the last one ended, and halves. It costs the map's entries, never a range's glyphs, and of the ranges only those that a search looks at.
 use wire::word_inside;
 ghost use mathlib.Core.Path.{_≡_};
@@ -6,9 +6,9 @@ ghost use mathlib.Core.Bool.{true};
 ghost use Prim.Native.Nat.{_+_, _*_, _/_, _≤_, _<_};
 ghost use lib.ListN.{length};
 ghost use Rattle.meaning.specs.Words.{triples, ascends, keys};
-ghost use Rattle.meaning.specs.Parts.{rangeClasses, classOf};
+ghost use Rattle.meaning.specs.Parts.{rangeClasses, classOf, classIn};
 ghost use Rattle.meaning.specs.Maps.{mapEntries};
-ghost use Rattle.class_lists.specs.Tables.{classesAt, NullOrSound, arrayAt, ArrayInside};
+ghost use Rattle.class_lists.specs.Tables.{tableAt, classesAt, NullOrSound, arrayAt, ArrayInside};
 ghost use Rattle.class_lists.specs.Stretches.{Ranges, Passed, Reached, Stretched};
 ghost use Rattle.class_lists.specs.Listed.{Filled, Listed};
 
@@ -97,6 +97,22 @@ fn stretch_from(src: &[u8], at: usize, n: usize, from: usize, glyph: usize) -> S
         class: word_inside(src, at + 6 * i + 4),
         next: i + 1,
     }
+}
+
+// The class of a glyph in the class table at `at`; with a null table, at 0, it is class 0.
+pub fn class_of(src: &[u8], at: usize, glyph: usize) -> usize
+    requires { ⌜ NullOrSound (now src) at × (glyph < 65536) ⌝ }
+    ensures { λ r. ⌜ (r ≡ classIn (tableAt (now (src .entry)) at) glyph) × (r < 65536) ⌝ }
+{
+    if at == 0 {
+        return 0;
+    }
+    if word_inside(src, at) == 1 {
+        return array_class(src, at, glyph);
+    }
+    let n = word_inside(src, at + 2);
+    let found = stretch_from(src, at + 4, n, 0, glyph);
+    found.class
 }
 
 // The class `class` for each glyph of the map from the entry `from` on that is `last` at most; the entry after them.

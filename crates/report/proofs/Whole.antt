@@ -7,7 +7,7 @@ use lib.ListN.{length, take, drop, length-drop}
 use lib.Seq.{take-all, length-take-le}
 use borrow.Author.Tests.{eq-eqb, ne-eqb}
 use Rattle.meaning.specs.Job.{ascii, digits, decimal, newline, hexLines, printed}
-use Rattle.report.specs.Text.{Put, Spelled, Printable, keptText, refusedText}
+use Rattle.report.specs.Text.{Put, Spelled, Printable, lineText, keptText}
 use Rattle.report.proofs.Writing.{left-all, left-put, left-end}
 
 -- the part of the twenty bytes that holds the digits
@@ -24,12 +24,12 @@ module _ {text one two three : List ℕ} {p q r : ℕ} where
       let y = left-put {xs = decimal (length bs)} {rest = newline ∷ hexLines 16 bs} x b in
       left-end (left-put {xs = newline ∷ []} y c) d
 
-  -- the three pieces of a refusal
-  pub refused-whole : (number : ℕ) → Put text 0 (ascii "refused ") one p → Put one p (decimal number) two q → Put two q (newline ∷ []) three r → Put text 0 (refusedText number) three r
-  unfolding refusedText
-  refused-whole number a b c =
-      let x = left-put {xs = ascii "refused "} {rest = decimal number ++ (newline ∷ [])} left-all a in
-      left-end (left-put {xs = decimal number} x b) c
+  -- the three pieces of a line
+  pub line-whole : (at : ℕ) (word : List ℕ) (n : ℕ) → Put text at word one p → Put one p (decimal n) two q → Put two q (newline ∷ []) three r → Put text at (lineText word n) three r
+  unfolding lineText
+  line-whole at word n a b c =
+      let x = left-put {xs = word} {rest = decimal n ++ (newline ∷ [])} left-all a in
+      left-end (left-put {xs = decimal n} x b) c
 
 module _ {number len : ℕ} {out : List ℕ} (h : Printable number len out) where
   -- the bytes that are kept are as many as the length says
@@ -41,6 +41,6 @@ module _ {number len : ℕ} {out : List ℕ} (h : Printable number len out) wher
   unfolding keptText printed
   printed-kept z k = rw (eq-eqb number 0 z) (rw (kept-length z) at k)
 
-  pub printed-refused : {text after : List ℕ} {r : ℕ} → (number ≡ 0 → ⊥) → Put text 0 (refusedText number) after r → Put text 0 (printed (record { number = number; len = len; out = out })) after r
-  unfolding refusedText printed
+  pub printed-refused : {text after : List ℕ} {r : ℕ} → (number ≡ 0 → ⊥) → Put text 0 (lineText (ascii "refused ") number) after r → Put text 0 (printed (record { number = number; len = len; out = out })) after r
+  unfolding lineText printed
   printed-refused z k = rw (ne-eqb number 0 z) k

@@ -17,12 +17,13 @@ pub record Spelled (n : ℕ) (small : List ℕ) (first : ℕ) : Type 0 where
   pub long : length small ≡ 20
   pub digits : drop first small ≡ decimal n
 
--- what is printed of bytes that are kept, and of a refusal
+-- a line of a word and a number
+unfoldable pub lineText : List ℕ → ℕ → List ℕ
+lineText word n = word ++ (decimal n ++ (newline ∷ []))
+
+-- what is printed of bytes that are kept
 unfoldable pub keptText : List ℕ → List ℕ
 keptText bytes = ascii "kept " ++ (decimal (length bytes) ++ (newline ∷ hexLines 16 bytes))
-
-unfoldable pub refusedText : ℕ → List ℕ
-refusedText number = ascii "refused " ++ (decimal number ++ (newline ∷ []))
 
 -- a buffer of at most 65,536 bytes, and a number and a length of which the length lies in the buffer where the number says that it is kept
 pub record Printable (number len : ℕ) (bytes : List ℕ) : Type 0 where

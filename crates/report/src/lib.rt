@@ -6,7 +6,7 @@ ghost use mathlib.Core.Path.{_≡_};
 ghost use Prim.Native.Nat.{_+_, _*_, _/_, _%_, _≤_, _<_};
 ghost use lib.ListN.{length};
 ghost use Rattle.meaning.specs.Job.{decimal, hexDigit, hexLines, printed};
-ghost use Rattle.report.specs.Text.{Put, Spelled, Printable, keptText, refusedText};
+ghost use Rattle.report.specs.Text.{Put, Spelled, Printable, lineText, keptText};
 
 // Ends a line.
 const NEWLINE: usize = 10;
@@ -113,12 +113,13 @@ fn put_kept(text: &mut [u8], bytes: &[u8]) -> usize
     put_lines(text, r, bytes)
 }
 
-// What is printed of a refusal.
-fn put_refused(text: &mut [u8], number: usize) -> usize
-    ensures { λ r. ⌜ Put (now (text .entry)) 0 (refusedText number) (now (text .exit)) r ⌝ }
+// A line of a word and a number, from `at` on; the place after its newline.
+pub fn put_line(text: &mut [u8], at: usize, word: &[u8], n: usize) -> usize
+    requires { ⌜ at + length (now word) < 0x1_0000_0000 ⌝ }
+    ensures { λ r. ⌜ Put (now (text .entry)) at (lineText (now (word .entry)) n) (now (text .exit)) r ⌝ }
 {
-    let p = put_text(text, 0, b"refused ");
-    let q = put_decimal(text, p, number);
+    let p = put_text(text, at, word);
+    let q = put_decimal(text, p, n);
     put_one(text, q, NEWLINE)
 }
 
@@ -130,5 +131,5 @@ pub fn report(number: usize, len: usize, bytes: &[u8], text: &mut [u8]) -> usize
     if number == 0 {
         return put_kept(text, &bytes[..len]);
     }
-    put_refused(text, number)
+    put_line(text, 0, b"refused ", number)
 }

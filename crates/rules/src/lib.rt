@@ -19,12 +19,12 @@ pub struct Row {
 }
 
 // Where the parts of a rule stand: its backtrack, its input after the first glyph, its lookahead and its records; and its glyph count.
-struct RuleParts {
-    back: Row,
-    count: usize,
-    input: Row,
-    ahead: Row,
-    records: Row,
+pub struct RuleParts {
+    pub back: Row,
+    pub count: usize,
+    pub input: Row,
+    pub ahead: Row,
+    pub records: Row,
 }
 
 // How many glyphs a count leaves after the first: a count of 0 or 1 leaves none.
@@ -87,7 +87,7 @@ fn chained_parts(src: &[u8], at: usize) -> RuleParts
 }
 
 // Where the parts of the rule at `at` stand.
-fn rule_parts(chained: bool, src: &[u8], at: usize) -> RuleParts
+pub fn rule_parts(chained: bool, src: &[u8], at: usize) -> RuleParts
     requires { ⌜ at < 0x1_0000_0000_0000 ⌝ }
     ensures { λ r. ⌜ IsRule chained (now (src .entry)) at r ⌝ }
 {

@@ -2,6 +2,7 @@
 use mathlib.Core.Path.{sym}
 use native.Mathlib.Omega.{arith}
 use borrow.Author.Needs.{needs}
+use Rattle.meaning.specs.Job.{ascii}
 use Rattle.report.proofs.Whole.{kept-length, printed-kept, printed-refused}
 use Rattle.report.proofs.report.Statement.{statement}
 use Rattle.report.proofs.report.Tie as tie
@@ -16,7 +17,11 @@ returns : tie.Need-returns
 returns c = printed-kept (c .before .before .before .before .before .before .before .before .pre) (c .before .before .before .before .before .if1 .taken) (c .before .before .put-kept .ensures)
 
 returns-2 : tie.Need-returns-2
-returns-2 c = printed-refused (c .before .before .before .before .before .before .before .pre) (c .before .before .before .before .if1 .left) (c .before .before .put-refused .ensures)
+unfolding ascii
+returns-2 c =
+    let line = c .before .before in
+    let otherwise = line .before .before .before in
+    printed-refused (otherwise .before .before .before .pre) (otherwise .if1 .left) (line .put-line .ensures)
 
 pub report-spec : {M : Type 1} → statement M
 report-spec =
@@ -26,6 +31,7 @@ report-spec =
     put-kept-requires
     (λ c. search needs)
     returns
+    (λ c. search needs)
     (λ c κs. search needs)
     (λ c. search needs)
     returns-2)

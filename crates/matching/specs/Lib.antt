@@ -1,0 +1,3 @@
+pub mod Fitting
+pub mod Formats
+pub mod Rows

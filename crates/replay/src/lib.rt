@@ -1,0 +1,149 @@
+// Replay of label runs: a recorded trace, run over a list of lookups in a lent buffer, and the tally of its runs.
+use lookup_checks::Checked;
+use lookup_checks::check_lookups;
+use lookup_list::good_list;
+use names::all_named;
+use runs::Verdict;
+use runs::replay_run;
+use traces::good_trace;
+use wire::word_at;
+ghost use mathlib.Core.Path.{_≡_};
+ghost use mathlib.Core.Bool.{true, cond};
+ghost use Prim.Native.Nat.{_≤_, _<_};
+ghost use lib.Dec.{eqb};
+ghost use Rattle.meaning.specs.Words.{isSome};
+ghost use Rattle.replaying.specs.Listed.{lookupsOf};
+ghost use Rattle.replaying.specs.Trace.{runsOf};
+ghost use Rattle.replaying.specs.Replay.{changed, played, refusing, runsIn, replay};
+ghost use Rattle.lookup_list.specs.Ready.{Ready};
+ghost use Rattle.replay.specs.Counting.{tallyOf, replayedOf, isDeep, doesAgree};
+
+// How many runs there were, how many agreed, and the first that did not, from 1; 0 if none.
+pub struct Tally {
+    pub runs: usize,
+    pub agreements: usize,
+    pub first: usize,
+}
+
+// What a replay gives back: its number, the place that comes with 6, and the tally. With 18 it is as before the run that goes too deep.
+pub struct Replayed {
+    pub number: usize,
+    pub place: usize,
+    pub tally: Tally,
+}
+
+// The first run that did not agree, as one more that does not changes it.
+fn first_out(first: usize, runs: usize) -> usize
+    ensures { λ r. ⌜ r ≡ cond (eqb first 0) runs first ⌝ }
+{
+    if first == 0 {
+        return runs;
+    }
+    first
+}
+
+// The tally as one more run changes it.
+fn changed(tally: Tally, agrees: bool) -> Tally
+    requires { ⌜ (tally .runs < 0xFFFF_FFFF_FFFF_FFFF) × (tally .agreements ≤ tally .runs) ⌝ }
+    ensures { λ r. ⌜ tallyOf r ≡ changed agrees (tallyOf tally) ⌝ }
+{
+    let runs = tally.runs + 1;
+    if agrees {
+        return Tally {
+            runs,
+            agreements: tally.agreements + 1,
+            first: tally.first,
+        };
+    }
+    Tally {
+        runs,
+        agreements: tally.agreements,
+        first: first_out(tally.first, runs),
+    }
+}
+
+// Whether a run went too deep.
+fn is_deep(v: Verdict) -> bool
+    ensures { λ r. ⌜ r ≡ isDeep v ⌝ }
+{
+    match v {
+        Verdict::Agrees => false,
+        Verdict::Differs => false,
+        Verdict::Deep => true,
+    }
+}
+
+// Whether a run agreed.
+fn does_agree(v: Verdict) -> bool
+    ensures { λ r. ⌜ r ≡ doesAgree v ⌝ }
+{
+    match v {
+        Verdict::Agrees => true,
+        Verdict::Differs => false,
+        Verdict::Deep => false,
+    }
+}
+
+// Replays the runs of a trace, one after another.
+fn play_runs(list: &[u8], buffer: &[u8], trace: &[u8]) -> Replayed
+    requires { ⌜ Ready (now list) (now buffer) × (isSome (runsOf (now trace)) ≡ true) ⌝ }
+    ensures { λ r. ⌜ replayedOf r ≡ played (lookupsOf (now (list .entry)) (now (buffer .entry))) (runsIn (runsOf (now (trace .entry)))) ⌝ }
+{
+    let mut tally = Tally {
+        runs: 0,
+        agreements: 0,
+        first: 0,
+    };
+    let mut at = 0;
+    while at < trace.len() {
+        let v = replay_run(list, buffer, trace, at);
+        if is_deep(v) {
+            return Replayed {
+                number: 18,
+                place: 0,
+                tally,
+            };
+        }
+        tally = changed(tally, does_agree(v));
+        at += 2 + 4 * word_at(trace, at);
+    }
+    Replayed {
+        number: 0,
+        place: 0,
+        tally,
+    }
+}
+
+// A refusal before any run.
+pub fn refusing(number: usize, place: usize) -> Replayed
+    ensures { λ r. ⌜ replayedOf r ≡ refusing (number, place) ⌝ }
+{
+    Replayed {
+        number,
+        place,
+        tally: Tally {
+            runs: 0,
+            agreements: 0,
+            first: 0,
+        },
+    }
+}
+
+// The replay of a trace over a list of lookups in a buffer: the first refusal that applies, 15, then 4, 5, 6 or 12 for the first faulty lookup, then 16, then 17; or the runs.
+pub fn replay_all(list: &[u8], buffer: &[u8], trace: &[u8]) -> Replayed
+    ensures { λ r. ⌜ replayedOf r ≡ replay (now (list .entry)) (now (buffer .entry)) (now (trace .entry)) ⌝ }
+{
+    if !good_list(list, buffer) {
+        return refusing(15, 0);
+    }
+    if let Checked::Refused(number, place) = check_lookups(list, buffer) {
+        return refusing(number, place);
+    }
+    if !good_trace(trace) {
+        return refusing(16, 0);
+    }
+    if !all_named(list, buffer) {
+        return refusing(17, 0);
+    }
+    play_runs(list, buffer, trace)
+}

@@ -1,0 +1,119 @@
+// The program: reads a replay file from standard input, whose last 28 bytes point back to a list, a buffer and a trace, and prints the answer and the tally of the replay.
+use input::Input;
+use input::read_input;
+use lookup_list::long_at;
+use lookup_list::part;
+use replay::Replayed;
+use replay::refusing;
+use replay::replay_all;
+use report::put_line;
+ghost use mathlib.Core.Path.{_≡_};
+ghost use mathlib.Core.Bool.{true};
+ghost use Prim.Native.Nat.{_≤_, _<_};
+ghost use lib.ListN.{length};
+ghost use Rattle.meaning.specs.Job.{partAt, bytesOf};
+ghost use Rattle.replay.specs.Counting.{replayedOf};
+ghost use Rattle.report.specs.Text.{Put};
+ghost use Rattle.replay_job.specs.ReplayFile.{before, goodFile, replayFile, printed, program};
+
+// The most bytes of a replay file.
+const FILE_LIMIT: usize = 500000;
+
+// One byte more, so that a longer file is seen.
+const FILE: usize = 500001;
+
+// The bytes of the trailer: start and length of each part, in four bytes each, then the tag.
+const TRAILER: usize = 28;
+
+// The four bytes `LSR1`, as one number.
+const TAG: usize = 0x4C53_5231;
+
+// Room for the longest text.
+const TEXT: usize = 160;
+
+// Whether the part whose start and length stand at `at` lies wholly before the trailer.
+fn is_before(file: &[u8], at: usize) -> bool
+    requires { ⌜ (28 ≤ length (now file)) × (at < 0x10_0000) ⌝ }
+    ensures { λ r. ⌜ r ≡ before (now (file .entry)) (partAt (now (file .entry)) at) ⌝ }
+{
+    long_at(file, at) + long_at(file, at + 4) <= file.len() - TRAILER
+}
+
+// Whether the file is a replay file: of 28 bytes to the limit, it ends in the tag, and its three parts lie wholly before the trailer.
+fn good_file(file: &[u8]) -> bool
+    ensures { λ r. ⌜ r ≡ goodFile (now (file .entry)) ⌝ }
+{
+    if file.len() < TRAILER {
+        return false;
+    }
+    if FILE_LIMIT < file.len() {
+        return false;
+    }
+    let at = file.len() - TRAILER;
+    if long_at(file, at + 24) != TAG {
+        return false;
+    }
+    if !is_before(file, at) {
+        return false;
+    }
+    if !is_before(file, at + 8) {
+        return false;
+    }
+    is_before(file, at + 16)
+}
+
+// The part whose start and length stand at `at`, as a part of the lent file.
+fn part_at(file: &[u8], at: usize) -> &[u8]
+    requires { ⌜ (at < 0x10_0000) × (before (now file) (partAt (now file) at) ≡ true) ⌝ }
+    ensures { λ r. ⌜ now r ≡ bytesOf (now (file .entry)) (partAt (now (file .entry)) at) ⌝ }
+{
+    part(file, long_at(file, at), long_at(file, at + 4))
+}
+
+// The replay of a file, or that it is faulty, which is tested first.
+fn replay_file(file: &[u8]) -> Replayed
+    ensures { λ r. ⌜ replayedOf r ≡ replayFile (now (file .entry)) ⌝ }
+{
+    if !good_file(file) {
+        return refusing(11, 0);
+    }
+    let at = file.len() - TRAILER;
+    replay_all(
+        part_at(file, at),
+        part_at(file, at + 8),
+        part_at(file, at + 16),
+    )
+}
+
+// What is printed of a replay, at the front of `text`; how long it is.
+fn put_answer(text: &mut [u8], r: Replayed) -> usize
+    ensures { λ k. ⌜ Put (now (text .entry)) 0 (printed (replayedOf r)) (now (text .exit)) k ⌝ }
+{
+    let a = put_line(text, 0, b"answer ", r.number);
+    let b = put_line(text, a, b"place ", r.place);
+    let c = put_line(text, b, b"runs ", r.tally.runs);
+    let d = put_line(text, c, b"agreed ", r.tally.agreements);
+    put_line(text, d, b"first ", r.tally.first)
+}
+
+// What the program prints for a file, at the front of `text`; how long it is.
+fn answer(file: &[u8], text: &mut [u8]) -> usize
+    requires { ⌜ 160 ≤ length (now text) ⌝ }
+    ensures { λ r. ⌜ Put (now (text .entry)) 0 (program (now (file .entry))) (now (text .exit)) r × (r ≤ length (now (text .exit))) ⌝ }
+{
+    put_answer(text, replay_file(file))
+}
+
+// Reads the file, and writes the text at once. Where that fails, a sentence on standard error says so; a failed read leaves standard output empty.
+fn main() {
+    let mut file = [0u8; FILE];
+    let Input::Bytes(n) = read_input(&mut file) else {
+        io::write_all(2, b"replay_job: standard input could not be read\n");
+        return;
+    };
+    let mut text = [0u8; TEXT];
+    let k = answer(&file[..n], &mut text);
+    if !io::write_all(1, &text[..k]) {
+        io::write_all(2, b"replay_job: the answer could not be written\n");
+    }
+}
