@@ -177,7 +177,7 @@ under-below n m g cs h =
     all-mapSome (λ (e : ℕ × ℕ). Unit {0}) (λ e. e .1 < n) (λ e. bind (find m (classOf cs (e .0))) (λ v. cond (eqb v 0) none (some (e .1, v))))
     (λ e u. opt-bind (λ v. v < n) (λ e. e .1 < n) (find m (classOf cs (e .0))) _ (find-below n m (classOf cs (e .0)) h) (λ v p. opt-cond (λ e. e .1 < n) (eqb v 0) (some (e .1, v)) p)) g (all-any g)
 
-numbered-length : (k : ℕ) (l : List ℕ) → length (numbered k l) ≡ length l
+pub numbered-length : (k : ℕ) (l : List ℕ) → length (numbered k l) ≡ length l
 unfolding numbered
 numbered-length k [] = refl
 numbered-length k (c ∷ r) = ap suc (numbered-length (k + 1) r)
@@ -294,7 +294,8 @@ not-pushed : (o : Option ℕ) (row : List Pair) (l : List (ℕ × List Pair)) (n
 unfolding push bind
 not-pushed o row l n f i = rw f i
 
-kept-rows-length : (m2 : List (ℕ × ℕ)) (k c : ℕ) (ks : List ℕ) (rows : List (List Pair)) → Up c ks → All (λ x. x < c + length rows) ks → length (keptRows (numbered k ks) m2 c rows) ≡ length ks
+-- there is a row for each kept class
+pub kept-rows-length : (m2 : List (ℕ × ℕ)) (k c : ℕ) (ks : List ℕ) (rows : List (List Pair)) → Up c ks → All (λ x. x < c + length rows) ks → length (keptRows (numbered k ks) m2 c rows) ≡ length ks
 unfolding numbered keptRows
 kept-rows-length m2 k c [] rows u h = ap length (no-rows m2 c rows)
 kept-rows-length m2 k c (x ∷ xs) [] u h = absurd (omega (arith, h .0, u .0))
@@ -408,7 +409,7 @@ module _ (f1 f2 n1 n2 : ℕ) (l1 : n1 < 16) (l2 : n2 < 16) (a b : ℕ) where
   thin-rows n [] k = tt
   thin-rows n (e ∷ r) k = ((thin-cells 0 (e .1) (k .0 .0), length-map (e .1) (thinPair f1 f2 n1 n2) ∙ k .0 .1), thin-rows n r (k .1))
 
-rows-many : (f1 f2 n1 n2 : ℕ) (ks : List (ℕ × List Pair)) → length (rowsOf (thin f1 f2 n1 n2 ks)) ≡ length ks
+pub rows-many : (f1 f2 n1 n2 : ℕ) (ks : List (ℕ × List Pair)) → length (rowsOf (thin f1 f2 n1 n2 ks)) ≡ length ks
 unfolding thin rowsOf
 rows-many f1 f2 n1 n2 [] = refl
 rows-many f1 f2 n1 n2 (e ∷ r) = ap suc (rows-many f1 f2 n1 n2 r)
