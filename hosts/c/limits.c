@@ -77,6 +77,9 @@ static const uint8_t by_glyph[] = { 0, 1, 0, 16, 0, 1, 0, 8, 0, 1, 0, 4, 0, 1, 0
 static const uint8_t by_cover[] = { 0, 3, 0, 1, 0, 0, 0, 8, 0, 1, 0, 1, 0, 1 };
 static const uint8_t ligatures[] = { 0, 1, 0, 16, 0, 1, 0, 8, 0, 1, 0, 4, 0, 2, 0, 1, 0, 1, 0, 1, 0, 1 };
 static const uint8_t pairs[] = { 0, 1, 0, 18, 0, 4, 0, 0, 0, 1, 0, 12, 0, 1, 0, 1, 0, 9, 0, 1, 0, 1, 0, 1 };
+static const uint8_t cells[] = {
+  0, 2, 0, 18, 0, 4, 0, 0, 0, 24, 0, 28, 0, 1, 0, 1, 0, 9, 0, 1, 0, 1, 0, 1, 0, 2, 0, 0, 0, 2, 0, 0
+};
 static const uint8_t singles[] = { 0, 1, 0, 6, 0, 0, 0, 1, 0, 1, 0, 1 };
 
 static const struct { const char *name; unsigned kind; const uint8_t *at; size_t len, kept; } deep[] = {
@@ -85,6 +88,7 @@ static const struct { const char *name; unsigned kind; const uint8_t *at; size_t
   { "by cover", GILLCURTAIN_CONTEXT, by_cover, sizeof by_cover, sizeof by_cover },
   { "ligatures", GILLCURTAIN_LIGATURE, ligatures, sizeof ligatures, sizeof ligatures },
   { "pairs", GILLCURTAIN_PAIR, pairs, sizeof pairs, sizeof pairs },
+  { "pairs by class", GILLCURTAIN_PAIR, cells, sizeof cells, sizeof cells },
   { "singles", GILLCURTAIN_SINGLE, singles, sizeof singles, sizeof singles }
 };
 enum { DEEP = sizeof deep / sizeof *deep };

@@ -9,8 +9,8 @@
 
 enum { ROOM = 512, BESIDE = 64, GLYPHS = 3000, FILL = 0xA5 };
 
-/* A context by glyph, one by class, a chained one by coverages, ligatures, pairs and single substitutions, of glyphs 1
- * to 4. */
+/* A context by glyph, one by class, a chained one by coverages, ligatures, pairs, pairs by class and single
+ * substitutions, of glyphs 1 to 4. */
 static const uint8_t by_glyph[] = {
   0, 1, 0, 28, 0, 2, 0, 10, 0, 10, 0, 1, 0, 4, 0, 3, 0, 1, 0, 2, 0, 3, 0, 1, 0, 0, 0, 0, 0, 1, 0, 2, 0, 1, 0, 4
 };
@@ -22,6 +22,10 @@ static const uint8_t by_cover[] = {
 };
 static const uint8_t ligatures[] = { 0, 1, 0, 18, 0, 1, 0, 8, 0, 1, 0, 4, 0, 4, 0, 2, 0, 2, 0, 1, 0, 1, 0, 1 };
 static const uint8_t pairs[] = { 0, 1, 0, 22, 0, 4, 0, 0, 0, 1, 0, 12, 0, 2, 0, 1, 0, 9, 0, 4, 0, 7, 0, 1, 0, 1, 0, 2 };
+static const uint8_t cells[] = {
+  0, 2, 0, 24, 0, 4, 0, 0, 0, 32, 0, 40, 0, 2, 0, 2, 0, 1, 0, 2, 0, 3, 255, 255, 0, 1, 0, 2, 0, 1, 0, 2, 0, 1, 0, 2, 0, 1, 0, 1,
+  0, 1, 0, 4, 0, 1, 0, 1
+};
 static const uint8_t by_delta[] = { 0, 1, 0, 6, 0, 1, 0, 1, 0, 2, 0, 1, 0, 3 };
 static const uint8_t by_list[] = { 0, 2, 0, 10, 0, 2, 0, 2, 0, 1, 0, 1, 0, 2, 0, 1, 0, 3 };
 
@@ -31,6 +35,7 @@ static const struct { const char *name; unsigned kind; const uint8_t *at; size_t
   { "by cover", GILLCURTAIN_CHAINED, by_cover, sizeof by_cover },
   { "ligatures", GILLCURTAIN_LIGATURE, ligatures, sizeof ligatures },
   { "pairs", GILLCURTAIN_PAIR, pairs, sizeof pairs },
+  { "pairs by class", GILLCURTAIN_PAIR, cells, sizeof cells },
   { "by delta", GILLCURTAIN_SINGLE, by_delta, sizeof by_delta },
   { "by list", GILLCURTAIN_SINGLE, by_list, sizeof by_list },
   { "cut short", GILLCURTAIN_PAIR, pairs, sizeof pairs - 1 }

@@ -18,7 +18,7 @@ ANSWERS = {
     4: ("source over 262,144 bytes",
         "Split the subtable, or close the gaps between its parts. Calls only: no job file can hold such a source."),
     5: ("the first two bytes stand and hold a format the kind hasn't",
-        "Contexts have formats 1 to 3, ligatures and pairs format 1, single substitutions 1 and 2. Check the kind, and "
+        "Contexts have formats 1 to 3, ligatures format 1, pairs and single substitutions 1 and 2. Check the kind, and "
         "where the table starts."),
     6: ("malformed",
         "Mend the font or ask its maker; `tools/job show` names the part and its place, which a call gives as its "

@@ -25,6 +25,8 @@ SHAPES = {
             "lookahead count, lookahead coverage*>coverage, record count, record*",
     (3, 1): "coverage>coverage, set count, set*>ligatures",
     (4, 1): "coverage>coverage, value format 1, value format 2, set count, set*>pairs",
+    (4, 2): "coverage>coverage, value format 1, value format 2, first class table>class table, "
+            "second class table>class table, first class count, second class count, cells",
     (5, 1): "coverage>coverage, delta",
     (5, 2): "coverage>coverage, substitute count, substitute*",
     "rules": "rule count, rule*>rule",
@@ -136,6 +138,9 @@ def fields(part, shape):
             notes = glyph_notes(part, count, "substitutes", exactly=True)
             for index, ((at, (glyph,)), note) in enumerate(zip(part.take(count, "substitutes"), notes)):
                 part.add(name, at, glyph, index=index, note=note)
+        elif name == "cells":
+            check_counts(part, words["first class count"], words["second class count"])
+            cells(part, words["first class count"], words["second class count"])
         elif many and count:
             title = f"{name} {part.source.unit}" + (" after the first" if many == "+" else "")
             part.add(title, part.at, [value for _, (value,) in part.take(count, title)])
@@ -234,9 +239,58 @@ def check_value_format(part, bits):
         part.fault(part.at - 2, "device bits (0x00F0) in a value format", answer=7)
 
 
-def pairs(part, _):
+def value_names(part):
+    """The fields of both values of a pair, in order, each with its bit."""
     sides = zip(("first", "second"), part.source.formats)
-    values, before = [(bit, f"{side} {name}") for side, bits in sides for bit, name in bit_names(bits)], -1
+    return [(bit, f"{side} {name}") for side, bits in sides for bit, name in bit_names(bits)]
+
+
+def sound_part(part, name, shape):
+    """The node of an offset, if it reaches a part that has no fault of its own; None if not."""
+    node = next(node for node in part.nodes if node["name"] == name)
+    if node["to"] is None:
+        return None
+    reached = part.source.parts[node["to"], shape]
+    reached.read()
+    return None if reached.faults else node
+
+
+def classes_of(offset):
+    """The listed classes of the class table that an offset reaches, each with its ranges of glyphs."""
+    return [(node["index"], node["value"]) for node in offset["parts"] if node["name"] == "class"]
+
+
+def check_counts(part, rows, columns):
+    """Holds the classes of pairs by class against their counts, where neither class table is null."""
+    if any(node["to"] is None for node in part.nodes if node["name"].endswith("class table")):
+        return
+    cover, first = sound_part(part, "coverage", "coverage"), sound_part(part, "first class table", "class table")
+    if cover and first:
+        held = {glyph: index for index, ranges in classes_of(first) for start, last in ranges
+                for glyph in range(start, last + 1)}
+        for glyph in (glyph for start, last in glyphs_of(cover) for glyph in range(start, last + 1)):
+            if held.get(glyph, 0) >= rows:
+                part.fault(part.at - 4, f"glyph {glyph} has first class {held.get(glyph, 0)}, and the count is {rows}")
+                break
+    second = sound_part(part, "second class table", "class table")
+    if second:
+        highest = max([0] + [index for index, _ in classes_of(second)])
+        if highest >= columns:
+            part.fault(part.at - 2, f"glyphs have second class {highest}, and the count is {columns}")
+
+
+def cells(part, rows, columns):
+    values = value_names(part)
+    if not values:
+        return
+    for index, (at, words) in enumerate(part.take(rows * columns, "cells", len(values))):
+        cell = part.add("cell", at, {"first class": index // columns, "second class": index % columns})
+        for (bit, name), word in zip(values, words):
+            cell["value"][name] = signed(word) if bit < 4 else word
+
+
+def pairs(part, _):
+    values, before = value_names(part), -1
     for index, (at, (glyph, *words)) in enumerate(part.take(part.word("pair count"), "pairs", 1 + len(values))):
         pair = part.add("pair", at, {"second glyph": glyph})
         for (bit, name), word in zip(values, words):

@@ -13,7 +13,7 @@ use borrow.Author.Tests.{ne-eqb, leb-true}
 use Rattle.meaning.specs.Words.{word, inside, find, bind, push, keys, ascends}
 use Rattle.meaning.specs.Parts.{coverage, coverageSound}
 use Rattle.meaning.specs.Tables.{Table, fieldCount}
-use Rattle.meaning.specs.Fault.{faultThrough, coverageFault, pairSetFault, enough, headerFault}
+use Rattle.meaning.specs.Fault.{faultThrough, coverageFault, pairSetFault, enough, headerFault, goodFormats}
 use Rattle.meaning.specs.Cut.{RuleMaps, cut, standIn}
 use Rattle.meaning.specs.Layout.{block, tableWords}
 use Rattle.laws.specs.Stands.{All}
@@ -147,14 +147,14 @@ module _ (s : List ℕ) (bytes : (i : ℕ) → getD s i 0 < 256) (l : length s �
   pub pairs-asked : pairFault s ≡ none → SoundSets (pairsOf s) s
   unfolding setFaultOf
   pairs-asked h =
-      let good = eqb (word s 4 / 256) 0 && (eqb (word s 6 / 256) 0 && enough s (word s 8)) in
+      let good = goodFormats s && enough s (word s 8) in
       let faultAt = pairSetFault (fieldCount (word s 4)) (fieldCount (word s 6)) s in
       record {
         short = l;
         counted = word-small s bytes 8;
         header = header-inside good 8 faultAt s h;
         cover = λ z. cover-sound good 8 faultAt s h refl z;
-        enough = λ z. sets-enough good 8 faultAt s h (λ e. both (eqb (word s 6 / 256) 0) (enough s (word s 8)) (both (eqb (word s 4 / 256) 0) _ e .1) .1) refl z;
+        enough = λ z. sets-enough good 8 faultAt s h (λ e. both (goodFormats s) (enough s (word s 8)) e .1) refl z;
         sets = reached-sound good 8 faultAt s h;
       }
 

@@ -1,5 +1,5 @@
 -- Tables of pairs: what is asked of a source, and what is left of it.
-use Prim.Native.Nat.{ℕ, _/_}
+use Prim.Native.Nat.{ℕ}
 use mathlib.Core.Path.{_≡_, refl, sym, ap, _∙_}
 use mathlib.Core.Bool.{_&&_}
 use mathlib.Core.Option.{Option, none, some}
@@ -11,7 +11,7 @@ use Rattle.meaning.specs.Words.{word, find, bind}
 use Rattle.meaning.specs.Maps.{mapEntries}
 use Rattle.meaning.specs.Parts.{coverage}
 use Rattle.meaning.specs.Tables.{Table, Pair, fieldCount, reach, reaches, pairSet}
-use Rattle.meaning.specs.Fault.{pairSetFault, enough, headerFault}
+use Rattle.meaning.specs.Fault.{pairSetFault, enough, headerFault, goodFormats}
 use Rattle.meaning.specs.Cut.{cut, cutPairs, keptSets, setsOf, newFormat, newSecond, thinPair, thin, keptPairs}
 use Rattle.meaning.specs.Layout.{block, pairSetWords, tableWords}
 use Rattle.fold.specs.Cells.{Holds}
@@ -40,7 +40,7 @@ abbrev pub pairTable : List ℕ → Table
 pairTable s = Table.pairs-of (reach (coverage s) s 0 2) (word s 4) (word s 6) (reaches (pairSet (fieldCount (word s 4)) (fieldCount (word s 6)) s) s 0 10 (word s 8))
 
 abbrev pub pairFault : List ℕ → Option ℕ
-pairFault s = headerFault (eqb (word s 4 / 256) 0 && (eqb (word s 6 / 256) 0 && enough s (word s 8))) 0 8 (pairSetFault (fieldCount (word s 4)) (fieldCount (word s 6)) s) s
+pairFault s = headerFault (goodFormats s && enough s (word s 8)) 0 8 (pairSetFault (fieldCount (word s 4)) (fieldCount (word s 6)) s) s
 
 -- the sort of its sets, before the new formats are known
 abbrev pub pairsOf : List ℕ → Sort

@@ -1,5 +1,5 @@
 -- The ways through a header's check.
-use Prim.Native.Nat.{ℕ, _+_, _*_, _/_, _≤_, _<_}
+use Prim.Native.Nat.{ℕ, _+_, _*_, _<_}
 use mathlib.Core.Path.{_≡_, refl, sym, ap, _∙_}
 use mathlib.Core.Bool.{Bool, true, false, cond, _&&_, and-false}
 use mathlib.Core.Option.{Option, none, some}
@@ -11,13 +11,14 @@ use lib.Dec.{leb}
 use borrow.Author.Tests.{ne-eqb, le-leb, lt-leb, leb-true, leb-false}
 use Rattle.meaning.specs.Words.{word, inside}
 use Rattle.meaning.specs.Parts.{coverage, coverageSound}
-use Rattle.meaning.specs.Fault.{partFault, lowest, faultThrough, coverageFault, classesFault, enough, headerFault, coversFault, contextFault, singleFault, fault}
+use Rattle.meaning.specs.Fault.{partFault, lowest, faultThrough, coverageFault, classesFault, enough, headerFault, coversFault, contextFault, goodFormats, pairFault, singleFault, fault}
+use Rattle.class_counts.specs.Header.{goodHeader}
 use Rattle.laws.specs.ReadsBack.{fault-is}
 use Rattle.wire.specs.declared.Fault.{Fault}
 use Rattle.wire.specs.declared.Fault.the-variants.{At, Sound}
 use Rattle.wire.specs.Fault.{faultOf, placeOf, is-at, is-sound}
 use Rattle.wire.specs.Reached.{Lowest, lowest-part}
-use Rattle.checks.specs.Parts.{byGlyphFault, byClassFault, ligaturesFault, pairFields, pairsFault}
+use Rattle.checks.specs.Parts.{byGlyphFault, byClassFault, ligaturesFault, pairFields, glyphPairsFault, classPairsFault}
 
 -- a table whose header ends with a count at `slot` and as many offsets
 module _ (good : Bool) (k slot : ℕ) (faultAt : ℕ → Option ℕ) (s : List ℕ) where
@@ -129,22 +130,33 @@ module _ (s : List ℕ) {b i a k : ℕ} (e : b ≡ word s 2) (f : i ≡ word s (
   unfolding partFault
   chained-inside q = chained-is ∙ rw q
 
--- the fields of a pair table's header
-module _ (s : List ℕ) {w : ℕ} (e : w ≡ word s 4) where
-  pub fields-first : 256 ≤ w → false ≡ pairFields s
-  fields-first h = rw (ne-eqb (word s 4 / 256) 0 (λ q. omega arith))
+-- the fields of the header of pairs by glyph
+module _ (s : List ℕ) where
+  pub fields-bad-formats : goodFormats s ≡ false → false ≡ pairFields s
+  fields-bad-formats h = rw h
 
-  module _ {v : ℕ} (f : v ≡ word s 6) (l : w < 256) where
-    low-first : word s 4 / 256 ≡ 0
-    low-first = omega arith
+  pub fields-enough : goodFormats s ≡ true → {n : ℕ} {b : Bool} → n ≡ word s 8 → b ≡ enough s n → b ≡ pairFields s
+  fields-enough h c d = rw (h, ← c) d
 
-    pub fields-second : 256 ≤ v → false ≡ pairFields s
-    fields-second h = rw (low-first, ne-eqb (word s 6 / 256) 0 (λ q. omega arith))
+-- a pair table by class
+module _ (s : List ℕ) where
+  pub class-header-bad : goodHeader s ≡ false → classPairsFault s ≡ some 0
+  unfolding partFault
+  class-header-bad h = rw h
 
-    pub fields-enough : v < 256 → {n : ℕ} {b : Bool} → n ≡ word s 8 → b ≡ enough s n → b ≡ pairFields s
-    fields-enough h c d =
-        let z : word s 6 / 256 ≡ 0 = omega arith in
-        rw (low-first, z, ← c) d
+  pub class-header-good : goodHeader s ≡ true → classPairsFault s ≡ lowest (faultThrough (coverageFault s) s 0 2 1) (faultThrough (classesFault s) s 0 8 2)
+  unfolding partFault
+  class-header-good h = rw h
+
+-- a pair table by its format
+module _ (s : List ℕ) {format : ℕ} (e : format ≡ word s 0) where
+  pub pairs-1 : format ≡ 1 → pairFault s ≡ glyphPairsFault s
+  unfolding pairFault
+  pairs-1 f = rw (← e, f)
+
+  pub pairs-2 : (format ≡ 1 → ⊥) → pairFault s ≡ classPairsFault s
+  unfolding pairFault
+  pairs-2 f = rw (← e, ne-eqb format 1 f)
 
 -- a context by its format
 module _ (chained : Bool) (s : List ℕ) {format : ℕ} (e : format ≡ word s 0) where
@@ -178,7 +190,7 @@ module _ (kind : ℕ) (s : List ℕ) where
   unfolding partFault
   source-ligatures h e = fault-is kind s ∙ rw (h, e)
 
-  pub source-pairs : inside s 0 2 ≡ true → kind ≡ 4 → fault kind s ≡ pairsFault s
+  pub source-pairs : inside s 0 2 ≡ true → kind ≡ 4 → fault kind s ≡ pairFault s
   unfolding partFault
   source-pairs h e = fault-is kind s ∙ rw (h, e)
 

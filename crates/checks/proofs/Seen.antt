@@ -1,5 +1,5 @@
 -- Marks at the places of parts whose faults were counted: none at first, and one more.
-use Prim.Native.Nat.{ℕ, _+_, _*_, _≤_, _<_}
+use Prim.Native.Nat.{ℕ, _+_, _*_, _<_}
 use mathlib.Core.Path.{_≡_, refl, sym, ap, _∙_}
 use mathlib.Core.Bool.{Bool, true, false, cond}
 use mathlib.Core.Option.{Option, none, some}
@@ -8,7 +8,7 @@ use native.Mathlib.Omega.{arith}
 use lib.ListN.{getD, set, replicate}
 use lib.Seq.{getD-set-other}
 use lib.Dec.{eqb, leb}
-use borrow.Author.Tests.{eqb-true, eqb-false, le-leb, leb-true, leb-false}
+use borrow.Author.Tests.{eqb-true, eqb-false, leb-true, leb-false}
 use native.Mathlib.Nat.{zero-add}
 use Rattle.meaning.specs.Words.{word}
 use Rattle.meaning.specs.Fault.{lowest}

@@ -1,6 +1,6 @@
 -- The ways through the pass for records past their rule, by the kind and the format.
 use Prim.Native.Nat.{ℕ, _+_, _*_, _<_}
-use mathlib.Core.Path.{_≡_, refl, sym, _∙_}
+use mathlib.Core.Path.{_≡_, refl}
 use mathlib.Core.Bool.{Bool, true, false, cond}
 use mathlib.Core.List.{List}
 use native.Mathlib.Decide.{decLt}
@@ -8,9 +8,9 @@ use native.Mathlib.Omega.{arith}
 use lib.ListN.{getD, replicate, length-replicate, getD-replicate, List·getD-eq-default}
 use lib.Dec.{eqb}
 use borrow.Author.Tests.{ne-eqb}
-use Rattle.meaning.specs.Words.{word, words, entries}
+use Rattle.meaning.specs.Words.{word, entries}
 use Rattle.meaning.specs.Parts.{coverage}
-use Rattle.meaning.specs.Tables.{Table, reach, reaches, ruleSet, ligatureSet, pairSet, fieldCount, classContext, coverContext, context, table}
+use Rattle.meaning.specs.Tables.{Table, reaches, ruleSet, pairTable, classContext, coverContext, context, single, table}
 use Rattle.meaning.specs.Records.{indexesBelow, setsWithin, recordsWithin}
 use Rattle.laws.specs.SoundGood.{reaches-length}
 use Rattle.gsubgpos.specs.Within.{Marked}
@@ -71,14 +71,18 @@ module _ (kind : ℕ) (s : List ℕ) where
   unfolding table
   within-chain e h = rw e h
 
+  either : (t : Bool) (a b : Table) → true ≡ recordsWithin a → true ≡ recordsWithin b → true ≡ recordsWithin (cond t a b)
+  either true a b h k = h
+  either false a b h k = k
+
+  pairs-within : true ≡ recordsWithin (pairTable s)
+  unfolding pairTable recordsWithin
+  pairs-within = either (eqb (word s 0) 1) _ _ refl refl
+
+  singles-within : true ≡ recordsWithin (single s)
+  unfolding single recordsWithin
+  singles-within = either (eqb (word s 0) 1) _ _ refl refl
+
   pub within-other : (kind ≡ 1 → ⊥) → (kind ≡ 2 → ⊥) → true ≡ recordsWithin (table kind s)
   unfolding table recordsWithin
-  within-other a b = rw (ne-eqb kind 1 a, ne-eqb kind 2 b) (step (eqb kind 3) (eqb kind 4) (eqb (word s 0) 1))
-    where
-      step : (b d e : Bool) → true ≡ recordsWithin (cond b (Table.ligatures (reach (coverage s) s 0 2) (reaches (ligatureSet s) s 0 6 (word s 4)))
-          (cond d (Table.pairs-of (reach (coverage s) s 0 2) (word s 4) (word s 6) (reaches (pairSet (fieldCount (word s 4)) (fieldCount (word s 6)) s) s 0 10 (word s 8)))
-          (cond e (Table.single-delta (reach (coverage s) s 0 2) (word s 4)) (Table.single-list (reach (coverage s) s 0 2) (words s 6 (word s 4))))))
-      step true d e = refl
-      step false true e = refl
-      step false false true = refl
-      step false false false = refl
+  within-other a b = rw (ne-eqb kind 1 a, ne-eqb kind 2 b) (either (eqb kind 3) _ _ refl (either (eqb kind 4) (pairTable s) (single s) pairs-within singles-within))

@@ -1,12 +1,12 @@
 -- The fault of a part, by its sort.
-use Prim.Native.Nat.{ℕ, _/_}
+use Prim.Native.Nat.{ℕ}
 use mathlib.Core.Bool.{Bool, true, false, cond, _&&_}
 use mathlib.Core.Option.{Option}
 use mathlib.Core.List.{List}
-use lib.Dec.{eqb}
 use Rattle.meaning.specs.Words.{word}
 use Rattle.meaning.specs.Tables.{fieldCount}
-use Rattle.meaning.specs.Fault.{coverageFault, classesFault, ruleFault, ligatureFault, setFault, pairSetFault, enough, headerFault}
+use Rattle.meaning.specs.Fault.{lowest, partFault, faultThrough, coverageFault, classesFault, ruleFault, ligatureFault, setFault, pairSetFault, enough, headerFault, goodFormats}
+use Rattle.class_counts.specs.Header.{goodHeader}
 use Rattle.checks.specs.declared.Part.{Part}
 use Rattle.checks.specs.declared.Part.the-variants.{Coverage, Classes, Rules, ChainedRules, Ligatures, Pairs}
 
@@ -19,7 +19,7 @@ faultOfPart ChainedRules s = setFault (ruleFault true s) s
 faultOfPart Ligatures s = setFault (ligatureFault s) s
 faultOfPart Pairs s = pairSetFault (fieldCount (word s 4)) (fieldCount (word s 6)) s
 
--- the fault of a context by its format, of a ligature table and of a pair table, once the first two bytes stand
+-- the fault of a context by its format, of a ligature table and of a pair table by its format, once the first two bytes stand
 abbrev pub byGlyphFault : Bool → List ℕ → Option ℕ
 byGlyphFault chained s = headerFault (enough s (word s 4)) 0 4 (setFault (ruleFault chained s) s) s
 
@@ -30,7 +30,10 @@ abbrev pub ligaturesFault : List ℕ → Option ℕ
 ligaturesFault s = headerFault (enough s (word s 4)) 0 4 (faultOfPart Ligatures s) s
 
 abbrev pub pairFields : List ℕ → Bool
-pairFields s = eqb (word s 4 / 256) 0 && (eqb (word s 6 / 256) 0 && enough s (word s 8))
+pairFields s = goodFormats s && enough s (word s 8)
 
-abbrev pub pairsFault : List ℕ → Option ℕ
-pairsFault s = headerFault (pairFields s) 0 8 (faultOfPart Pairs s) s
+abbrev pub glyphPairsFault : List ℕ → Option ℕ
+glyphPairsFault s = headerFault (pairFields s) 0 8 (faultOfPart Pairs s) s
+
+abbrev pub classPairsFault : List ℕ → Option ℕ
+classPairsFault s = partFault 0 (goodHeader s) (lowest (faultThrough (coverageFault s) s 0 2 1) (faultThrough (classesFault s) s 0 8 2))

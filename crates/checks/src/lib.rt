@@ -1,4 +1,6 @@
 // Malformed, over the whole source: the header of each kind and format, and through its offsets every part, retained or not. And records that point past their rule.
+use class_counts::good_formats;
+use class_counts::good_header;
 use rules::indexes_below;
 use view::header;
 use view::subtable_place;
@@ -14,12 +16,12 @@ ghost use Prim.Native.Nat.{_+_, _*_, _≤_, _<_};
 ghost use Rattle.meaning.specs.Words.{words};
 ghost use Rattle.meaning.specs.Tables.{ruleSet, reaches, classContext, coverContext, context, table};
 ghost use Rattle.meaning.specs.Records.{setsWithin, recordsWithin};
-ghost use Rattle.meaning.specs.Fault.{lowest, faultThrough, headerFault, coversFault, contextFault, fault, enough};
+ghost use Rattle.meaning.specs.Fault.{lowest, faultThrough, headerFault, coversFault, contextFault, pairFault, fault, enough};
 ghost use Rattle.wire.specs.Fault.{faultOf, placeOf};
 ghost use Rattle.wire.specs.declared.Fault.the-variants.{Sound};
 ghost use Rattle.checks.specs.Seen.{Seen};
 ghost use Rattle.checks.specs.Crowded.{membersAt, crowds};
-ghost use Rattle.checks.specs.Parts.{faultOfPart, byGlyphFault, byClassFault, ligaturesFault, pairFields, pairsFault};
+ghost use Rattle.checks.specs.Parts.{faultOfPart, byGlyphFault, byClassFault, ligaturesFault, pairFields, glyphPairsFault, classPairsFault};
 
 // The places that one offset leads to, and those that two lead to, where rules start: a mark for each says what was visited.
 const PLACES: usize = 65536;
@@ -233,20 +235,36 @@ fn check_ligatures(src: &[u8]) -> Fault
 fn pair_fields(src: &[u8]) -> bool
     ensures { λ r. ⌜ r ≡ pairFields (now (src .entry)) ⌝ }
 {
-    if 256 <= header(src, 4) {
-        return false;
-    }
-    if 256 <= header(src, 6) {
-        return false;
-    }
-    enough_sets(src, header(src, 8))
+    good_formats(src) && enough_sets(src, header(src, 8))
 }
 
-// A pair table.
-fn check_pairs(src: &[u8]) -> Fault
-    ensures { λ r. ⌜ r ≡ faultOf (pairsFault (now (src .entry))) ⌝ }
+// Pairs by glyph.
+fn check_glyph_pairs(src: &[u8]) -> Fault
+    ensures { λ r. ⌜ r ≡ faultOf (glyphPairsFault (now (src .entry))) ⌝ }
 {
     check_header(src, pair_fields(src), 0, 8, Part::Pairs)
+}
+
+// Pairs by class: the header with its cells, then coverage and class tables.
+fn check_class_pairs(src: &[u8]) -> Fault
+    ensures { λ r. ⌜ r ≡ faultOf (classPairsFault (now (src .entry))) ⌝ }
+{
+    if !good_header(src) {
+        return Fault::At(0);
+    }
+    let cover = check_through(Part::Coverage, src, 2, 1);
+    let tables = check_through(Part::Classes, src, 8, 2);
+    lowest(cover, tables)
+}
+
+// A pair table, by its format.
+fn check_pairs(src: &[u8]) -> Fault
+    ensures { λ r. ⌜ r ≡ faultOf (pairFault (now (src .entry))) ⌝ }
+{
+    if header(src, 0) == 1 {
+        return check_glyph_pairs(src);
+    }
+    check_class_pairs(src)
 }
 
 // Where the lowest faulty part of a source of this kind starts, or that it is sound: 1 context, 2 chained, 3 ligature, 4 pair, and single substitution for any other.

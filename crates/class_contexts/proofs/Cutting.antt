@@ -27,7 +27,7 @@ use Rattle.tried.specs.declared.Tried.{Tried}
 use Rattle.tried.specs.declared.Tried.the-variants.{FewCells}
 use Rattle.class_layouts.specs.Tail.{tableBlock, tableBlocks, tailBlocks}
 use Rattle.class_layouts.specs.Written.{enoughBytes, Writes, leftInto}
-use Rattle.class_contexts.specs.Same.{Same, kept-same, part-alike, inside-same, holds-same, present-same}
+use Rattle.class_maps.specs.Same.{Same, kept-same, part-alike, inside-same, holds-same, present-same}
 use Rattle.class_contexts.specs.Sides.{newTable, TableFor, Asks, SideIn, Sided, InputIn, InputLaid}
 use Rattle.class_contexts.specs.Meaning.{backAt, inputAt, aheadAt, tailOf, rulesMaps, blocksOf, cut-words, slots-alike}
 use Rattle.class_contexts.specs.Cutting.{enoughCells, preparedOf, Cuts, CutsInto}

@@ -5,6 +5,7 @@ use mathlib.Core.List.{List, map}
 use native.Mathlib.Omega.{arith}
 use lib.ListN.{length}
 use Rattle.meaning.specs.Maps.{mapEntries}
+use Rattle.meaning.specs.Cut.{classMap, newClasses}
 use Rattle.fold.specs.Cells.{Inside, Kept, kept-more}
 use Rattle.fold.specs.declared.Map.{Map}
 use Rattle.area.specs.Part.{notes}
@@ -14,7 +15,7 @@ use Rattle.class_maps.specs.Present.{present-held}
 use Rattle.class_maps.specs.Mapped.{Classes, Mapped, Entries, holds-null, classes-kept, entries-ascend}
 use Rattle.class_maps.specs.Covered.{Coverable, Covered}
 use Rattle.class_maps.specs.declared.ClassMap.{ClassMap}
-use Rattle.class_contexts.specs.Same.{Same, kept-same, after-same, part-alike, holds-same, inside-same, present-same}
+use Rattle.class_maps.specs.Same.{Same, kept-same, after-same, part-alike, holds-same, inside-same, present-same}
 use Rattle.class_contexts.specs.Sides.{Glyphs, TableFor, table-is, Asks, Sided, InputLaid}
 use Rattle.class_layouts.specs.declared.NewTable.{NewTable}
 use Rattle.class_layouts.specs.declared.Noted.{Noted}
@@ -22,13 +23,14 @@ use Rattle.class_contexts.specs.declared.Input.{Input}
 
 -- the entries of the new class table are written in the place of the classes
 entered : {s : List ℕ} {at : ℕ} {glyphs t u : List ℕ} {list n : ℕ} {r : ClassMap} → Glyphs glyphs → Classes (classesAt s at) glyphs t list r → Entries glyphs t u list (r .map) n → TableFor glyphs s at u (record { old = at; list = list; len = n })
+unfolding newClasses
 entered {s} {at} {glyphs} {t} {u} {list} {n} g c e = record {
   in-cells = record {
     inside = omega (arith, e .few, c .place, c .direct .inside .within, e .elsewhere .size);
     few = omega (arith, e .few, g .few);
     ascend = entries-ascend e (c .lists) (c .holds) (g .good);
   };
-  is = table-is (mapEntries glyphs) s at u (record { old = at; list = list; len = n }) refl (e .entries (classesAt s at) (c .lists) (c .holds));
+  is = table-is (mapEntries glyphs) s at u (record { old = at; list = list; len = n }) refl (e .entries (classesAt s at) (classMap (mapEntries glyphs) (classesAt s at)) (c .lists) (c .holds));
 }
 
 module _ {s : List ℕ} {at : ℕ} {glyphs : List ℕ} {list : ℕ} (a : Asks s at glyphs list) {t₀ t₁ : List ℕ} {c : ClassMap} (w : Mapped s at glyphs t₀ t₁ list c) where

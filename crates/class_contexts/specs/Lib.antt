@@ -1,4 +1,3 @@
-pub mod Same
 pub mod Sides
 pub mod Meaning
 pub mod Cutting

@@ -13,6 +13,7 @@ use member_sets::PLACES;
 use member_sets::crowded;
 use room::HIGHEST;
 use room::LIMIT;
+use room::LONGEST;
 use room::Laid;
 use rule_sets::Maps;
 use tried::Tried;
@@ -29,9 +30,6 @@ ghost use Rattle.class_layouts.specs.Written.{enoughBytes, NoRoom, Write
 
 // The number of bytes of an area that is enough for any source: where they are too few, an offset or a count of the layout doesn't fit a word.
 pub const BYTES: usize = 5 * LIMIT / 2;
-
-// The most bytes of a class table whose count fits a word.
-const LONGEST: usize = 131076;
 
 // Cells in a row: where the first stands, and how many there are.
 pub struct Noted {

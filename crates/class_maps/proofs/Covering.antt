@@ -15,7 +15,8 @@ use Rattle.meaning.specs.Cut.{insertUp, heldBy}
 use Rattle.laws.specs.Runs.{Up}
 use Rattle.laws.specs.Ascends.{glyphs-ascend}
 use Rattle.laws.specs.SoundGood.{ascends-up}
-use Rattle.laws.specs.ClassesLeft.{entriesFrom, from-all, from-left, from-none, glyph-values, held-up}
+use Rattle.laws.specs.CutCells.{held-up}
+use Rattle.laws.specs.ClassesLeft.{entriesFrom, from-all, from-left, from-none, glyph-values}
 use Rattle.fold.specs.Cells.{Inside, Odd, Holds, Kept, kept-all, kept-more, kept-set}
 use Rattle.fold.specs.Laid.{power-even}
 use Rattle.fold.specs.declared.Map.{Map}

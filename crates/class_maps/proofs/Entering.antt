@@ -9,7 +9,7 @@ use lib.Seq.{getD-set-same, getD-set-other}
 use Rattle.meaning.specs.Words.{word, find, push, mapSome}
 use Rattle.meaning.specs.Parts.{classOf}
 use Rattle.meaning.specs.Maps.{mapEntries}
-use Rattle.meaning.specs.Cut.{classMap, newClasses}
+use Rattle.meaning.specs.Cut.{classesUnder}
 use Rattle.laws.specs.ClassesLeft.{entriesFrom, from-all, from-left, from-none, listed, listed-none, listed-some}
 use Rattle.fold.specs.Cells.{cellOf, cellEntry, answerIn, folded, Inside, Holds, answer-own, answer-other}
 use Rattle.fold.specs.declared.Map.{Map}
@@ -70,19 +70,18 @@ pub record Entering (glyphs t₀ t : List ℕ) (list : ℕ) (m : Map) (k e : ℕ
   pub within : e ≤ length glyphs / 4
   pub near : k ≤ e
   pub elsewhere : Elsewhere list (list + k) t₀ t
-  pub left : (cs : List (ℕ × ℕ)) → Lists cs glyphs t₀ list → Holds t₀ m (classMap (mapEntries glyphs) cs)
-      → notes t list k ++ mapSome (listed (classMap (mapEntries glyphs) cs) cs) (entriesFrom glyphs e) ≡ newClasses (mapEntries glyphs) cs
+  pub left : (cs news : List (ℕ × ℕ)) → Lists cs glyphs t₀ list → Holds t₀ m news → notes t list k ++ mapSome (listed news cs) (entriesFrom glyphs e) ≡ classesUnder news (mapEntries glyphs) cs
 
 module _ {glyphs t₀ : List ℕ} {list : ℕ} {m : Map} where
   pub entering-all : Inside t₀ m × (list + length glyphs / 4 ≤ m .at) → Entering glyphs t₀ t₀ list m 0 0
-  unfolding part newClasses
+  unfolding part
   entering-all h = record {
     inside = h .0;
     place = h .1;
     within = omega arith;
     near = omega arith;
     elsewhere = elsewhere-all;
-    left = λ cs l o. rw (from-all glyphs) refl;
+    left = λ cs news l o. rw (from-all glyphs) refl;
   }
 
   module _ {t : List ℕ} {k e : ℕ} (w : Entering glyphs t₀ t list m k e) (h : e < length glyphs / 4) where
@@ -97,12 +96,11 @@ module _ {glyphs t₀ : List ℕ} {list : ℕ} {m : Map} where
 
     module _ {new : ℕ} (f : (new ≡ Option·getD (folded t m (getD t (list + e) 0)) 0) × (new < 65536)) where
       -- the new class of the entry's glyph
-      is-new : (cs : List (ℕ × ℕ)) → Lists cs glyphs t₀ list → Holds t₀ m (classMap (mapEntries glyphs) cs)
-          → new ≡ Option·getD (find (classMap (mapEntries glyphs) cs) (classOf cs (word glyphs (4 * e)))) 0
-      is-new cs l o =
+      is-new : (cs news : List (ℕ × ℕ)) → Lists cs glyphs t₀ list → Holds t₀ m news → new ≡ Option·getD (find news (classOf cs (word glyphs (4 * e)))) 0
+      is-new cs news l o =
           let c : getD t (list + e) 0 ≡ classOf cs (word glyphs (4 * e)) = w .elsewhere .after (list + e) (omega (arith, w .near)) ∙ l .each e h in
           f .0 ∙ ap (λ (a : Option ℕ). Option·getD a 0) (folded-kept m (getD t (list + e) 0) (w .elsewhere) (omega (arith, w .place, w .near)) ∙ o .answers (getD t (list + e) 0))
-          ∙ ap (λ (x : ℕ). Option·getD (find (classMap (mapEntries glyphs) cs) x) 0) c
+          ∙ ap (λ (x : ℕ). Option·getD (find news x) 0) c
 
       -- the glyph is not listed
       pub entering-none : new ≡ 0 → Entering glyphs t₀ t list m k (e + 1)
@@ -113,7 +111,7 @@ module _ {glyphs t₀ : List ℕ} {list : ℕ} {m : Map} where
         within = omega arith;
         near = omega (arith, w .near);
         elsewhere = w .elsewhere;
-        left = λ cs l o. rw (from-left glyphs e h, listed-none (classMap (mapEntries glyphs) cs) cs (word glyphs (4 * e)) (word glyphs (4 * e + 2)) (sym (is-new cs l o) ∙ z)) at (w .left cs l o);
+        left = λ cs news l o. rw (from-left glyphs e h, listed-none news cs (word glyphs (4 * e)) (word glyphs (4 * e + 2)) (sym (is-new cs news l o) ∙ z)) at (w .left cs news l o);
       }
 
       -- it is
@@ -125,8 +123,8 @@ module _ {glyphs t₀ : List ℕ} {list : ℕ} {m : Map} where
         within = omega arith;
         near = omega (arith, w .near);
         elsewhere = elsewhere-more (elsewhere-wide (omega arith) (omega arith) (w .elsewhere)) (elsewhere-set t (list + k) (y * 65536 + new) (omega arith) (omega arith));
-        left = λ cs l o. notes-more t list k y new (mapSome (listed (classMap (mapEntries glyphs) cs) cs) (entriesFrom glyphs (e + 1))) (f .1) entering-room
-            ∙ rw (from-left glyphs e h, listed-some (classMap (mapEntries glyphs) cs) cs (word glyphs (4 * e)) (word glyphs (4 * e + 2)) (is-new cs l o) z, ← (g .0)) at (w .left cs l o);
+        left = λ cs news l o. notes-more t list k y new (mapSome (listed news cs) (entriesFrom glyphs (e + 1))) (f .1) entering-room
+            ∙ rw (from-left glyphs e h, listed-some news cs (word glyphs (4 * e)) (word glyphs (4 * e + 2)) (is-new cs news l o) z, ← (g .0)) at (w .left cs news l o);
       }
 
   pub entering-end : {t : List ℕ} {k e : ℕ} → Entering glyphs t₀ t list m k e → length glyphs / 4 ≤ e → Entries glyphs t₀ t list m k
@@ -134,5 +132,5 @@ module _ {glyphs t₀ : List ℕ} {list : ℕ} {m : Map} where
   entering-end {t} {k} {e} w h = record {
     few = omega (arith, w .near, w .within);
     elsewhere = elsewhere-wide (omega arith) (omega (arith, w .near, w .within)) (w .elsewhere);
-    entries = λ cs l o. sym (append-nil (notes t list k)) ∙ rw (from-none glyphs e h) at (w .left cs l o);
+    entries = λ cs news l o. sym (append-nil (notes t list k)) ∙ rw (from-none glyphs e h) at (w .left cs news l o);
   }

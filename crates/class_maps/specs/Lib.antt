@@ -3,3 +3,4 @@ pub mod Present
 pub mod Mapped
 pub mod Covered
 pub mod SlotWalk
+pub mod Same

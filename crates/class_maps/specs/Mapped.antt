@@ -8,7 +8,7 @@ use lib.ListN.{length, getD}
 use lib.Dec.{eqb}
 use Rattle.meaning.specs.Words.{ascends, keys, member}
 use Rattle.meaning.specs.Maps.{mapEntries, goodGlyphs}
-use Rattle.meaning.specs.Cut.{heldBy, numbered, classMap, classMap?, newClasses}
+use Rattle.meaning.specs.Cut.{insertUp, heldBy, numbered, classMap, classMap?, classesUnder, newClasses, secondMap}
 use Rattle.laws.specs.ClassesLeft.{glyph-values, new-classes-ascend}
 use Rattle.fold.specs.Cells.{Holds, Kept, holds-kept}
 use Rattle.fold.specs.declared.Map.{Map}
@@ -40,6 +40,21 @@ pub record Ranked (t₀ t : List ℕ) (m : Map) (r : ℕ) : Type 0 where
   pub count : r ≡ length (present t₀ m)
   pub kept : Kept (m .at) t₀ t
 
+-- The classes of the glyphs in the class table that lists cs, and behind them the cells of m, with entries for just these classes.
+pub record Holding (cs : List (ℕ × ℕ)) (glyphs t : List ℕ) (list : ℕ) (m : Map) : Type 0 where
+  pub place : m .at ≡ list + length glyphs / 4
+  pub lists : Lists cs glyphs t list
+  pub low : (j : ℕ) → j < length glyphs / 4 → getD t (list + j) 0 ≤ m .mask
+  pub direct : Direct t m
+  pub classes : present t m ≡ heldBy cs (keys (mapEntries glyphs))
+
+-- What `held_map` answers: these cells, or the mask is 0, since there are too few; cells before `list` are as before.
+pub record Held (src : List ℕ) (at : ℕ) (glyphs t₀ t : List ℕ) (list : ℕ) (m : Map) : Type 0 where
+  pub kept : Kept list t₀ t
+  pub few : m .mask < 65536
+  pub room : list + length glyphs / 4 + 65536 ≤ length t₀ → m .mask ≡ 0 → ⊥
+  pub holding : (m .mask ≡ 0 → ⊥) → Holding (classesAt src at) glyphs t list m
+
 -- The class map of the class table that lists cs: the classes of the glyphs, the map's cells behind them, and how many classes survive.
 pub record Classes (cs : List (ℕ × ℕ)) (glyphs t : List ℕ) (list : ℕ) (r : ClassMap) : Type 0 where
   pub place : r .map .at ≡ list + length glyphs / 4
@@ -56,11 +71,25 @@ pub record Mapped (src : List ℕ) (at : ℕ) (glyphs t₀ t : List ℕ) (list :
   pub room : list + length glyphs / 4 + 65536 ≤ length t₀ → r .map .mask ≡ 0 → ⊥
   pub mapped : (r .map .mask ≡ 0 → ⊥) → Classes (classesAt src at) glyphs t list r
 
--- The r cells from `list` on are the entries of the new class table, if the classes stood there and m is the class map; the cells elsewhere are as before.
+-- The same with class 0 always among the classes, as second classes of pairs are counted.
+pub record PinnedClasses (cs : List (ℕ × ℕ)) (glyphs t : List ℕ) (list : ℕ) (r : ClassMap) : Type 0 where
+  pub place : r .map .at ≡ list + length glyphs / 4
+  pub lists : Lists cs glyphs t list
+  pub direct : Direct t (r .map)
+  pub holds : Holds t (r .map) (secondMap (mapEntries glyphs) cs)
+  pub count : r .count ≡ length (insertUp 0 (heldBy cs (keys (mapEntries glyphs))))
+
+pub record Pinned (src : List ℕ) (at : ℕ) (glyphs t₀ t : List ℕ) (list : ℕ) (r : ClassMap) : Type 0 where
+  pub kept : Kept list t₀ t
+  pub few : r .map .mask < 65536
+  pub room : list + length glyphs / 4 + 65536 ≤ length t₀ → r .map .mask ≡ 0 → ⊥
+  pub mapped : (r .map .mask ≡ 0 → ⊥) → PinnedClasses (classesAt src at) glyphs t list r
+
+-- The r cells from `list` on are the entries of the new class table under the map of classes that m holds, if the classes stood there; the cells elsewhere are as before.
 pub record Entries (glyphs t₀ t : List ℕ) (list : ℕ) (m : Map) (r : ℕ) : Type 0 where
   pub few : r ≤ length glyphs / 4
   pub elsewhere : Elsewhere list (list + length glyphs / 4) t₀ t
-  pub entries : (cs : List (ℕ × ℕ)) → Lists cs glyphs t₀ list → Holds t₀ m (classMap (mapEntries glyphs) cs) → notes t list r ≡ newClasses (mapEntries glyphs) cs
+  pub entries : (cs news : List (ℕ × ℕ)) → Lists cs glyphs t₀ list → Holds t₀ m news → notes t list r ≡ classesUnder news (mapEntries glyphs) cs
 
 -- a class table that may be null has this class map
 pub holds-null : (g : List (ℕ × ℕ)) (src : List ℕ) (at : ℕ) {t : List ℕ} {m : Map} → Holds t m (classMap g (classesAt src at)) → Holds t m (classMap? g (tableAt src at))
@@ -88,4 +117,5 @@ classes-kept {glyphs = glyphs} {t} {u} {list} {r = r} c k h = record {
 -- the entries of the new class table may be written: their glyphs ascend
 pub entries-ascend : {cs : List (ℕ × ℕ)} {glyphs t₀ t : List ℕ} {list : ℕ} {m : Map} {r : ℕ} → Entries glyphs t₀ t list m r → Lists cs glyphs t₀ list
     → Holds t₀ m (classMap (mapEntries glyphs) cs) → goodGlyphs glyphs ≡ true → ascends (keys (notes t list r)) ≡ true
-entries-ascend {cs} {glyphs} e l h g = rw (e .entries cs l h) (new-classes-ascend (mapEntries glyphs) cs (glyph-values glyphs g))
+unfolding newClasses
+entries-ascend {cs} {glyphs} e l h g = rw (e .entries cs (classMap (mapEntries glyphs) cs) l h) (new-classes-ascend (mapEntries glyphs) cs (glyph-values glyphs g))

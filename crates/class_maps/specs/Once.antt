@@ -11,7 +11,7 @@ use Rattle.meaning.specs.Words.{member}
 use Rattle.meaning.specs.Parts.{classOf}
 use Rattle.meaning.specs.Cut.{insertUp, heldBy}
 use Rattle.laws.specs.Runs.{Up}
-use Rattle.laws.specs.ClassesLeft.{insert-up}
+use Rattle.laws.specs.CutCells.{insert-up}
 
 -- the numbers of a list, ascending, each once
 unfoldable pub eachOnce : List ℕ → List ℕ

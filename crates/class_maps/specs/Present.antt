@@ -14,7 +14,7 @@ use borrow.Author.Tests.{eq-eqb, ne-eqb, eqb-true, eqb-false}
 use Rattle.meaning.specs.Words.{find, isSome, member, keys}
 use Rattle.meaning.specs.Cut.{insertUp, heldBy, numbered, classMap}
 use Rattle.laws.specs.Runs.{Up}
-use Rattle.laws.specs.ClassesLeft.{insert-up, held-up}
+use Rattle.laws.specs.CutCells.{insert-up, held-up}
 use Rattle.fold.specs.Cells.{cellOf, answerIn, folded, Inside, Holds, Kept, answer-own, answer-other}
 use Rattle.fold.specs.Laid.{Power, own-cell}
 use Rattle.fold.specs.declared.Map.{Map}

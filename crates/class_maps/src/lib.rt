@@ -9,14 +9,14 @@ ghost use mathlib.Core.Path.{_≡_};
 ghost use mathlib.Core.Bool.{true};
 ghost use mathlib.Core.Option.{Option·getD};
 ghost use Prim.Native.Nat.{_+_, _-_, _/_, _≤_, _<_};
-ghost use lib.ListN.{length};
+ghost use lib.ListN.{length, set};
 ghost use Rattle.meaning.specs.Words.{ascends, keys};
 ghost use Rattle.meaning.specs.Maps.{mapEntries};
 ghost use Rattle.fold.specs.Cells.{Inside, folded};
 ghost use Rattle.area.specs.Part.{part, news};
 ghost use Rattle.class_lists.specs.Tables.{NullOrSound};
 ghost use Rattle.class_maps.specs.Present.{Direct};
-ghost use Rattle.class_maps.specs.Mapped.{ToMark, Marked, Ranked, Mapped, Entries};
+ghost use Rattle.class_maps.specs.Mapped.{ToMark, Marked, Ranked, Held, Mapped, Pinned, Entries};
 ghost use Rattle.class_maps.specs.Covered.{firstIs, ToCover, Coverable, Met, Covered};
 
 // The cells of a class map, and how many classes survive.
@@ -58,19 +58,16 @@ fn rank(t: &mut [u32], m: Map) -> usize
 }
 
 // What is answered where there are too few cells.
-fn no_map(list: usize) -> ClassMap
-    ensures { λ r. ⌜ r .map .mask ≡ 0 ⌝ }
+fn no_map(list: usize) -> Map
+    ensures { λ r. ⌜ r .mask ≡ 0 ⌝ }
 {
-    ClassMap {
-        map: Map { at: list, mask: 0 },
-        count: 0,
-    }
+    Map { at: list, mask: 0 }
 }
 
-// The class map of the class table at `at`, which may be null, at 0. The classes of the retained glyphs stand from `list` on, one for each entry of the glyph map, and the map's cells follow them. The mask is 0 where there are too few cells.
-pub fn class_map(src: &[u8], at: usize, glyphs: &[u8], t: &mut [u32], list: usize) -> ClassMap
+// The classes of the retained glyphs in the class table at `at`, which may be null, at 0: they stand from `list` on, one for each entry of the glyph map, and cells with an entry for each of them follow. The mask is 0 where there are too few cells.
+fn held_map(src: &[u8], at: usize, glyphs: &[u8], t: &mut [u32], list: usize) -> Map
     requires { ⌜ NullOrSound (now src) at × (ascends (keys (mapEntries (now glyphs))) ≡ true) × (list < 0x1_0000_0000_0000) ⌝ }
-    ensures { λ r. ⌜ Mapped (now (src .entry)) at (now (glyphs .entry)) (now (t .entry)) (now (t .exit)) list r ⌝ }
+    ensures { λ r. ⌜ Held (now (src .entry)) at (now (glyphs .entry)) (now (t .entry)) (now (t .exit)) list r ⌝ }
 {
     let g = glyphs.len() / 4;
     if t.len() < list + g {
@@ -86,6 +83,41 @@ pub fn class_map(src: &[u8], at: usize, glyphs: &[u8], t: &mut [u32], list: usiz
     }
     clear(t, m);
     mark_held(t, list, g, m);
+    m
+}
+
+// The class map of the class table at `at`, which may be null, at 0. The classes of the retained glyphs stand from `list` on, one for each entry of the glyph map, and the map's cells follow them. The mask is 0 where there are too few cells.
+pub fn class_map(src: &[u8], at: usize, glyphs: &[u8], t: &mut [u32], list: usize) -> ClassMap
+    requires { ⌜ NullOrSound (now src) at × (ascends (keys (mapEntries (now glyphs))) ≡ true) × (list < 0x1_0000_0000_0000) ⌝ }
+    ensures { λ r. ⌜ Mapped (now (src .entry)) at (now (glyphs .entry)) (now (t .entry)) (now (t .exit)) list r ⌝ }
+{
+    let m = held_map(src, at, glyphs, t, list);
+    if m.mask == 0 {
+        return ClassMap { map: m, count: 0 };
+    }
+    let count = rank(t, m);
+    ClassMap { map: m, count }
+}
+
+// An entry for class 0.
+fn mark_zero(t: &mut [u32], m: Map)
+    requires { ⌜ Direct (now t) m ⌝ }
+    ensures { λ _. ⌜ now (t .exit) ≡ set (now (t .entry)) (m .at) 0 ⌝ }
+{
+    let at = m.at;
+    t[at] = 0;
+}
+
+// The same map with class 0 always among the classes, as second classes of pairs are counted.
+pub fn pinned_map(src: &[u8], at: usize, glyphs: &[u8], t: &mut [u32], list: usize) -> ClassMap
+    requires { ⌜ NullOrSound (now src) at × (ascends (keys (mapEntries (now glyphs))) ≡ true) × (list < 0x1_0000_0000_0000) ⌝ }
+    ensures { λ r. ⌜ Pinned (now (src .entry)) at (now (glyphs .entry)) (now (t .entry)) (now (t .exit)) list r ⌝ }
+{
+    let m = held_map(src, at, glyphs, t, list);
+    if m.mask == 0 {
+        return ClassMap { map: m, count: 0 };
+    }
+    mark_zero(t, m);
     let count = rank(t, m);
     ClassMap { map: m, count }
 }

@@ -1,7 +1,7 @@
 -- What a source asks and says, by its kind and its format.
 use Prim.Native.Nat.{ℕ, _≤_, _<_}
-use mathlib.Core.Path.{_≡_, refl, sym, ap, _∙_}
-use mathlib.Core.Bool.{Bool, true, false, cond, true≢false}
+use mathlib.Core.Path.{_≡_, refl, sym, ap, _∙_, subst}
+use mathlib.Core.Bool.{Bool, true, false, cond, not, true≢false}
 use mathlib.Core.Option.{Option, none}
 use mathlib.Core.List.{List, []}
 use native.Mathlib.Omega.{arith}
@@ -10,23 +10,25 @@ use lib.Dec.{eqb}
 use borrow.Author.Tests.{ne-eqb, eq-eqb, le-leb}
 use Rattle.meaning.specs.Words.{word, inside, isSome, keys, values, ascends}
 use Rattle.meaning.specs.Maps.{mapEntries}
-use Rattle.meaning.specs.Tables.{Table, classContext, coverContext, context, single, table}
-use Rattle.meaning.specs.Fault.{headerFault, enough, fault}
+use Rattle.meaning.specs.Parts.{coverage, classes}
+use Rattle.meaning.specs.Tables.{Table, fieldCount, reach, reaches, pairSet, cellRows, pairTable, classContext, coverContext, context, single, table}
+use Rattle.meaning.specs.Fault.{headerFault, enough, pairFault, fault}
 use Rattle.meaning.specs.Cut.{cut}
 use Rattle.meaning.specs.Subset.{limit, written}
 use Rattle.laws.specs.Ascends.{glyphs-ascend, lookups-ascend}
 use Rattle.laws.specs.ClassesLeft.{glyph-values}
-use Rattle.checks.proofs.Laws.{context-1, context-3, source-short, source-plain, source-chained, source-ligatures, source-pairs, source-singles}
+use Rattle.checks.proofs.Laws.{context-1, context-3, pairs-1, source-short, source-plain, source-chained, source-ligatures, source-pairs, source-singles}
 use Rattle.kept_sets.specs.Sorts.{setFaultOf}
 use Rattle.kept_sets.specs.declared.Sort.the-variants.{Rules, Ligatures}
 use Rattle.tried.specs.Tries.{Tries, tries-less}
 use Rattle.tried.specs.declared.Tried.{Tried}
 use Rattle.by_glyph.specs.Whole.{glyphContext, ligatureTable}
-use Rattle.by_glyph.specs.PairTables.{pairFault, pairTable}
+use Rattle.by_glyph.specs.PairTables as glyphPairs
+use Rattle.pair_classes.specs.Cutting as classPairs
 use Rattle.covers.specs.Cutting as covers
 use Rattle.single_subst.specs.Whole as singles
 use Rattle.class_contexts.specs.Cutting as classes
-use Rattle.cut.specs.Cutting.{Sound, SoundContext, enoughBytes, classCells, otherCells, byClasses, contextCells, cellsFor}
+use Rattle.cut.specs.Cutting.{Sound, SoundContext, SoundPairs, enoughBytes, classCells, otherCells, byClasses, contextCells, pairCells, cellsFor}
 
 -- the cells that are enough for a context
 module _ (s : List ℕ) where
@@ -47,6 +49,14 @@ module _ (kind : ℕ) (s : List ℕ) where
   context-few : kind ≤ 2 → (n : ℕ) → n < contextCells s → n < cellsFor kind s
   unfolding contextCells cellsFor byClasses
   context-few k n h = rw (le-leb kind 2 k) h
+
+  pair-few : kind ≡ 4 → (n : ℕ) → n < pairCells s → n < cellsFor kind s
+  unfolding pairCells cellsFor byClasses
+  pair-few k n h = rw k (step (eqb (word s 0) 1) h)
+    where
+      step : (b : Bool) → n < cond b otherCells classCells → n < cond (not b) classCells otherCells
+      step true h = h
+      step false h = h
 
   source-few : (n : ℕ) → n < otherCells → n < cellsFor kind s
   unfolding cellsFor
@@ -102,6 +112,55 @@ sound-inside kind s h = step (inside s 0 2) refl
     step true e = e
     step false e = absurd (true≢false (ap isSome (sym (source-short kind s e) ∙ h)))
 
+-- A pair table by its format.
+module _ (s : List ℕ) {format : ℕ} (e : format ≡ word s 0) where
+  module _ {g : List ℕ} (a : SoundPairs s g) where
+    pub asks-glyph-pairs : format ≡ 1 → (glyphPairs.pairFault s ≡ none) × (length s ≤ limit) × (ascends (keys (mapEntries g)) ≡ true) × (ascends (values (mapEntries g)) ≡ true)
+    asks-glyph-pairs f = (sym (pairs-1 s e f) ∙ sym (source-pairs 4 s (sound-inside 4 s (a .sound)) refl) ∙ a .sound, a .source, glyphs-ascend g (a .glyphs-good), glyph-values g (a .glyphs-good))
+
+    pub asks-class-pairs : (format ≡ 1 → ⊥) → classPairs.Sound s g
+    asks-class-pairs f = record { sound = a .sound; format = λ z. f (e ∙ z); glyphs-good = a .glyphs-good }
+
+  says-glyph-pairs : format ≡ 1 → glyphPairs.pairTable s ≡ pairTable s
+  unfolding pairTable
+  says-glyph-pairs f = rw (← e, f)
+
+  glyph-few : (n : ℕ) → n < otherCells → n < pairCells s
+  unfolding pairCells
+  glyph-few n h = step (eqb (word s 0) 1)
+    where
+      step : (b : Bool) → n < cond b otherCells classCells
+      step true = h
+      step false = omega arith
+
+  class-pairs-few : (format ≡ 1 → ⊥) → (n : ℕ) → n < classPairs.enoughCells → n < pairCells s
+  unfolding pairCells
+  class-pairs-few f n h = rw (← e, ne-eqb format 1 f) (omega arith)
+
+  -- what each format's cut answers is what a pair table's cut answers
+  module _ (g : List (ℕ × ℕ)) (n b : ℕ) (r : Tried) (out after : List ℕ) where
+    pub tries-glyph-pairs : format ≡ 1 → Tries (n < otherCells) (b < enoughBytes) r out after (written out (cut g [] (glyphPairs.pairTable s))) → Tries (n < pairCells s) (b < enoughBytes) r out after (written out (cut g [] (pairTable s)))
+    tries-glyph-pairs f h = tries-less (n < otherCells) (b < enoughBytes) (n < pairCells s) (b < enoughBytes) r out after (written out (cut g [] (pairTable s))) (glyph-few n) (λ x. x) (rw (says-glyph-pairs f) at h)
+
+    pub tries-class-pairs : (format ≡ 1 → ⊥) → Tries (n < classPairs.enoughCells) (b < limit) r out after (written out (cut g [] (pairTable s))) → Tries (n < pairCells s) (b < enoughBytes) r out after (written out (cut g [] (pairTable s)))
+    unfolding limit
+    tries-class-pairs f h = tries-less (n < classPairs.enoughCells) (b < limit) (n < pairCells s) (b < enoughBytes) r out after (written out (cut g [] (pairTable s))) (class-pairs-few f n) (λ x. omega arith) h
+
+-- lookups have no say in what is left of a pair table
+pair-lookups : (g l : List (ℕ × ℕ)) (s : List ℕ) → cut g l (pairTable s) ≡ cut g [] (pairTable s)
+unfolding cut pairTable
+pair-lookups g l s = step (eqb (word s 0) 1)
+  where
+    glyph-table : Table
+    glyph-table = Table.pairs-of (reach (coverage s) s 0 2) (word s 4) (word s 6) (reaches (pairSet (fieldCount (word s 4)) (fieldCount (word s 6)) s) s 0 10 (word s 8))
+
+    class-table : Table
+    class-table = Table.class-pairs (reach (coverage s) s 0 2) (reach (classes s) s 0 8) (reach (classes s) s 0 10) (word s 4) (word s 6) (word s 14) (cellRows s (fieldCount (word s 4)) (fieldCount (word s 6)) (word s 14) 16 (word s 12))
+
+    step : (t : Bool) → cut g l (cond t glyph-table class-table) ≡ cut g [] (cond t glyph-table class-table)
+    step true = refl
+    step false = refl
+
 -- A source by its kind.
 module _ (kind : ℕ) (s : List ℕ) where
   module _ {g l : List ℕ} (a : Sound kind s g l) where
@@ -118,8 +177,8 @@ module _ (kind : ℕ) (s : List ℕ) where
     unfolding setFaultOf
     asks-ligatures e = (sym (source-ligatures kind s starts e) ∙ a .sound, a .source, glyphs-ascend g (a .glyphs-good), glyph-values g (a .glyphs-good))
 
-    pub asks-pairs : kind ≡ 4 → (pairFault s ≡ none) × (length s ≤ limit) × (ascends (keys (mapEntries g)) ≡ true) × (ascends (values (mapEntries g)) ≡ true)
-    asks-pairs e = (sym (source-pairs kind s starts e) ∙ a .sound, a .source, glyphs-ascend g (a .glyphs-good), glyph-values g (a .glyphs-good))
+    pub asks-pairs : kind ≡ 4 → SoundPairs s g
+    asks-pairs e = record { sound = subst (λ (k : ℕ). fault k s ≡ none) e (a .sound); source = a .source; glyphs-good = a .glyphs-good }
 
     pub asks-singles : (kind ≡ 1 → ⊥) → (kind ≡ 2 → ⊥) → (kind ≡ 3 → ⊥) → (kind ≡ 4 → ⊥) → singles.Sound s g
     asks-singles x y z w = record { sound = sym (source-singles kind s starts x y z w) ∙ a .sound; source = a .source; glyphs-ascend = glyphs-ascend g (a .glyphs-good); new-ascend = glyph-values g (a .glyphs-good) }
@@ -137,9 +196,12 @@ module _ (kind : ℕ) (s : List ℕ) where
   unfolding table cut
   says-ligatures g l e = rw e
 
+  pair-is : kind ≡ 4 → pairTable s ≡ table kind s
+  unfolding table
+  pair-is e = rw e
+
   says-pairs : (g l : List (ℕ × ℕ)) → kind ≡ 4 → cut g [] (pairTable s) ≡ cut g l (table kind s)
-  unfolding table cut
-  says-pairs g l e = rw e
+  says-pairs g l e = sym (pair-lookups g l s) ∙ ap (cut g l) (pair-is e)
 
   single-is : (kind ≡ 1 → ⊥) → (kind ≡ 2 → ⊥) → (kind ≡ 3 → ⊥) → (kind ≡ 4 → ⊥) → single s ≡ table kind s
   unfolding table
@@ -165,8 +227,8 @@ module _ (kind : ℕ) (s : List ℕ) where
     pub tries-ligatures : kind ≡ 3 → Tries (n < otherCells) (b < enoughBytes) r out after (written out (cut g [] (ligatureTable s))) → Cut
     tries-ligatures e h = tries-other (says-ligatures g l e) h
 
-    pub tries-pairs : kind ≡ 4 → Tries (n < otherCells) (b < enoughBytes) r out after (written out (cut g [] (pairTable s))) → Cut
-    tries-pairs e h = tries-other (says-pairs g l e) h
+    pub tries-pairs : kind ≡ 4 → Tries (n < pairCells s) (b < enoughBytes) r out after (written out (cut g [] (pairTable s))) → Cut
+    tries-pairs e h = tries-less (n < pairCells s) (b < enoughBytes) (n < cellsFor kind s) (b < enoughBytes) r out after (written out (cut g l (table kind s))) (pair-few kind s e n) (λ x. x) (rw (says-pairs g l e) at h)
 
     pub tries-singles : (kind ≡ 1 → ⊥) → (kind ≡ 2 → ⊥) → (kind ≡ 3 → ⊥) → (kind ≡ 4 → ⊥) → Tries (n < singles.enoughCells) (b < limit) r out after (written out (cut g [] (single s))) → Cut
     unfolding limit

@@ -1,7 +1,7 @@
 -- What a cut asks and answers, by the kind and the format of its source.
 use Prim.Native.Nat.{ℕ, _≤_, _<_}
 use mathlib.Core.Path.{_≡_}
-use mathlib.Core.Bool.{Bool, true, cond, _&&_}
+use mathlib.Core.Bool.{Bool, true, cond, _&&_, not}
 use mathlib.Core.Option.{none}
 use mathlib.Core.List.{List}
 use lib.ListN.{length}
@@ -29,24 +29,33 @@ pub record SoundContext (chained : Bool) (s glyphs lookups : List ℕ) : Type 0 
   pub glyphs-good : goodGlyphs glyphs ≡ true
   pub lookups-good : goodLookups lookups ≡ true
 
+-- and of a pair table
+pub record SoundPairs (s glyphs : List ℕ) : Type 0 where
+  pub sound : fault 4 s ≡ none
+  pub source : length s ≤ limit
+  pub glyphs-good : goodGlyphs glyphs ≡ true
+
 -- the bytes of an area that are enough for any source
 abbrev pub enoughBytes : ℕ
 enoughBytes = 655360
 
--- the cells that are enough for a context by classes, and those that are for any other source
+-- the cells that are enough for a context or a pair table by classes, and those that are for any other source
 abbrev pub classCells : ℕ
 classCells = classes.enoughCells
 
 abbrev pub otherCells : ℕ
 otherCells = covers.enoughCells
 
--- a source of this kind is a context by classes
+-- a source of this kind is a context or a pair table by classes
 unfoldable pub byClasses : ℕ → List ℕ → Bool
-byClasses kind s = leb kind 2 && eqb (word s 0) 2
+byClasses kind s = cond (leb kind 2) (eqb (word s 0) 2) (eqb kind 4 && not (eqb (word s 0) 1))
 
--- the cells that are enough for a context, by its format, and for a source, by its kind
+-- the cells that are enough for a context and for a pair table, by its format, and for a source, by its kind
 unfoldable pub contextCells : List ℕ → ℕ
 contextCells s = cond (eqb (word s 0) 2) classCells otherCells
+
+unfoldable pub pairCells : List ℕ → ℕ
+pairCells s = cond (eqb (word s 0) 1) otherCells classCells
 
 unfoldable pub cellsFor : ℕ → List ℕ → ℕ
 cellsFor kind s = cond (byClasses kind s) classCells otherCells

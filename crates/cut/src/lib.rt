@@ -5,6 +5,7 @@ use by_glyph::pairs;
 use class_contexts::by_class;
 use covers::by_cover;
 use fold::cells;
+use pair_classes::class_pairs;
 use room::LIMIT;
 use room::Laid;
 use single_subst::singles;
@@ -12,22 +13,23 @@ use tried::Tried;
 use wire::word_at;
 ghost use mathlib.Core.Path.{_≡_};
 ghost use mathlib.Core.Bool.{false};
+ghost use mathlib.Core.List.{[]};
 ghost use Prim.Native.Nat.{_≤_, _<_};
 ghost use lib.ListN.{length};
 ghost use Rattle.meaning.specs.Maps.{mapEntries};
-ghost use Rattle.meaning.specs.Tables.{context, table};
+ghost use Rattle.meaning.specs.Tables.{context, pairTable, table};
 ghost use Rattle.meaning.specs.Cut.{cut};
 ghost use Rattle.meaning.specs.Subset.{limit, written};
 ghost use Rattle.room.specs.Laid.{outcomeOf};
 ghost use Rattle.tried.specs.Tries.{Tries};
-ghost use Rattle.cut.specs.Cutting.{SoundContext, Sound, contextCells, cellsFor, enoughBytes, byClasses, UnlessShort, NeverShort};
+ghost use Rattle.cut.specs.Cutting.{SoundContext, SoundPairs, Sound, contextCells, pairCells, cellsFor, enoughBytes, byClasses, UnlessShort, NeverShort};
 
 // The cells and the bytes that are enough for any source.
 pub const CELLS: usize = class_contexts::CELLS;
 
 pub const BYTES: usize = 5 * LIMIT / 2;
 
-// The cells that are enough for any source but a context by classes.
+// The cells that are enough for any source but one by classes.
 const CELLS_BUT_CLASSES: usize = covers::CELLS;
 
 // Scratch of our own comes in sizes that are enough for most sources, so that little is cleared for a small job.
@@ -68,6 +70,18 @@ fn context_in(
     }
 }
 
+// What is left of a sound pair table, by its format.
+fn pairs_in(src: &[u8], glyphs: &[u8], t: &mut [u32], area: &mut [u8], out: &mut [u8]) -> Tried
+    requires { ⌜ SoundPairs (now src) (now glyphs) ⌝ }
+    ensures { λ r. ⌜ Tries (length (now (t .entry)) < pairCells (now (src .entry))) (length (now (area .entry)) < enoughBytes) r (now (out .entry)) (now (out .exit)) (written (now (out .entry)) (cut (mapEntries (now (glyphs .entry))) [] (pairTable (now (src .entry))))) ⌝ }
+{
+    let format = word_at(src, 0);
+    match format {
+        1 => pairs(src, glyphs, t, area, out),
+        _ => class_pairs(src, glyphs, t, area, out),
+    }
+}
+
 // What is left of a sound source of this kind under a glyph map and a lookup map, handed over if there is room, with lent scratch whose content is arbitrary: 1 context, 2 chained, 3 ligature, 4 pair, and single substitution for any other.
 // Where the scratch is too short the buffer is untouched; with `CELLS` cells and `BYTES` bytes it never is.
 pub fn cut_in(
@@ -86,7 +100,7 @@ pub fn cut_in(
         1 => context_in(false, src, glyphs, lookups, t, area, out),
         2 => context_in(true, src, glyphs, lookups, t, area, out),
         3 => ligatures(src, glyphs, t, area, out),
-        4 => pairs(src, glyphs, t, area, out),
+        4 => pairs_in(src, glyphs, t, area, out),
         _ => singles(src, glyphs, t, area, out),
     }
 }
@@ -162,7 +176,7 @@ fn in_much(
     cut_in(kind, src, glyphs, lookups, &mut t, &mut area, out)
 }
 
-// The same with scratch that is enough for any source but a context by classes.
+// The same with scratch that is enough for any source but one by classes.
 fn in_all_but_classes(
     kind: usize,
     src: &[u8],
@@ -202,14 +216,18 @@ fn in_all(
     cut_in(kind, src, glyphs, lookups, &mut t, &mut area, out)
 }
 
-// Whether a source of this kind is a context by classes.
+// Whether a source of this kind is a context or a pair table by classes.
 fn by_classes(kind: usize, src: &[u8]) -> bool
     ensures { λ r. ⌜ r ≡ byClasses kind (now (src .entry)) ⌝ }
 {
-    if 2 < kind {
+    let format = word_at(src, 0);
+    if kind <= 2 {
+        return format == 2;
+    }
+    if kind != 4 {
         return false;
     }
-    word_at(src, 0) == 2
+    format != 1
 }
 
 // With scratch that is enough for any source of this kind and format.

@@ -5,14 +5,14 @@ use mathlib.Core.Bool.{cond}
 use mathlib.Core.List.{List, []}
 use Rattle.meaning.specs.Words.{keys}
 use Rattle.meaning.specs.Tables.{Table, fieldCount, deltaPairs, listPairs}
-use Rattle.meaning.specs.Cut.{RuleMaps, cutSet, keptSets, heldBy, classMap, classMap?, newClasses?, newCoverage, retained, slots, trim, coversLeft, cutLigatures, cutPairs, cut}
+use Rattle.meaning.specs.Cut.{RuleMaps, cutSet, keptSets, heldBy, classMap, classMap?, newClasses?, newCoverage, retained, slots, trim, coversLeft, cutLigatures, cutPairs, coveredMap, keptClassPairs, cut}
 use Rattle.laws.specs.Stands.{All}
 use Rattle.laws.specs.PartsBack.{Glyphs, Classes}
 use Rattle.laws.specs.Through.{Opt}
 use Rattle.laws.specs.SetsBack.{GoodRule, GoodLigature, GoodPairs}
 use Rattle.laws.specs.ReadsBack.{Good, kindOf}
 use Rattle.laws.specs.CutGood.{Values, GoodMap, GoodMaps, GoodOf, opt-bind, cut-records, cut-set, cut-ligatures, kept-sets, cut-pairs, new-words, newCoverage-glyphs, covers-left, class-values, class-values?, new-classes?, slots-all, trim-all, by-glyph-good, ligatures-good, pairs-good, by-class-good, no-classes}
-use Rattle.laws.specs.CutCells.{singles-good, delta-up, list-up}
+use Rattle.laws.specs.CutCells.{singles-good, delta-up, list-up, class-pairs-good}
 
 -- what is cut from a good table, if anything is left, is a good table of the same kind
 pub cut-good : (g l : List (ℕ × ℕ)) → GoodMap g → Values l → (t : Table) → Good t → Opt (GoodOf (kindOf t)) (cut g l t)
@@ -49,6 +49,7 @@ cut-good g l m v (Table.ligatures cover sets) k =
 cut-good g l m v (Table.pairs-of cover f1 f2 sets) k =
     opt-bind Glyphs (GoodOf 4) cover _ (k .0) (λ cov c.
     pairs-good (fieldCount f1) (fieldCount f2) f1 f2 (keptSets (cutPairs g) g cov sets) (kept-sets g m (GoodPairs (fieldCount f1) (fieldCount f2)) (cutPairs g) (cut-pairs g m (fieldCount f1) (fieldCount f2)) cov sets c (k .3)))
+cut-good g l m v (Table.class-pairs cover first second f1 f2 n rows) k = class-pairs-good g m cover first second f1 f2 n rows k
 cut-good g l m v (Table.single-delta cover d) k =
     opt-bind Glyphs (GoodOf 5) cover _ (k .0) (λ cov c. singles-good g m (deltaPairs cov d) (delta-up cov d (c .0)))
 cut-good g l m v (Table.single-list cover subs) k =

@@ -10,12 +10,13 @@ use lib.Dec.{leb, ltb, eqb}
 use borrow.Author.Tests.{leb-true, leb-false, lt-ltb, eqb-true, eqb-false}
 use Rattle.meaning.specs.Words.{every, keys, twos, threes, flat}
 use Rattle.meaning.specs.Tables.{Rule, Ligature, Pair, Table, fieldCount}
-use Rattle.meaning.specs.Layout.{offsets, blocks, block, join, runs, indexed, coverageWords, spread, classWords, setsLayout, coversLayout, coverLayout, tableWords, wordsFit}
+use Rattle.meaning.specs.Layout.{offsets, blocks, block, join, runs, indexed, coverageWords, spread, classWords, cellWords, rowWords, setsLayout, coversLayout, cellsLayout, coverLayout, tableWords, wordsFit}
 use Rattle.laws.specs.Stands.{wordEnd, All, all-map, all-append, all-front, all-back, Word, flat-length, twos-length, threes-length}
 use Rattle.laws.specs.Runs.{Up, Words3, both, runs-apart, runs-all, indexed-length, indexed-words}
 use Rattle.laws.specs.PartsBack.{Glyphs, Classes, Classed, coverage-words, classes-words, keys-of, words-of, threes-words, spread-ends, spread-words}
 use Rattle.laws.specs.Through.{Kind, Back, Opt, all-opt, opt-map, parts-small, offsets-length, offsets-append, blocks-append}
 use Rattle.laws.specs.SetsBack.{Words2, GoodRule, GoodLigature, GoodPairs, coverKind, classKind, pairSetKind, cover-back, class-back, pair-set-back, twos-small}
+use Rattle.laws.specs.CellsBack.{CellsFrom, GoodRow}
 use Rattle.laws.specs.ReadsBack.{Good, ruleSetKind, ligatureSetKind, rule-set-back, ligature-set-back}
 
 -- words that fit, as a fact and as a test
@@ -309,6 +310,36 @@ module _ (b i a : List (Option (List ℕ))) (rs : List (ℕ × ℕ)) (gb : All (
         ),
       )
 
+-- pairs by class
+cells-words : (a b c : ℕ) (row : List Pair) → CellsFrom a b c row → All Word (cellWords row)
+unfolding cellWords
+cells-words a b c [] k = tt
+cells-words a b c (p ∷ r) k =
+    all-append Word (p .first-values) (p .second-values ++ cellWords r) (k .1 .first-values) (all-append Word (p .second-values) (cellWords r) (k .1 .second-values) (cells-words a b (c + 1) r (k .2)))
+
+pub rows-words : (a b n : ℕ) (rows : List (List Pair)) → All (GoodRow a b n) rows → All Word (rowWords rows)
+unfolding rowWords
+rows-words a b n [] k = tt
+rows-words a b n (row ∷ r) k = all-append Word (cellWords row) (rowWords r) (cells-words a b 0 row (k .0 .0)) (rows-words a b n r (k .1))
+
+module _ (cover : Option (List ℕ)) (cs : List (Option (List (ℕ × ℕ)))) (formats more : List ℕ) where
+  abbrev ch : List (Option (List ℕ))
+  ch = block coverageWords cover ∷ []
+
+  abbrev ct : List (Option (List ℕ))
+  ct = map (block classWords) cs
+
+  abbrev start : ℕ
+  start = 2 + 2 * length ch + 2 * length formats + 2 * length ct + 2 * length more
+
+  -- each word fits, if the offsets and the header's further words do, and no class table is too long
+  pub cells-fit : All Word formats → All Word more → Opt Glyphs cover → All (Opt Classes) cs → All Word (offsets start ch) → All Word (offsets (start + 2 * length (blocks ch)) ct) → All (Opt Short) cs → All Word (cellsLayout ch formats ct more)
+  unfolding cellsLayout
+  cells-fit f m g k oh ot short =
+      let o2 = offsets (start + 2 * length (blocks ch)) ct in
+      let t = more ++ (blocks ch ++ blocks ct) in
+      (omega arith, all-append Word (offsets start ch) (formats ++ (o2 ++ t)) oh (all-append Word formats (o2 ++ t) f (all-append Word o2 t ot (all-append Word more (blocks ch ++ blocks ct) m (all-append Word (blocks ch) (blocks ct) (covers-words (cover ∷ []) (g, tt)) (tables-words cs k short))))))
+
 -- single substitutions
 pub single-fit : (format : ℕ) (cover : Option (List ℕ)) (more : List ℕ) → Word format → All Word more → Opt Glyphs cover
     → All Word (offsets (2 + 2 * length (block coverageWords cover ∷ []) + 2 * length more) (block coverageWords cover ∷ [])) → All Word (coverLayout format (block coverageWords cover ∷ []) more)
@@ -329,6 +360,19 @@ unfolding block
 cover-some none g = tt
 cover-some (some gs) g = coverage-words gs g .0
 
+tables-some : (cs : List (Option (List (ℕ × ℕ)))) → All (Opt Classes) cs → All (Opt (λ b. 0 < length b)) (map (block classWords) cs)
+unfolding block
+tables-some [] k = tt
+tables-some (none ∷ cs) k = (tt, tables-some cs (k .1))
+tables-some (some es ∷ cs) k = (classes-words es (k .0) .0, tables-some cs (k .1))
+
+-- class tables among blocks that end by 65,536 are not too long
+tables-short : (n : ℕ) (cs : List (Option (List (ℕ × ℕ)))) → n + 2 * length (blocks (map (block classWords) cs)) ≤ wordEnd → All (Opt Short) cs
+unfolding block blocks
+tables-short n [] l = tt
+tables-short n (none ∷ cs) l = (tt, tables-short n cs l)
+tables-short n (some es ∷ cs) l = let e = length-append (classWords es) (blocks (map (block classWords) cs)) in (omega arith, tables-short n cs (omega arith))
+
 cover-length : (format : ℕ) (h : List (Option (List ℕ))) (more : List ℕ) → length (coverLayout format h more) ≡ 1 + length h + length more + length (blocks h)
 unfolding coverLayout
 cover-length format h more =
@@ -342,6 +386,29 @@ single-small format cover more f m g l =
 
 subs-few : (format : ℕ) (cover : Option (List ℕ)) (subs : List ℕ) → 2 * length (coverLayout format (block coverageWords cover ∷ []) (length subs ∷ subs)) ≤ wordEnd → Word (length subs)
 subs-few format cover subs l = omega (arith, cover-length format (block coverageWords cover ∷ []) (length subs ∷ subs))
+
+cells-length : (ch : List (Option (List ℕ))) (formats : List ℕ) (ct : List (Option (List ℕ))) (more : List ℕ) → length (cellsLayout ch formats ct more) ≡ 1 + length ch + length formats + length ct + length more + length (blocks ch) + length (blocks ct)
+unfolding cellsLayout
+cells-length ch formats ct more =
+    let s = 4 + 2 * length formats + 2 * length ct + 2 * length more in
+    let o1 = offsets s ch in
+    let o2 = offsets (s + 2 * length (blocks ch)) ct in
+    let t = more ++ (blocks ch ++ blocks ct) in
+    omega (arith, length-append o1 (formats ++ (o2 ++ t)), length-append formats (o2 ++ t), length-append o2 t, length-append more (blocks ch ++ blocks ct), length-append (blocks ch) (blocks ct), offsets-length s ch, offsets-length (s + 2 * length (blocks ch)) ct)
+
+class-pairs-small : (cover : Option (List ℕ)) (first second : Option (List (ℕ × ℕ))) (f1 f2 n : ℕ) (rows : List (List Pair)) → Good (Table.class-pairs cover first second f1 f2 n rows)
+    → 2 * length (tableWords (Table.class-pairs cover first second f1 f2 n rows)) ≤ wordEnd → All Word (tableWords (Table.class-pairs cover first second f1 f2 n rows))
+unfolding tableWords
+class-pairs-small cover first second f1 f2 n rows g l =
+    let ch = block coverageWords cover ∷ [] in
+    let cs = first ∷ second ∷ [] in
+    let ct = map (block classWords) cs in
+    let more = length rows ∷ n ∷ rowWords rows in
+    let s = 2 + 2 * length ch + 2 * 2 + 2 * length ct + 2 * length more in
+    let e = cells-length ch (f1 ∷ f2 ∷ []) ct more in
+    let k : All (Opt Classes) cs = (g .1, (g .2, tt)) in
+    cells-fit cover cs (f1 ∷ f2 ∷ []) more (omega (arith, g .3), (omega (arith, g .4), tt)) (g .8, (g .7, rows-words (fieldCount f1) (fieldCount f2) n rows (g .5))) (g .0) k
+    (offsets-fit s ch (cover-some cover (g .0), tt) (omega arith)) (offsets-fit (s + 2 * length (blocks ch)) ct (tables-some cs k) (omega arith)) (tables-short (s + 2 * length (blocks ch)) cs (omega arith))
 
 -- Each word of the plain layout of a good table fits, offsets and counts too, if the layout is at most 65,536 bytes.
 pub words-small : (t : Table) → Good t → 2 * length (tableWords t) ≤ wordEnd → All Word (tableWords t)
@@ -358,5 +425,6 @@ words-small (Table.pairs-of cover f1 f2 sets) g l =
     let a = fieldCount f1 in
     let b = fieldCount f2 in
     by-sets-small (pairSetKind a b) 1 cover [] (f1 ∷ f2 ∷ []) sets [] (omega arith) (omega (arith, g .1), (omega (arith, g .2), tt)) (g .0) tt (all-opt (GoodPairs a b) (Back (pairSetKind a b) []) (pair-set-back a b []) sets (g .3)) l
+words-small (Table.class-pairs cover first second f1 f2 n rows) g l = class-pairs-small cover first second f1 f2 n rows g l
 words-small (Table.single-delta cover d) g l = single-small 1 cover (d ∷ []) (omega arith) (g .1, tt) (g .0) l
 words-small (Table.single-list cover subs) g l = single-small 2 cover (length subs ∷ subs) (omega arith) (subs-few 2 cover subs l, g .1) (g .0) l

@@ -10,14 +10,14 @@ use lib.Dec.{leb, ltb, eqb}
 use borrow.Author.Tests.{leb-true, le-leb, ltb-true, lt-ltb, eqb-true, eqb-false}
 use Rattle.meaning.specs.Words.{every, twos}
 use Rattle.meaning.specs.Tables.{Rule, Ligature, Pair, Table, fieldCount}
-use Rattle.meaning.specs.Layout.{offsets, blocks, block, ruleWords, ligatureWords, setWords, pairSetWords, coverageWords, classWords, setsLayout, coversLayout, coverLayout, tableWords, wordsFit}
+use Rattle.meaning.specs.Layout.{offsets, blocks, block, ruleWords, ligatureWords, setWords, pairSetWords, coverageWords, classWords, rowWords, setsLayout, coversLayout, cellsLayout, coverLayout, tableWords, wordsFit}
 use Rattle.laws.specs.Stands.{wordEnd, All, all-append, all-front, all-back, Word}
 use Rattle.laws.specs.Runs.{both}
 use Rattle.laws.specs.PartsBack.{Glyphs, Classes}
 use Rattle.laws.specs.Through.{Kind, Back, Opt, all-opt}
 use Rattle.laws.specs.SetsBack.{Words2, GoodRule, GoodLigature, GoodPairs, pairSetKind, pair-set-back}
 use Rattle.laws.specs.ReadsBack.{Good, ruleSetKind, ligatureSetKind, rule-set-back, ligature-set-back, fit-words}
-use Rattle.laws.specs.Fits.{Short, words-fit, classes-fit, sets-fit, covers-fit, chained-covers-fit, single-fit}
+use Rattle.laws.specs.Fits.{Short, rows-words, words-fit, classes-fit, sets-fit, covers-fit, chained-covers-fit, cells-fit, single-fit}
 
 -- a test that holds exactly if each word fits
 pub fits-exactly : (ws : List ℕ) (b : Bool) → (All Word ws → b ≡ true) → (b ≡ true → All Word ws) → wordsFit ws ≡ b
@@ -146,6 +146,35 @@ module _ (b i a : List (Option (List ℕ))) (rs : List (ℕ × ℕ)) where
       let r = both (wordsFit oi) (wordsFit oa) (q .1) in
       chained-covers-fit b i a rs gb gi ga k nb ni na nr (fit-words ob (q .0)) (fit-words oi (r .0)) (fit-words oa (r .1)))
 
+-- pairs by class
+module _ (cover : Option (List ℕ)) (cs : List (Option (List (ℕ × ℕ)))) (formats more : List ℕ) where
+  abbrev ch : List (Option (List ℕ))
+  ch = block coverageWords cover ∷ []
+
+  abbrev ct : List (Option (List ℕ))
+  ct = map (block classWords) cs
+
+  abbrev start : ℕ
+  start = 2 + 2 * length ch + 2 * length formats + 2 * length ct + 2 * length more
+
+  pub cells-exactly : All Word formats → All Word more → Opt Glyphs cover → All (Opt Classes) cs
+      → wordsFit (cellsLayout ch formats ct more) ≡ wordsFit (offsets start ch) && (wordsFit (offsets (start + 2 * length (blocks ch)) ct) && shortTables cs)
+  unfolding cellsLayout
+  cells-exactly f m g k =
+      let oh = offsets start ch in
+      let ot = offsets (start + 2 * length (blocks ch)) ct in
+      let t = more ++ (blocks ch ++ blocks ct) in
+      fits-exactly (cellsLayout ch formats ct more) (wordsFit oh && (wordsFit ot && shortTables cs))
+      (λ h.
+      let h1 = h .1 in
+      let h2 = all-back Word formats (ot ++ t) (all-back Word oh (formats ++ (ot ++ t)) h1) in
+      let h3 = all-back Word (blocks ch) (blocks ct) (all-back Word more (blocks ch ++ blocks ct) (all-back Word ot t h2)) in
+      and-true (wordsFit oh) _ (words-fit oh (all-front Word oh (formats ++ (ot ++ t)) h1)) (and-true (wordsFit ot) _ (words-fit ot (all-front Word ot t h2)) (tables-short cs k h3)))
+      (λ h.
+      let q = both (wordsFit oh) _ h in
+      let r = both (wordsFit ot) (shortTables cs) (q .1) in
+      cells-fit cover cs formats more f m g k (fit-words oh (q .0)) (fit-words ot (r .0)) (short-tables cs (r .1)))
+
 -- single substitutions
 pub single-exactly : (format : ℕ) (cover : Option (List ℕ)) (more : List ℕ) → Word format → All Word more → Opt Glyphs cover
     → let h = block coverageWords cover ∷ [] in wordsFit (coverLayout format h more) ≡ wordsFit (offsets (2 + 2 * length h + 2 * length more) h)
@@ -263,6 +292,21 @@ unfolding tableWords
 chained-cover-exactly b i a rs g nb ni na nr =
     chained-covers-exactly b i a rs (g .0) (g .1) (g .2) (g .3) nb ni na nr
     ∙ rw (offsets-exactly (p₁ b i a rs) (bb b i a rs), offsets-exactly (p₂ b i a rs) (ib b i a rs), offsets-exactly (p₃ b i a rs) (ab b i a rs))
+
+-- pairs by class: exactly if the offsets of coverage and class tables fit, and no class table is too long
+pub class-pairs-exactly : (cover : Option (List ℕ)) (first second : Option (List (ℕ × ℕ))) (f1 f2 n : ℕ) (rows : List (List Pair)) → Good (Table.class-pairs cover first second f1 f2 n rows)
+    → let cs = first ∷ second ∷ [] in
+    let more = length rows ∷ n ∷ rowWords rows in
+    let at = start cover cs (f1 ∷ f2 ∷ []) more in
+    wordsFit (tableWords (Table.class-pairs cover first second f1 f2 n rows))
+    ≡ ltb (lastOffset at (block coverageWords cover ∷ [])) 65536 && (ltb (lastOffset (at + 2 * length (blocks (block coverageWords cover ∷ []))) (map (block classWords) cs)) 65536 && shortTables cs)
+unfolding tableWords
+class-pairs-exactly cover first second f1 f2 n rows g =
+    let cs = first ∷ second ∷ [] in
+    let more = length rows ∷ n ∷ rowWords rows in
+    let at = start cover cs (f1 ∷ f2 ∷ []) more in
+    cells-exactly cover cs (f1 ∷ f2 ∷ []) more (omega (arith, g .3), (omega (arith, g .4), tt)) (g .8, (g .7, rows-words (fieldCount f1) (fieldCount f2) n rows (g .5))) (g .0) (g .1, (g .2, tt))
+    ∙ rw (offsets-exactly at (block coverageWords cover ∷ []), offsets-exactly (at + 2 * length (blocks (block coverageWords cover ∷ []))) (map (block classWords) cs))
 
 -- single substitutions: by a delta they always fit; by a list exactly if the coverage's offset does
 pub single-delta-fits : (cov : List ℕ) (d : ℕ) → Good (Table.single-delta (some cov) d) → wordsFit (tableWords (Table.single-delta (some cov) d)) ≡ true

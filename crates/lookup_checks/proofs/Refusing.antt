@@ -8,7 +8,7 @@ use native.Mathlib.Decide.{decLt}
 use native.Mathlib.Omega.{arith}
 use lib.ListN.{length}
 use lib.Dec.{leb, ltb}
-use borrow.Author.Tests.{lt-ltb, le-ltb, le-leb, lt-leb, not-true, not-false}
+use borrow.Author.Tests.{lt-ltb, le-ltb, le-leb, lt-leb, eq-eqb, ne-eqb, not-true, not-false}
 use Rattle.meaning.specs.Words.{word, inside}
 use Rattle.meaning.specs.Tables.{table}
 use Rattle.meaning.specs.Fault.{fault}
@@ -29,13 +29,13 @@ module _ (kind : ℕ) where
   unfolding lastFormat
   last-context h = rw (le-leb kind 2 h)
 
-  pub last-one : 2 < kind → kind ≤ 4 → 1 ≡ lastFormat kind
+  pub last-one : 2 < kind → kind ≡ 3 → 1 ≡ lastFormat kind
   unfolding lastFormat
-  last-one h k = rw (lt-leb kind 2 h, le-leb kind 4 k)
+  last-one h k = rw (lt-leb kind 2 h, eq-eqb kind 3 k)
 
-  pub last-single : 2 < kind → 4 < kind → 2 ≡ lastFormat kind
+  pub last-two : 2 < kind → (kind ≡ 3 → ⊥) → 2 ≡ lastFormat kind
   unfolding lastFormat
-  last-single h k = rw (lt-leb kind 2 h, lt-leb kind 4 k)
+  last-two h k = rw (lt-leb kind 2 h, ne-eqb kind 3 k)
 
 -- Another format: no bytes for it, format 0, and one past the last.
 module _ (kind : ℕ) (s : List ℕ) {b : Bool} (e : b ≡ inside s 0 2) where

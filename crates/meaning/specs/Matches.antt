@@ -2,7 +2,7 @@
 use Prim.Native.Nat.{ℕ}
 use mathlib.Core.Path.{_≡_, refl}
 use mathlib.Core.Bool.{true, false}
-use mathlib.Core.Option.{Option, none, some}
+use mathlib.Core.Option.{Option, none, some, Option·map}
 use mathlib.Core.List.{List, [], _∷_, map}
 use lib.ListN.{replicate}
 use lib.IntN.{pos, negsuc}
@@ -188,3 +188,21 @@ less-substitute = subset 5 by-list (flat (5 ∷ 0 ∷ 7 ∷ 1 ∷ 9 ∷ 2 ∷ []
 pub substitute-needed : (less-substitute .number ≡ 0) × (substitute (table 5 by-list) 5 ≡ some 9) × (substitute (table 5 (left less-substitute)) 0 ≡ some 2) × (substitute (table 5 by-list) 7 ≡ some 3) × (substitute (table 5 (left less-substitute)) 1 ≡ none)
 unfolding bytes2 flat table subset substitute
 substitute-needed = (refl, refl, refl, refl, refl)
+
+-- pairs by class: glyphs 5 and 6 are covered, 6 holds first class 1; glyph 7 holds second class 1; the cells are 1, 2 and 3, −1 as advance of the first glyph
+abbrev by-classes : List ℕ
+by-classes = flat (2 ∷ 24 ∷ 4 ∷ 0 ∷ 32 ∷ 40 ∷ 2 ∷ 2 ∷ 1 ∷ 2 ∷ 3 ∷ 0xFFFF ∷ 1 ∷ 2 ∷ 5 ∷ 6 ∷ 1 ∷ 6 ∷ 1 ∷ 1 ∷ 1 ∷ 7 ∷ 1 ∷ 1 ∷ [])
+
+-- the row is that of the first glyph's first class, the cell that of the second glyph's second class; a first glyph that is not covered has no pair
+pub class-values : (Option·map (λ m. m .0 .x-advance) (adjust (table 4 by-classes) 5 5) ≡ some (pos 1)) × (Option·map (λ m. m .0 .x-advance) (adjust (table 4 by-classes) 5 7) ≡ some (pos 2))
+    × (Option·map (λ m. m .0 .x-advance) (adjust (table 4 by-classes) 6 0) ≡ some (pos 3)) × (Option·map (λ m. m .0 .x-advance) (adjust (table 4 by-classes) 6 7) ≡ some (negsuc 0)) × (adjust (table 4 by-classes) 7 7 ≡ none)
+unfolding bytes2 flat table adjust
+class-values = (refl, refl, refl, refl, refl)
+
+-- pairs by class with a second format: both glyphs are moved, and the second one is skipped, where the first is covered
+abbrev both-moved : List ℕ
+both-moved = flat (2 ∷ 20 ∷ 4 ∷ 8 ∷ 26 ∷ 30 ∷ 1 ∷ 1 ∷ 3 ∷ 0xFFFB ∷ 1 ∷ 1 ∷ 5 ∷ 2 ∷ 0 ∷ 2 ∷ 0 ∷ [])
+
+pub both-by-class : (Option·map (λ m. m .0 .x-advance) (adjust (table 4 both-moved) 5 6) ≡ some (pos 3)) × (Option·map (λ m. m .1 .y-advance) (adjust (table 4 both-moved) 5 6) ≡ some (negsuc 4)) × (skips (table 4 both-moved) 5 6 ≡ true) × (skips (table 4 both-moved) 6 5 ≡ false) × (skips (table 4 by-classes) 5 7 ≡ false)
+unfolding bytes2 flat table adjust skips
+both-by-class = (refl, refl, refl, refl, refl)

@@ -29,5 +29,6 @@ recordsWithin (Table.by-class chained cover b i a sets) = setsWithin sets
 recordsWithin (Table.by-cover chained b i a records) = indexesBelow (length i) records
 recordsWithin (Table.ligatures cover sets) = true
 recordsWithin (Table.pairs-of cover f1 f2 sets) = true
+recordsWithin (Table.class-pairs cover first second f1 f2 n rows) = true
 recordsWithin (Table.single-delta cover d) = true
 recordsWithin (Table.single-list cover subs) = true

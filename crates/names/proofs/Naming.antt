@@ -10,8 +10,8 @@ use lib.ListN.{length}
 use lib.Dec.{ltb, eqb}
 use borrow.Author.Tests.{lt-ltb, le-ltb, eq-eqb, ne-eqb, not-true, not-false}
 use Rattle.meaning.specs.Words.{word, words, entries, every}
-use Rattle.meaning.specs.Parts.{coverage}
-use Rattle.meaning.specs.Tables.{Table, fieldCount, reach, reaches, rule, ruleSet, ligatureSet, pairSet, classContext, coverContext, context, table}
+use Rattle.meaning.specs.Parts.{coverage, classes}
+use Rattle.meaning.specs.Tables.{Table, fieldCount, reach, reaches, rule, ruleSet, ligatureSet, pairSet, cellRows, pairTable, single, classContext, coverContext, context, table}
 use Rattle.laws.specs.Left.{entries-left, entries-all, entries-none}
 use Rattle.laws.specs.EachLeft.{passes, allPass}
 use Rattle.rules.specs.Parts.{IsRule}
@@ -95,6 +95,24 @@ module _ (many : ℕ) (s : List ℕ) {t : Bool} where
     unfolding context
     names-3 f g h = rw (← e, ne-eqb format 1 f, ne-eqb format 2 g) h
 
+-- Pairs and single substitutions have no records.
+pairs-name : (many : ℕ) (s : List ℕ) → true ≡ recordsName many (pairTable s)
+unfolding pairTable recordsName
+pairs-name many s = step (eqb (word s 0) 1)
+  where
+    step : (b : Bool) → true ≡ recordsName many (cond b (Table.pairs-of (reach (coverage s) s 0 2) (word s 4) (word s 6) (reaches (pairSet (fieldCount (word s 4)) (fieldCount (word s 6)) s) s 0 10 (word s 8)))
+        (Table.class-pairs (reach (coverage s) s 0 2) (reach (classes s) s 0 8) (reach (classes s) s 0 10) (word s 4) (word s 6) (word s 14) (cellRows s (fieldCount (word s 4)) (fieldCount (word s 6)) (word s 14) 16 (word s 12))))
+    step true = refl
+    step false = refl
+
+singles-name : (many : ℕ) (s : List ℕ) → true ≡ recordsName many (single s)
+unfolding single recordsName
+singles-name many s = step (eqb (word s 0) 1)
+  where
+    step : (b : Bool) → true ≡ recordsName many (cond b (Table.single-delta (reach (coverage s) s 0 2) (word s 4)) (Table.single-list (reach (coverage s) s 0 2) (words s 6 (word s 4))))
+    step true = refl
+    step false = refl
+
 -- A lookup by its kind.
 module _ (many kind : ℕ) (s : List ℕ) where
   pub names-plain : kind ≡ 1 → {t : Bool} → t ≡ recordsName many (context false s) → t ≡ recordsName many (table kind s)
@@ -107,15 +125,12 @@ module _ (many kind : ℕ) (s : List ℕ) where
 
   pub names-other : (kind ≡ 1 → ⊥) → (kind ≡ 2 → ⊥) → true ≡ recordsName many (table kind s)
   unfolding table recordsName
-  names-other a b = rw (ne-eqb kind 1 a, ne-eqb kind 2 b) (step (eqb kind 3) (eqb kind 4) (eqb (word s 0) 1))
+  names-other a b = rw (ne-eqb kind 1 a, ne-eqb kind 2 b) (step (eqb kind 3) (eqb kind 4))
     where
-      step : (b d e : Bool) → true ≡ recordsName many (cond b (Table.ligatures (reach (coverage s) s 0 2) (reaches (ligatureSet s) s 0 6 (word s 4)))
-          (cond d (Table.pairs-of (reach (coverage s) s 0 2) (word s 4) (word s 6) (reaches (pairSet (fieldCount (word s 4)) (fieldCount (word s 6)) s) s 0 10 (word s 8)))
-          (cond e (Table.single-delta (reach (coverage s) s 0 2) (word s 4)) (Table.single-list (reach (coverage s) s 0 2) (words s 6 (word s 4))))))
-      step true d e = refl
-      step false true e = refl
-      step false false true = refl
-      step false false false = refl
+      step : (b d : Bool) → true ≡ recordsName many (cond b (Table.ligatures (reach (coverage s) s 0 2) (reaches (ligatureSet s) s 0 6 (word s 4))) (cond d (pairTable s) (single s)))
+      step true d = refl
+      step false true = pairs-name many s
+      step false false = singles-name many s
 
 -- the records of a lookup, by its bytes as they were read
 pub source-names : (many : ℕ) (list buffer : List ℕ) (k : ℕ) {src : List ℕ} {kind : ℕ} {t : Bool} → src ≡ sourceAt list buffer k → kind ≡ word list (10 * k) → t ≡ recordsName many (table kind src)

@@ -90,7 +90,7 @@ fn new_format(
 }
 
 // The new value format of second glyphs, where `new` has those fields of the format `f` that stay: if none stays and `f` is not 0, 0x0004 stands in, for shapers skip the second glyph of a pair exactly if the second format is not 0.
-fn stand_in(f: usize, new: usize) -> usize
+pub fn stand_in(f: usize, new: usize) -> usize
     ensures { λ r. ⌜ r ≡ standIn f new ⌝ }
 {
     if f == 0 {

@@ -17,7 +17,7 @@ fn field_count(f: usize) -> usize
 }
 
 // How many bytes a pair record takes: the second glyph and the fields of both value records.
-fn pair_size(f1: usize, f2: usize) -> usize
+pub fn pair_size(f1: usize, f2: usize) -> usize
     ensures { λ r. ⌜ (r ≡ 2 + 2 * fieldCount f1 + 2 * fieldCount f2) × (r ≤ 34) ⌝ }
 {
     2 + 2 * field_count(f1) + 2 * field_count(f2)

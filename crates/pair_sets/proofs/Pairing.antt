@@ -7,7 +7,7 @@ use mathlib.Core.List.{List, [], _∷_, _++_, map, append-assoc, append-nil}
 use native.Mathlib.Nat.{mul-suc}
 use native.Mathlib.Omega.{arith}
 use lib.ListN.{length, getD, drop, length-append, drop-of-length-le}
-use lib.Seq.{sets, drop-cons}
+use lib.Seq.{sets, length-sets, drop-cons}
 use lib.Dec.{eqb}
 use borrow.Author.Tests.{eq-eqb, ne-eqb}
 use Rattle.meaning.specs.Words.{word, bytes2, find, isSome, bind, push}
@@ -20,26 +20,26 @@ use Rattle.numbers.specs.Leaves.{Leaves, leaves-full, leaves-none, leaves-words
 use Rattle.numbers.proofs.Fronts.{extends-one, extends-before}
 use Rattle.pair_sets.specs.Pairs.{valueAt, fieldUsed, pairsIn, rows, pairSetOf, pairsLeft, pairsMost}
 
--- What the loop of `write_pair` keeps, behind the glyph.
+-- What the loop of `write_values` keeps.
 pub record Valuing (s : List ℕ) (p : ℕ) (places area₀ : List ℕ) (pos : ℕ) (area : List ℕ) (i : ℕ) : Type 0 where
   pub within : i ≤ length places
-  pub room : pos + 2 + 2 * length places ≤ length area
+  pub room : pos + 2 * length places ≤ length area
   pub same : length area ≡ length area₀
   pub done : List ℕ
   pub left : done ++ map (valueAt s p) (drop i places) ≡ map (valueAt s p) places
-  pub extends : Extends area₀ (pos + 2) done area (pos + 2 + 2 * i)
+  pub extends : Extends area₀ pos done area (pos + 2 * i)
 
 module _ {s : List ℕ} {p : ℕ} {places area₀ : List ℕ} {pos : ℕ} where
-  pub valuing-all : pos + 2 + 2 * length places ≤ length area₀ → Valuing s p places area₀ pos area₀ 0
+  pub valuing-all : pos + 2 * length places ≤ length area₀ → Valuing s p places area₀ pos area₀ 0
   valuing-all h =
-      let d : pos + 2 + 2 * 0 ≡ pos + 2 = omega arith in
-      record { within = omega arith; room = h; same = refl; done = []; left = refl; extends = rw d (extends-none {a = area₀} {p = pos + 2} (omega arith)) }
+      let d : pos + 2 * 0 ≡ pos = omega arith in
+      record { within = omega arith; room = h; same = refl; done = []; left = refl; extends = rw d (extends-none {a = area₀} {p = pos} (omega arith)) }
 
   pub valuing-turn : {area next : List ℕ} {i v r : ℕ} → Valuing s p places area₀ pos area i → i < length places → v ≡ valueAt s p (getD places i 0)
-      → (r ≡ pos + 2 + 2 * i + 2) × (next ≡ sets area (pos + 2 + 2 * i) (bytes2 v)) → Valuing s p places area₀ pos next (i + 1)
+      → (r ≡ pos + 2 * i + 2) × (next ≡ sets area (pos + 2 * i) (bytes2 v)) → Valuing s p places area₀ pos next (i + 1)
   valuing-turn {area} {next} {i} {v} {r} c h e o =
-      let x : Extends area₀ (pos + 2) (c .done ++ (v ∷ [])) next r = extends-one (c .extends) v (omega (arith, c .room, c .same)) o in
-      let d : r ≡ pos + 2 + 2 * (i + 1) = omega (arith, o .0) in
+      let x : Extends area₀ pos (c .done ++ (v ∷ [])) next r = extends-one (c .extends) v (omega (arith, c .room, c .same)) o in
+      let d : r ≡ pos + 2 * (i + 1) = omega (arith, o .0) in
       let one : i + 1 ≡ suc i = omega arith in
       record {
         within = omega arith;
@@ -50,14 +50,18 @@ module _ {s : List ℕ} {p : ℕ} {places area₀ : List ℕ} {pos : ℕ} where
         extends = rw d at x;
       }
 
-  -- the glyph, and the values behind it
-  pub valuing-end : {area before : List ℕ} {i new r : ℕ} → Valuing s p places area₀ pos area i → length places ≤ i → pos + 2 ≤ length before → (r ≡ pos + 2) × (area₀ ≡ sets before pos (bytes2 new))
-      → Extends before pos (new ∷ map (valueAt s p) places) area (pos + 2 + 2 * length places)
-  valuing-end {area} {before} {i} {new} {r} c h l o =
-      let e : pos + 2 + 2 * i ≡ pos + 2 + 2 * length places = omega (arith, c .within) in
+  pub valuing-end : {area : List ℕ} {i : ℕ} → Valuing s p places area₀ pos area i → length places ≤ i → Extends area₀ pos (map (valueAt s p) places) area (pos + 2 * length places)
+  valuing-end {area} {i} c h =
+      let e : pos + 2 * i ≡ pos + 2 * length places = omega (arith, c .within) in
       let d : c .done ≡ map (valueAt s p) places = sym (append-nil (c .done)) ∙ rw (drop-of-length-le places h) at (c .left) in
-      let glyph : Extends before pos (new ∷ []) area₀ r = extends-one (extends-none (omega arith)) new l o in
-      extends-more (rw (o .0) at glyph) (extends-said (rw e at (c .extends)) d)
+      extends-said (rw e at (c .extends)) d
+
+-- a pair: the glyph, and the values behind it
+pub pair-room : (before : List ℕ) (pos new n : ℕ) {middle : List ℕ} {q : ℕ} → pos + 2 + n ≤ length before → (q ≡ pos + 2) × (middle ≡ sets before pos (bytes2 new)) → q + n ≤ length middle
+pair-room before pos new n h o = omega (arith, o .0, ap length (o .1), length-sets before pos (bytes2 new))
+
+pub pair-put : {before middle after vs : List ℕ} {pos new q r : ℕ} → pos + 2 ≤ length before → (q ≡ pos + 2) × (middle ≡ sets before pos (bytes2 new)) → Extends middle q vs after r → Extends before pos (new ∷ vs) after r
+pair-put {new = new} l o x = extends-more (extends-one (extends-none (omega arith)) new l o) x
 
 -- rows put together
 rows-append : (xs ys : List (List ℕ)) → rows (xs ++ ys) ≡ rows xs ++ rows ys

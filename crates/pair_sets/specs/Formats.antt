@@ -77,7 +77,7 @@ below f = (
 )
 
 -- a field is the value at its place
-value-is : (start f k : ℕ) → 0 < start → Below f k → (s : List ℕ) (p : ℕ) → field f (words s (p + start) (fieldCount f)) k ≡ valueAt s p (fieldPlace start f k)
+pub value-is : (start f k : ℕ) → 0 < start → Below f k → (s : List ℕ) (p : ℕ) → field f (words s (p + start) (fieldCount f)) k ≡ valueAt s p (fieldPlace start f k)
 unfolding fieldPlace field valueAt
 value-is start f k z h s p = step (eqb (bit f k) 1) refl
   where
@@ -90,7 +90,7 @@ value-is start f k z h s p = step (eqb (bit f k) 1) refl
     step false g = refl
 
 -- the fields that are picked are the values at the places that are kept
-pick-is : (start f new : ℕ) → 0 < start → (s : List ℕ) (p : ℕ) (ks : List ℕ) → All (Below f) ks
+pub pick-is : (start f new : ℕ) → 0 < start → (s : List ℕ) (p : ℕ) (ks : List ℕ) → All (Below f) ks
     → map (valueAt s p) (keptPlaces start f new ks) ≡ pickFields f new (words s (p + start) (fieldCount f)) ks
 unfolding keptPlaces pickFields mapSome push
 pick-is start f new z s p [] h = refl
@@ -108,7 +108,7 @@ pick-is start f new z s p (k ∷ ks) h = step (eqb (bit new k) 1) (mapSome (λ k
 unfoldable pub wordsOf : Pair → List ℕ
 wordsOf q = q .second ∷ (q .first-values ++ q .second-values)
 
-map-append : (f : ℕ → ℕ) (xs ys : List ℕ) → map f (xs ++ ys) ≡ map f xs ++ map f ys
+pub map-append : (f : ℕ → ℕ) (xs ys : List ℕ) → map f (xs ++ ys) ≡ map f xs ++ map f ys
 map-append f [] ys = refl
 map-append f (x ∷ xs) ys = ap (λ (l : List ℕ). f x ∷ l) (map-append f xs ys)
 

@@ -3,6 +3,7 @@ use Prim.Native.Nat.{ℕ, zero, suc, _+_, _*_, _≤_}
 use mathlib.Core.Bool.{Bool, false, cond, _&&_, _||_, not}
 use mathlib.Core.Option.{Option, none, some}
 use mathlib.Core.List.{List, [], _∷_, _++_, map}
+use native.Mathlib.Omega.{arith}
 use lib.ListN.{length, getD}
 use lib.Dec.{eqb}
 use Rattle.meaning.specs.Words.{word, find, isSome, bind, push}
@@ -23,6 +24,14 @@ fieldUsed g s size place p (suc n) = (not (eqb (valueAt s p place) 0) && isSome 
 pub record Places (places : List ℕ) (size : ℕ) : Type 0 where
   pub few : length places ≤ 8
   pub within : (i : ℕ) → getD places i 0 + 2 ≤ size
+
+-- places of eight fields at most, each of them inside for the record at p
+pub record Reads (s : List ℕ) (p : ℕ) (places : List ℕ) : Type 0 where
+  pub few : length places ≤ 8
+  pub within : (i : ℕ) → p + getD places i 0 + 2 ≤ length s
+
+pub reads-record : {s places : List ℕ} {p size : ℕ} → p + size ≤ length s → Places places size → Reads s p places
+reads-record h k = record { few = k .few; within = λ i. omega (arith, k .within i) }
 
 -- the words of the pairs that survive of n records from p on: the new second glyph and the values that stay
 unfoldable pub pairsIn : List (ℕ × ℕ) → List ℕ → ℕ → List ℕ → ℕ → ℕ → List (List ℕ)

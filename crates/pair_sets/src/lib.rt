@@ -19,9 +19,9 @@ ghost use Rattle.numbers.specs.Entries.{entriesIn};
 ghost use Rattle.numbers.specs.Leaves.{Leaves};
 ghost use Rattle.pair_sets.specs.Formats.{fields, fieldPlace, keptPlaces, placesOf};
 ghost use Rattle.pair_sets.specs.Puts.{Puts};
-ghost use Rattle.pair_sets.specs.Pairs.{valueAt, fieldUsed, Places, pairsLeft, pairsMost};
+ghost use Rattle.pair_sets.specs.Pairs.{valueAt, fieldUsed, Places, Reads, pairsLeft, pairsMost};
 
-// The value formats of a pair table, those of the source and the new ones, and how long a pair record of the source is.
+// The value formats of a pair table, those of the source and the new ones, and how long a pair record of the source is, or a cell.
 pub struct Formats {
     pub f1: usize,
     pub f2: usize,
@@ -31,7 +31,7 @@ pub struct Formats {
 }
 
 // The value that stands `place` bytes into the pair record at `p`; the place 0 is that of a field that the record has not, which reads as 0.
-fn value_at(src: &[u8], p: usize, place: usize) -> usize
+pub fn value_at(src: &[u8], p: usize, place: usize) -> usize
     requires { ⌜ p + place + 2 ≤ length (now src) ⌝ }
     ensures { λ r. ⌜ r ≡ valueAt (now (src .entry)) p place ⌝ }
 {
@@ -73,6 +73,21 @@ pub fn field_used(src: &[u8], at: usize, size: usize, place: usize, t: &[u32], g
     false
 }
 
+// The values at `places` of the pair record at `p`, from `pos` on, where there is room for them; the place after them.
+pub fn write_values(src: &[u8], p: usize, places: &[u8], area: &mut [u8], pos: usize) -> usize
+    requires { ⌜ Reads (now src) p (now places) × (pos + 2 * length (now places) ≤ length (now area)) ⌝ }
+    ensures { λ r. ⌜ Extends (now (area .entry)) pos (map (valueAt (now (src .entry)) p) (now (places .entry))) (now (area .exit)) r ⌝ }
+{
+    let mut i = 0;
+    while i < places.len() {
+        let place = places[i] as usize;
+        let value = value_at(src, p, place);
+        put(area, pos + 2 * i, value);
+        i += 1;
+    }
+    pos + 2 * places.len()
+}
+
 // The new second glyph and the values at `places` of the pair record at `p`, from `pos` on, where there is room for them; the place after them.
 fn write_pair(
     src: &[u8],
@@ -86,15 +101,8 @@ fn write_pair(
     requires { ⌜ (p + size ≤ length (now src)) × Places (now places) size × (pos + 2 + 2 * length (now places) ≤ length (now area)) ⌝ }
     ensures { λ r. ⌜ Extends (now (area .entry)) pos (new ∷ map (valueAt (now (src .entry)) p) (now (places .entry))) (now (area .exit)) r ⌝ }
 {
-    put(area, pos, new);
-    let mut i = 0;
-    while i < places.len() {
-        let place = places[i] as usize;
-        let value = value_at(src, p, place);
-        put(area, pos + 2 + 2 * i, value);
-        i += 1;
-    }
-    pos + 2 + 2 * places.len()
+    let q = put(area, pos, new);
+    write_values(src, p, places, area, q)
 }
 
 // What is left of the pair set at `at`, whose records are `size` bytes long, from `pos` on: its count, and the pairs whose second glyph is retained, each with the values at `places`; nothing if none is left.

@@ -1,5 +1,5 @@
 -- `fault` gives the lowest start among the faulty parts of Places.antt, and none exactly if all are sound; so answer 6 is given where a part is faulty, with that place.
-use Prim.Native.Nat.{ℕ, zero, suc, _+_, _-_, _*_, _≤_, _<_}
+use Prim.Native.Nat.{ℕ, zero, suc, _+_, _-_, _*_, _/_, _≤_, _<_}
 use mathlib.Core.Path.{_≡_, refl, sym, ap, _∙_, subst}
 use mathlib.Core.Bool.{Bool, true, false, cond, _&&_, _||_, not, true≢false}
 use mathlib.Core.Option.{Option, none, some}
@@ -9,17 +9,18 @@ use native.Mathlib.Omega.{arith}
 use lib.ListN.{length, take, drop}
 use lib.Dec.{leb, ltb, eqb}
 use borrow.Author.Tests.{le-leb, leb-true, leb-false, lt-ltb, le-ltb}
-use Rattle.meaning.specs.Words.{word, words, inside, mapSome, push, isSome}
-use Rattle.meaning.specs.Parts.{coverage, coverageSound, classesSound}
+use Rattle.meaning.specs.Words.{word, words, inside, every, values, mapSome, push, isSome}
+use Rattle.meaning.specs.Parts.{coverage, coverageSound, classes, classesSound, classOf}
 use Rattle.meaning.specs.Tables.{fieldCount}
-use Rattle.meaning.specs.Fault.{lowest, partFault, faultThrough, coverageFault, classesFault, ruleSound, ruleFault, ligatureFault, setFault, pairSetFault, enough, equalCount, headerFault, coversFault, contextFault, singleFault, fault}
+use Rattle.meaning.specs.Fault.{lowest, partFault, faultThrough, coverageFault, classesFault, ruleSound, ruleFault, ligatureFault, setFault, pairSetFault, enough, equalCount, headerFault, coversFault, contextFault, firstBelow, secondBelow, classesBelow, goodFormats, pairFault, singleFault, fault}
 use Rattle.laws.specs.Stands.{all-map, all-append}
 use Rattle.laws.specs.FaultsLeft.{lowest-none}
 use Rattle.laws.specs.ReadsBack.{fault-is}
 use Rattle.promises.specs.Strings.{All}
 use Rattle.promises.specs.Numbers.{and-left}
+use Rattle.promises.specs.Survives.{someOf}
 use Rattle.promises.specs.Refusals.{Call, answer, refusals, NoneOf, given-exactly, malformed-place}
-use Rattle.promises.specs.Places.{Sort, Part, contextHeader, singleHeader, headerOf, offsetsOf, targets, reachedBy, reachedFrom, eachOf, withReached, parts, endsBy, ruleEnd, atOdds, otherCount, lowBits, sound, Sound, Faulty, Any, Lowest}
+use Rattle.promises.specs.Places.{Sort, Part, contextHeader, pairHeader, singleHeader, headerOf, offsetsOf, targets, reachedBy, reachedFrom, eachOf, withReached, parts, endsBy, ruleEnd, atOdds, otherCount, firstPast, secondPast, classPast, lowBits, sound, Sound, Faulty, Any, Lowest}
 
 any-left : {A : Type 0} (P : A → Type 0) (xs ys : List A) → Any P xs → Any P (xs ++ ys)
 any-left P [] ys h = absurd h
@@ -348,6 +349,66 @@ module _ (s : List ℕ) where
       classed false = by-class (Sort.class-header false) (Sort.rule-set false) 1 6 (setFault (ruleFault false s) s) refl refl (rules-least false)
       classed true = by-class (Sort.class-header true) (Sort.rule-set true) 3 10 (setFault (ruleFault true s) s) refl refl (rules-least true)
 
+  -- pairs by class: classes below their counts, as a test of each and as none that is past
+  below-is : {A : Type 0} (f : A → ℕ) (n : ℕ) (l : List A) → every (λ a. ltb (f a) n) l ≡ not (someOf (λ a. leb n (f a)) l)
+  unfolding every someOf
+  below-is f n [] = refl
+  below-is f n (a ∷ l) = step (leb n (f a)) refl (below-is f n l)
+    where
+      step : (t : Bool) → leb n (f a) ≡ t → every (λ a. ltb (f a) n) l ≡ not (someOf (λ a. leb n (f a)) l) → ltb (f a) n && every (λ a. ltb (f a) n) l ≡ not (t || someOf (λ a. leb n (f a)) l)
+      step true e h = rw (le-ltb (f a) n (leb-true n (f a) e))
+      step false e h = rw (lt-ltb (f a) n (leb-false n (f a) e)) h
+
+  -- classes as a column
+  values-below : (n : ℕ) (cs : List (ℕ × ℕ)) → every (λ e. ltb (e .1) n) cs ≡ every (λ c. ltb c n) (values cs)
+  unfolding every values
+  values-below n [] = refl
+  values-below n (e ∷ cs) = ap (λ (t : Bool). ltb (e .1) n && t) (values-below n cs)
+
+  second-is : (n : ℕ) (cs : List (ℕ × ℕ)) → ltb 0 n && every (λ e. ltb (e .1) n) cs ≡ not (someOf (λ c. leb n c) (0 ∷ values cs))
+  unfolding every
+  second-is n cs = ap (λ (t : Bool). ltb 0 n && t) (values-below n cs) ∙ below-is (λ c. c) n (0 ∷ values cs)
+
+  classes-are : classesBelow s ≡ not (classPast s)
+  unfolding classesBelow firstBelow secondBelow classPast firstPast secondPast
+  classes-are =
+      rw (below-is (λ g. classOf (classes s (word s 8)) g) (word s 12) (coverage s (word s 2)), second-is (word s 14) (classes s (word s 10)))
+      (step (eqb (word s 8) 0) (eqb (word s 10) 0) (eqb (word s 2) 0) (coverageSound s (word s 2)) (classesSound s (word s 8)) _ (classesSound s (word s 10)) _)
+    where
+      -- a class that is not past its count, judged where its table is sound
+      judged : (f y : Bool) → not f || not y ≡ not (f && y)
+      judged true y = refl
+      judged false y = refl
+
+      step : (a b c d e x f y : Bool) → a || (b || ((c || (not d || (not e || not x))) && (not f || not y))) ≡ not (not a && (not b && ((not c && (d && (e && x))) || (f && y))))
+      step true b c d e x f y = refl
+      step false true c d e x f y = refl
+      step false false true d e x f y = judged f y
+      step false false false false e x f y = judged f y
+      step false false false true false x f y = judged f y
+      step false false false true true true f y = refl
+      step false false false true true false f y = judged f y
+
+  formats-are : (x : Bool) → goodFormats s && x ≡ lowBits (word s 4) && (lowBits (word s 6) && x)
+  unfolding goodFormats lowBits
+  formats-are x = step (eqb (word s 4 / 256) 0) (eqb (word s 6 / 256) 0)
+    where
+      step : (t u : Bool) → (t && u) && x ≡ t && (u && x)
+      step true u = refl
+      step false u = refl
+
+  class-pairs-least : Header Sort.class-pair-header (partFault 0 (inside s 0 16 && (inside s 16 ((2 * fieldCount (word s 4) + 2 * fieldCount (word s 6)) * (word s 12 * word s 14)) && (goodFormats s && classesBelow s)))
+      (lowest (faultThrough (coverageFault s) s 0 2 1) (faultThrough (classesFault s) s 0 8 2)))
+  unfolding inside endsBy sound offsetsOf reachedFrom
+  class-pairs-least =
+      let end = 16 + (2 * fieldCount (word s 4) + 2 * fieldCount (word s 6)) * (word s 12 * word s 14) in
+      let good = goodFormats s && classesBelow s in
+      let tables = faultThrough (classesFault s) s 0 8 2 in
+      let reached = lowest (faultThrough (coverageFault s) s 0 2 1) tables in
+      rw (one-place 0 (inside s 0 2) (inside s 0 16 && (endsBy s end && good)) reached, also-good 0 16 end good (omega arith), also-good 0 2 end good (omega arith), formats-are (classesBelow s), classes-are)
+      (least-reached 1 (part Sort.class-pair-header 0) reached
+      (before-rows Sort.coverage-table (coverageFault s) 2 1 ((Sort.class-table, 8, 2) ∷ []) tables (coverage-least 1) (sets-row Sort.class-table (classesFault s) 8 2 (classes-least 1))))
+
   -- a header of single substitutions: a coverage alone is reached
   single-least : (to : Sort) (test : Bool) → offsetsOf s to 0 ≡ (Sort.coverage-table, 2, 1) ∷ [] → inside s 0 2 && test ≡ sound s to 0 → Header to (partFault 0 test (faultThrough (coverageFault s) s 0 2 1))
   unfolding reachedFrom
@@ -379,6 +440,20 @@ module _ (s : List ℕ) where
           single-least Sort.list-header (inside s 0 6 && (endsBy s end && equalCount s (word s 4))) refl
           (rw (also-good 0 6 end (equalCount s (word s 4)) (omega arith)) (also-good 0 2 end (equalCount s (word s 4)) (omega arith) ∙ rw (count-is (word s 4))))
 
+  -- pairs, by their format
+  pairs-by-format : Header (pairHeader s) (pairFault s)
+  unfolding pairHeader pairFault sound offsetsOf
+  pairs-by-format =
+      either (eqb (word s 0) 1) Sort.pair-header Sort.class-pair-header _ _
+      (by-index Sort.pair-header (Sort.pair-set a b) (goodFormats s && enough s (word s 8)) 8 (pairSetFault a b s) (rw (enough-is (word s 8), formats-are (not (atOdds s (word s 8))))) refl (pairs-least a b 1))
+      class-pairs-least
+    where
+      a : ℕ
+      a = fieldCount (word s 4)
+
+      b : ℕ
+      b = fieldCount (word s 6)
+
   pub fault-least : (kind : ℕ) → Least (parts kind s) (fault kind s)
   unfolding parts headerOf sound offsetsOf
   fault-least kind =
@@ -387,14 +462,7 @@ module _ (s : List ℕ) where
       (either (eqb kind 2) (contextHeader true s) _ (contextFault true s) _ (context-least true)
       (either (eqb kind 3) Sort.ligature-header _ _ _
       (by-index Sort.ligature-header Sort.ligature-set (enough s (word s 4)) 4 (setFault (ligatureFault s) s) (rw (enough-is (word s 4))) refl ligatures-least)
-      (either (eqb kind 4) Sort.pair-header (singleHeader s) _ (singleFault s) (by-index Sort.pair-header (Sort.pair-set a b) (lowBits (word s 4) && (lowBits (word s 6) && enough s (word s 8))) 8 (pairSetFault a b s) (rw (enough-is (word s 8))) refl (pairs-least a b 1))
-      singles-least))))
-    where
-      a : ℕ
-      a = fieldCount (word s 4)
-
-      b : ℕ
-      b = fieldCount (word s 6)
+      (either (eqb kind 4) (pairHeader s) (singleHeader s) (pairFault s) (singleFault s) pairs-by-format singles-least))))
 
   -- there is a fault exactly if some part is faulty
   some-faulty : (kind : ℕ) → isSome (fault kind s) ≡ true → Any (Faulty s) (parts kind s)

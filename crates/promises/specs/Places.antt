@@ -2,20 +2,21 @@
 -- All parts are listed, those that a faulty part's offsets reach too: an offset that is not null is positive, so they start later than that part and are not the lowest.
 use Prim.Native.Nat.{ℕ, zero, suc, _+_, _-_, _*_, _/_, _<_}
 use mathlib.Core.Path.{_≡_, refl}
-use mathlib.Core.Bool.{Bool, true, false, cond, _&&_, not}
+use mathlib.Core.Bool.{Bool, true, false, cond, _&&_, _||_, not}
 use mathlib.Core.Option.{none, some}
 use mathlib.Core.List.{List, [], _∷_, _++_, map}
 use mathlib.Core.Logic.{_⊎_}
 use lib.ListN.{length}
 use lib.Dec.{leb, ltb, eqb}
-use Rattle.meaning.specs.Words.{word, words, flat, ascends, push, mapSome}
-use Rattle.meaning.specs.Parts.{coverage, coverageSound, classesSound}
+use Rattle.meaning.specs.Words.{word, words, flat, ascends, values, push, mapSome}
+use Rattle.meaning.specs.Parts.{coverage, coverageSound, classes, classesSound, classOf}
 use Rattle.meaning.specs.Tables.{fieldCount, pairSet}
 use Rattle.meaning.specs.Subset.{subset}
 use Rattle.promises.specs.Strings.{All}
+use Rattle.promises.specs.Survives.{someOf}
 
 -- The sorts of part. Those of contexts are plain (false) or chained (true), and a context's header goes by its format: by glyph (1), by class (2), by cover (3).
--- So does that of a single substitution: by a delta (1), by a list (2).
+-- So does that of a pair table: by glyph (1), by class (2); and that of a single substitution: by a delta (1), by a list (2).
 -- A pair set's records have so many values of the first glyph and so many of the second.
 pub data Sort : Type 0 where
   glyph-header : Bool → Sort
@@ -23,6 +24,7 @@ pub data Sort : Type 0 where
   cover-header : Bool → Sort
   ligature-header : Sort
   pair-header : Sort
+  class-pair-header : Sort
   delta-header : Sort
   list-header : Sort
   rule-set : Bool → Sort
@@ -44,6 +46,10 @@ pub record Part : Type 0 where
 unfoldable pub contextHeader : Bool → List ℕ → Sort
 contextHeader chained s = cond (eqb (word s 0) 1) (glyph-header chained) (cond (eqb (word s 0) 2) (class-header chained) (cover-header chained))
 
+-- a pair table's header, by its format
+unfoldable pub pairHeader : List ℕ → Sort
+pairHeader s = cond (eqb (word s 0) 1) pair-header class-pair-header
+
 -- a single substitution's header, by its format
 unfoldable pub singleHeader : List ℕ → Sort
 singleHeader s = cond (eqb (word s 0) 1) delta-header list-header
@@ -51,7 +57,7 @@ singleHeader s = cond (eqb (word s 0) 1) delta-header list-header
 -- the header of a source of this kind: 1 context, 2 chained, 3 ligature, 4 pair, 5 single substitution
 unfoldable pub headerOf : ℕ → List ℕ → Sort
 headerOf kind s =
-    cond (eqb kind 1) (contextHeader false s) (cond (eqb kind 2) (contextHeader true s) (cond (eqb kind 3) ligature-header (cond (eqb kind 4) pair-header (singleHeader s))))
+    cond (eqb kind 1) (contextHeader false s) (cond (eqb kind 2) (contextHeader true s) (cond (eqb kind 3) ligature-header (cond (eqb kind 4) (pairHeader s) (singleHeader s))))
 
 -- the offsets that a part has, row by row: the sort of part that a row reaches, where the row stands, and how many offsets it has;
 -- rules, ligatures, pair sets, coverages and class tables have none
@@ -66,6 +72,7 @@ offsetsOf s (cover-header true) at =
     (coverage-table, 4, word s 2) ∷ (coverage-table, i + 2, word s i) ∷ (coverage-table, a + 2, word s a) ∷ []
 offsetsOf s ligature-header at = (coverage-table, 2, 1) ∷ (ligature-set, 6, word s 4) ∷ []
 offsetsOf s pair-header at = (coverage-table, 2, 1) ∷ (pair-set (fieldCount (word s 4)) (fieldCount (word s 6)), 10, word s 8) ∷ []
+offsetsOf s class-pair-header at = (coverage-table, 2, 1) ∷ (class-table, 8, 2) ∷ []
 offsetsOf s delta-header at = (coverage-table, 2, 1) ∷ []
 offsetsOf s list-header at = (coverage-table, 2, 1) ∷ []
 offsetsOf s (rule-set chained) at = (rule chained, at + 2, word s at) ∷ []
@@ -101,7 +108,7 @@ withReached (suc n) s p = p ∷ eachOf (withReached n s) (reachedFrom s p)
 
 -- the parts of a source: a header reaches sets, coverage and class tables, and a set reaches rules or ligatures, which have no offsets
 unfoldable pub parts : ℕ → List ℕ → List Part
-unfolding contextHeader singleHeader headerOf offsetsOf targets reachedBy reachedFrom eachOf withReached
+unfolding contextHeader pairHeader singleHeader headerOf offsetsOf targets reachedBy reachedFrom eachOf withReached
 parts kind s = withReached 2 s (record { sort = headerOf kind s; start = 0 })
 
 -- When a part is sound by its own bytes.
@@ -136,20 +143,35 @@ atOdds s n = not (eqb (word s 2) 0) && (coverageSound s (word s 2) && ltb n (len
 unfoldable pub otherCount : List ℕ → ℕ → Bool
 otherCount s n = not (eqb (word s 2) 0) && (coverageSound s (word s 2) && not (eqb (length (coverage s (word s 2))) n))
 
+-- pairs by class: the first class of a covered glyph is not below the first count, where coverage and first class table are sound
+unfoldable pub firstPast : List ℕ → Bool
+firstPast s =
+    not (eqb (word s 2) 0) && (coverageSound s (word s 2) && (classesSound s (word s 8) && someOf (λ g. leb (word s 12) (classOf (classes s (word s 8)) g)) (coverage s (word s 2))))
+
+-- the second class of some glyph, 0 or one that is listed, is not below the second count, where the second class table is sound
+unfoldable pub secondPast : List ℕ → Bool
+secondPast s = classesSound s (word s 10) && someOf (λ c. leb (word s 14) c) (0 ∷ values (classes s (word s 10)))
+
+-- a class is not below its count, where neither class table is null
+unfoldable pub classPast : List ℕ → Bool
+classPast s = not (eqb (word s 8) 0) && (not (eqb (word s 10) 0) && (firstPast s || secondPast s))
+
 -- a value format has no bit of 0xFF00
 unfoldable pub lowBits : ℕ → Bool
 lowBits f = eqb (f / 256) 0
 
--- each part lies inside; besides, a header's set count or substitute count is not at odds with a sound coverage, value formats have low bits only, a pair set's second glyphs ascend,
+-- each part lies inside; besides, a header's set count or substitute count is not at odds with a sound coverage, no class is past its count, value formats have low bits only, a pair set's second glyphs ascend,
 -- and a coverage or a class table is sound as Parts.antt says
 unfoldable pub sound : List ℕ → Sort → ℕ → Bool
-unfolding endsBy ruleEnd coverEnd atOdds otherCount lowBits
+unfolding endsBy ruleEnd coverEnd atOdds otherCount firstPast secondPast classPast lowBits
 sound s (glyph-header chained) at = endsBy s (6 + 2 * word s 4) && not (atOdds s (word s 4))
 sound s (class-header false) at = endsBy s (8 + 2 * word s 6)
 sound s (class-header true) at = endsBy s (12 + 2 * word s 10)
 sound s (cover-header chained) at = endsBy s (coverEnd chained s)
 sound s ligature-header at = endsBy s (6 + 2 * word s 4) && not (atOdds s (word s 4))
 sound s pair-header at = endsBy s (10 + 2 * word s 8) && (lowBits (word s 4) && (lowBits (word s 6) && not (atOdds s (word s 8))))
+sound s class-pair-header at =
+    endsBy s (16 + (2 * fieldCount (word s 4) + 2 * fieldCount (word s 6)) * (word s 12 * word s 14)) && (lowBits (word s 4) && (lowBits (word s 6) && not (classPast s)))
 sound s delta-header at = endsBy s 6
 sound s list-header at = endsBy s (6 + 2 * word s 4) && not (otherCount s (word s 4))
 sound s (rule-set chained) at = endsBy s (at + 2 + 2 * word s at)

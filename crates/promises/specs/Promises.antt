@@ -2,17 +2,17 @@
 -- A reader who believes the definitions of `meaning` needs of this crate what stands here, the statements that it names in Refusals.antt (`Call`, `answer`, `plain`, `refusals`, `Meets`),
 -- Survives.antt, and `Retained`, `new`, `renumbered`, `cutMatch`, `cutLigated`, `Closed`, `SubstituteRetained`, `SubstitutesRetained`, and `Faulty` and `callOf` of the job, each a line or two.
 use Prim.Native.Nat.{ℕ, _≤_, _<_}
-use mathlib.Core.Path.{_≡_}
+use mathlib.Core.Path.{_≡_, sym, ap, _∙_, subst}
 use mathlib.Core.Bool.{Bool, true, false, not}
-use mathlib.Core.Option.{none, some, Option·map}
+use mathlib.Core.Option.{Option, none, some, Option·map}
 use mathlib.Core.List.{List, [], _∷_, _++_, map}
 use lib.ListN.{length, take, drop}
 use lib.Dec.{eqb}
-use Rattle.meaning.specs.Words.{flat, bind}
+use Rattle.meaning.specs.Words.{flat, bind, isSome, member}
 use Rattle.meaning.specs.Maps.{mapEntries, goodGlyphs}
-use Rattle.meaning.specs.Tables.{table, Table}
+use Rattle.meaning.specs.Tables.{table, Table, Pair}
 use Rattle.meaning.specs.Fault.{fault}
-use Rattle.meaning.specs.Cut.{classMap?}
+use Rattle.meaning.specs.Cut.{classMap?, cut}
 use Rattle.meaning.specs.Layout.{wordsFit}
 use Rattle.meaning.specs.Subset.{Outcome, left, refused, limit, goodKind, tooBig}
 use Rattle.meaning.specs.Matching.{atPlace, match, ligate, adjust, skips, substitute}
@@ -175,14 +175,27 @@ module _ (c : Call) (bytes : BytesOf c) (kept : (answer c) .number ≡ 0) where
   unfolding bind
   ligature-same k closed string i r = rw (reads-back .0) at (Same.ligature-same g l good (c .kind) k (c .source) (tests .sound) closed string i r)
 
-  -- `pair-same`: each pair of retained glyphs is found or not as before, with equal adjustments: signed 16-bit, absent fields 0.
+  -- `pair-same`: each pair of retained glyphs is found or not as before, in both formats, with equal adjustments: signed 16-bit, absent fields 0.
   pub pair-same : c .kind ≡ 4 → (x y : ℕ) → Retained g x → Retained g y → adjust (small-says c) (new g x) (new g y) ≡ adjust (says c) x y
   unfolding bind
-  pair-same k x y rx ry = rw (reads-back .0) at (Same.pair-same g l good (c .kind) k (c .source) (tests .sound) x y rx ry .0)
+  pair-same k x y rx ry = rw (reads-back .0) at (Same.pair-same g l good (c .kind) k (c .source) (bytes .source) (tests .sound) x y rx ry .0)
 
   -- `pair-skipped`: its second glyph is skipped or not as before.
   pub pair-skipped : c .kind ≡ 4 → (x y : ℕ) → Retained g x → Retained g y → skips (small-says c) (new g x) (new g y) ≡ skips (says c) x y
-  pair-skipped k x y rx ry = rw (reads-back .0) at (Same.pair-same g l good (c .kind) k (c .source) (tests .sound) x y rx ry .1)
+  pair-skipped k x y rx ry = rw (reads-back .0) at (Same.pair-same g l good (c .kind) k (c .source) (bytes .source) (tests .sound) x y rx ry .1)
+
+  -- `class-pair-found`: in pairs by class, each pair of retained glyphs whose first glyph is covered is found in the small table, with the source's adjustments.
+  pub class-pair-found : (cov : List ℕ) (first second : Option (List (ℕ × ℕ))) (f1 f2 n : ℕ) (rows : List (List Pair)) → c .kind ≡ 4 → says c ≡ Table.class-pairs (some cov) first second f1 f2 n rows
+      → (x y : ℕ) → Retained g x → Retained g y → member x cov ≡ true
+      → (isSome (adjust (small-says c) (new g x) (new g y)) ≡ true) × (adjust (small-says c) (new g x) (new g y) ≡ adjust (says c) x y)
+  class-pair-found cov first second f1 f2 n rows k is x y rx ry m =
+      let sound : fault 4 (c .source) ≡ none = subst (λ (k : ℕ). fault k (c .source) ≡ none) k (tests .sound) in
+      let found =
+      Same.pair-found g l good (c .source) (bytes .source) sound cov first second f1 f2 n rows
+      (ap (λ (k : ℕ). table k (c .source)) (sym k) ∙ is) (small-says c) (ap (λ (k : ℕ). cut g l (table k (c .source))) (sym k) ∙ reads-back .0) x y m
+      in
+      let same = pair-same k x y rx ry in
+      (rw same (subst (λ (k : ℕ). isSome (adjust (table k (c .source)) x y) ≡ true) (sym k) found), same)
 
   -- `single-same`: a retained glyph whose substitute is retained is replaced as in the source, by the new number of that substitute, and one that had no substitute has none.
   pub single-same : c .kind ≡ 5 → (x : ℕ) → Retained g x → SubstituteRetained g (says c) x → substitute (small-says c) (new g x) ≡ Option·map (new g) (substitute (says c) x)

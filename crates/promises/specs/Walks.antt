@@ -2,21 +2,21 @@
 -- What is left of a pair table finds the same pairs at the same places, with equal adjustments.
 use Prim.Native.Nat.{ℕ, _+_}
 use mathlib.Core.Path.{_≡_, refl, ap, subst}
-use mathlib.Core.Bool.{Bool, true, false, not}
+use mathlib.Core.Bool.{Bool, true, false, cond, not}
 use mathlib.Core.Option.{Option, none, some}
 use mathlib.Core.List.{List, [], _∷_, map}
 use lib.ListN.{replicate}
 use lib.Dec.{eqb}
 use lib.IntN.{ℤ, pos}
 use Rattle.meaning.specs.Words.{word, bytes2, flat}
-use Rattle.meaning.specs.Parts.{coverage}
-use Rattle.meaning.specs.Tables.{Table, table, reach, reaches, pairSet, fieldCount}
+use Rattle.meaning.specs.Tables.{Table, pairTable, table}
 use Rattle.meaning.specs.Cut.{cut}
 use Rattle.meaning.specs.Subset.{left, subset}
 use Rattle.meaning.specs.Matching.{Move, adjust, secondFormat}
 use Rattle.laws.specs.Through.{Opt}
 use Rattle.promises.specs.Strings.{All, Retained, new}
 use Rattle.promises.specs.Pairs.{second-left}
+use Rattle.promises.specs.ClassPairs as ClassPairs
 
 -- a pair table has a nonzero second format
 abbrev pub skipping : Table → Bool
@@ -48,11 +48,20 @@ walks-same g t u e k i (x ∷ y ∷ string) r =
 
 -- what is left of a pair table has a nonzero second format exactly if the source has one
 pub skipping-same : (g l : List (ℕ × ℕ)) (kind : ℕ) → kind ≡ 4 → (source : List ℕ) (small : Table) → cut g l (table kind source) ≡ some small → skipping small ≡ skipping (table kind source)
-unfolding table secondFormat
+unfolding table pairTable secondFormat
 skipping-same g l kind k source small e = ap not (subst (Opt (λ u. eqb (secondFormat u) 0 ≡ eqb (secondFormat (table kind source)) 0)) e (left kind k))
   where
-    left : (kind : ℕ) → kind ≡ 4 → Opt (λ u. eqb (secondFormat u) 0 ≡ eqb (secondFormat (table kind source)) 0) (cut g l (table kind source))
-    left kind k = rw k (second-left g l (reach (coverage source) source 0 2) (word source 4) (word source 6) (reaches (pairSet (fieldCount (word source 4)) (fieldCount (word source 6)) source) source 0 10 (word source 8)))
+    Kept : Table → Type 0
+    Kept t = Opt (λ u. eqb (secondFormat u) 0 ≡ eqb (secondFormat t) 0) (cut g l t)
+
+    either : (t : Bool) (a b : Table) → Kept a → Kept b → Kept (cond t a b)
+    either true a b h k = h
+    either false a b h k = k
+
+    left : (kind : ℕ) → kind ≡ 4 → Kept (table kind source)
+    left kind k =
+        rw k (either (eqb (word source 0) 1) _ _ (second-left g l _ (word source 4) (word source 6) _)
+        (ClassPairs.second-left g l _ _ _ (word source 4) (word source 6) (word source 14) _))
 
 -- A worked case: glyph 5 before glyph 5 is advanced by 10, with the second format 0x0004, whose values are all 0, or 0.
 

@@ -10,7 +10,7 @@ use Rattle.meaning.specs.Words.{keys, values, every, find, bind, mapAll, push, 
 use Rattle.meaning.specs.Maps.{mapEntries}
 use Rattle.meaning.specs.Tables.{Rule, Ligature, Pair, Table, dropNull, deltaPairs, listPairs, table}
 use Rattle.meaning.specs.Records.{indexesBelow, ruleWithin, setsWithin, recordsWithin}
-use Rattle.meaning.specs.Cut.{RuleMaps, cutRecords, cutRule, cutSet, keptSets, setsOf, keptByGlyph, heldBy, classMap, classMap?, newClasses?, newCoverage, retained, slots, trim, keptByClass, coversLeft, cutLigatures, keptLigatures, cutPairs, keptPairs, keptSubstitutes, deltaOf, agree, keptSingles, cut}
+use Rattle.meaning.specs.Cut.{RuleMaps, cutRecords, cutRule, cutSet, keptSets, setsOf, keptByGlyph, heldBy, classMap, classMap?, newClasses?, newCoverage, retained, slots, trim, keptByClass, coversLeft, cutLigatures, keptLigatures, cutPairs, keptPairs, coveredMap, keptClassPairs, keptSubstitutes, deltaOf, agree, keptSingles, cut}
 use Rattle.laws.specs.Through.{Opt}
 use Rattle.laws.specs.CutGood.{opt-bind, all-mapSome, opt-cond, opt-unlessEmpty, slots-all, trim-all}
 use Rattle.laws.specs.CutCells.{every-all, all-every}
@@ -153,6 +153,14 @@ cut-within g l (Table.pairs-of (some cov) f1 f2 sets) h = step (keptSets (cutPai
     step : (ks : List (ℕ × List Pair)) → Opt Within (keptPairs f1 f2 ks)
     step [] = tt
     step (e ∷ ks) = refl
+cut-within g l (Table.class-pairs none first second f1 f2 n rows) h = tt
+cut-within g l (Table.class-pairs (some cov) none second f1 f2 n rows) h = tt
+cut-within g l (Table.class-pairs (some cov) (some cs) none f1 f2 n rows) h = tt
+cut-within g l (Table.class-pairs (some cov) (some cs) (some ds) f1 f2 n rows) h = step (coveredMap g cov)
+  where
+    step : (covered : List (ℕ × ℕ)) → Opt Within (keptClassPairs g covered cs ds f1 f2 rows)
+    step [] = tt
+    step (e ∷ r) = refl
 cut-within g l (Table.single-delta none d) h = tt
 cut-within g l (Table.single-delta (some cov) d) h = singles-within (keptSubstitutes g (deltaPairs cov d))
 cut-within g l (Table.single-list none subs) h = tt

@@ -13,7 +13,7 @@ use Rattle.meaning.specs.Words.{word, flat, bytes2}
 use Rattle.meaning.specs.Maps.{mapEntries}
 use Rattle.meaning.specs.Tables.{Table, table, single}
 use Rattle.meaning.specs.Cut.{cut}
-use Rattle.meaning.specs.Layout.{setsLayout, coversLayout, coverLayout, tableWords}
+use Rattle.meaning.specs.Layout.{setsLayout, coversLayout, coverLayout, tableWords, cellsLayout}
 use Rattle.meaning.specs.Subset.{Outcome, left, refused, limit, lastFormat, hasFormat, tooBig, laidInto, written, subset}
 use Rattle.laws.specs.SoundGood.{Bytes}
 use Rattle.laws.specs.CallBack.{passed, big-fit, call-reads-back}
@@ -28,13 +28,14 @@ ToTwo f = leb 1 f && leb f 2 ≡ true
 
 -- the first word of a layout is a table's format
 context-format : (t : Table) → ToThree (word (flat (tableWords t)) 0)
-unfolding word flat bytes2 tableWords setsLayout coversLayout coverLayout
+unfolding word flat bytes2 tableWords setsLayout coversLayout coverLayout cellsLayout
 context-format (Table.by-glyph chained cover sets) = refl
 context-format (Table.by-class chained cover b i a sets) = refl
 context-format (Table.by-cover false b i a rs) = refl
 context-format (Table.by-cover true b i a rs) = refl
 context-format (Table.ligatures cover sets) = refl
 context-format (Table.pairs-of cover f1 f2 sets) = refl
+context-format (Table.class-pairs cover first second f1 f2 m rows) = refl
 context-format (Table.single-delta cover d) = refl
 context-format (Table.single-list cover subs) = refl
 

@@ -11,7 +11,7 @@ use Rattle.meaning.specs.Words.{word, inside, keys, values, find, bind, push, m
 use Rattle.meaning.specs.Tables.{Rule, Ligature, Pair, Table, table}
 use Rattle.meaning.specs.Fault.{fault}
 use Rattle.meaning.specs.Records.{indexesBelow, recordsWithin}
-use Rattle.meaning.specs.Cut.{cut, cutRecords, keptByGlyph, keptByClass, coversLeft, keptLigatures, keptPairs, keptSets, cutSet, cutLigatures, cutPairs, classMap, classMap?, newCoverage, newClasses?, slots, trim, heldBy, retained}
+use Rattle.meaning.specs.Cut.{cut, cutRecords, keptByGlyph, keptByClass, coversLeft, keptLigatures, keptPairs, coveredMap, keptClassPairs, keptSets, cutSet, cutLigatures, cutPairs, classMap, classMap?, newCoverage, newClasses?, slots, trim, heldBy, retained}
 use Rattle.meaning.specs.Subset.{limit, hasFormat}
 use Rattle.meaning.specs.Matching.{atPlace, match, substitute}
 use Rattle.laws.specs.Runs.{up-ascends}
@@ -93,6 +93,11 @@ module _ (y : ℕ) where
   no-pair f1 f2 [] = refl
   no-pair f1 f2 (k ∷ ks) = refl
 
+  no-class-pair : (g h cs ds : List (ℕ × ℕ)) (f1 f2 : ℕ) (rows : List (List Pair)) → bind (keptClassPairs g h cs ds f1 f2 rows) (λ t. substitute t y) ≡ none
+  unfolding bind keptClassPairs substitute
+  no-class-pair g [] cs ds f1 f2 rows = refl
+  no-class-pair g (e ∷ h) cs ds f1 f2 rows = refl
+
 -- what is left of a table gives a retained glyph the substitute that the table gave it, renumbered, if retained glyphs have retained substitutes
 substitute-same : (g l : List (ℕ × ℕ)) → GoodMap g → (t : Table) → SubstitutesRetained g t → (x : ℕ) → Retained g x
     → bind (cut g l t) (λ u. substitute u (new g x)) ≡ Option·map (new g) (substitute t x)
@@ -109,6 +114,10 @@ substitute-same g l good (Table.ligatures none sets) k x rx = refl
 substitute-same g l good (Table.ligatures (some cov) sets) k x rx = no-ligature (new g x) (keptSets (cutLigatures g) g cov sets)
 substitute-same g l good (Table.pairs-of none f1 f2 sets) k x rx = refl
 substitute-same g l good (Table.pairs-of (some cov) f1 f2 sets) k x rx = no-pair (new g x) f1 f2 (keptSets (cutPairs g) g cov sets)
+substitute-same g l good (Table.class-pairs none first second f1 f2 m rows) k x rx = refl
+substitute-same g l good (Table.class-pairs (some cov) none second f1 f2 m rows) k x rx = refl
+substitute-same g l good (Table.class-pairs (some cov) (some cs) none f1 f2 m rows) k x rx = refl
+substitute-same g l good (Table.class-pairs (some cov) (some cs) (some ds) f1 f2 m rows) k x rx = no-class-pair (new g x) g (coveredMap g cov) cs ds f1 f2 rows
 substitute-same g l good (Table.single-delta cover d) k x rx = delta-same g l good cover d x rx (k x rx)
 substitute-same g l good (Table.single-list cover subs) k x rx = list-same g l good cover subs x rx (k x rx)
 

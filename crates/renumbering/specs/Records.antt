@@ -10,7 +10,7 @@ use Rattle.meaning.specs.Words.{every, find, bind, mapAll, push, mapSome, membe
 use Rattle.meaning.specs.Parts.{classOf}
 use Rattle.meaning.specs.Tables.{Rule, Ligature, Pair, Table, dropNull, deltaPairs, listPairs}
 use Rattle.meaning.specs.Records.{indexesBelow, recordsWithin}
-use Rattle.meaning.specs.Cut.{RuleMaps, cut, cutRecords, cutRule, cutSet, keptSets, setsOf, keptByGlyph, heldBy, retained, slots, keepSlot, trim, keptByClass, newCoverage, newClasses?, classMap, classMap?, coversLeft, keptLigatures, keptPairs, cutLigatures, cutPairs, keptSubstitutes, deltaOf, agree, keptSingles}
+use Rattle.meaning.specs.Cut.{RuleMaps, cut, cutRecords, cutRule, cutSet, keptSets, setsOf, keptByGlyph, heldBy, retained, slots, keepSlot, trim, keptByClass, newCoverage, newClasses?, classMap, classMap?, coversLeft, keptLigatures, keptPairs, coveredMap, keptClassPairs, cutLigatures, cutPairs, keptSubstitutes, deltaOf, agree, keptSingles}
 use Rattle.meaning.specs.Matching.{Holds, fits, covers?, setAt, ruleFits, firstFit, sameGlyph, sameClass, match}
 use Rattle.laws.specs.Runs.{both}
 use Rattle.laws.specs.Through.{Opt}
@@ -35,6 +35,7 @@ RulesAll P (Table.by-class chained cover b i a sets) = All (Opt (SetAll P)) sets
 RulesAll P (Table.by-cover chained b i a rs) = P (length i, rs)
 RulesAll P (Table.ligatures cover sets) = Unit {0}
 RulesAll P (Table.pairs-of cover f1 f2 sets) = Unit {0}
+RulesAll P (Table.class-pairs cover first second f1 f2 m rows) = Unit {0}
 RulesAll P (Table.single-delta cover d) = Unit {0}
 RulesAll P (Table.single-list cover subs) = Unit {0}
 
@@ -66,6 +67,7 @@ within-all (Table.by-class chained cover b i a sets) e = sets-all indexesBelow s
 within-all (Table.by-cover chained b i a rs) e = e
 within-all (Table.ligatures cover sets) e = tt
 within-all (Table.pairs-of cover f1 f2 sets) e = tt
+within-all (Table.class-pairs cover first second f1 f2 m rows) e = tt
 within-all (Table.single-delta cover d) e = tt
 within-all (Table.single-list cover subs) e = tt
 
@@ -76,6 +78,7 @@ all-within (Table.by-class chained cover b i a sets) h = all-sets indexesBelow s
 all-within (Table.by-cover chained b i a rs) h = h
 all-within (Table.ligatures cover sets) h = refl
 all-within (Table.pairs-of cover f1 f2 sets) h = refl
+all-within (Table.class-pairs cover first second f1 f2 m rows) h = refl
 all-within (Table.single-delta cover d) h = refl
 all-within (Table.single-list cover subs) h = refl
 
@@ -90,6 +93,7 @@ names-all n (Table.by-class chained cover b i a sets) e = sets-all (λ k rs. nam
 names-all n (Table.by-cover chained b i a rs) e = e
 names-all n (Table.ligatures cover sets) e = tt
 names-all n (Table.pairs-of cover f1 f2 sets) e = tt
+names-all n (Table.class-pairs cover first second f1 f2 m rows) e = tt
 names-all n (Table.single-delta cover d) e = tt
 names-all n (Table.single-list cover subs) e = tt
 
@@ -100,6 +104,7 @@ all-names n (Table.by-class chained cover b i a sets) h = all-sets (λ k rs. nam
 all-names n (Table.by-cover chained b i a rs) h = h
 all-names n (Table.ligatures cover sets) h = refl
 all-names n (Table.pairs-of cover f1 f2 sets) h = refl
+all-names n (Table.class-pairs cover first second f1 f2 m rows) h = refl
 all-names n (Table.single-delta cover d) h = refl
 all-names n (Table.single-list cover subs) h = refl
 
@@ -149,6 +154,7 @@ module _ (P : Told → Type 0) where
       step false = tt
   match-told (Table.ligatures cover sets) h before x after = tt
   match-told (Table.pairs-of cover f1 f2 sets) h before x after = tt
+  match-told (Table.class-pairs cover first second f1 f2 m rows) h before x after = tt
   match-told (Table.single-delta cover d) h before x after = tt
   match-told (Table.single-list cover subs) h before x after = tt
 
@@ -240,6 +246,11 @@ module _ (P Q : Told → Type 0) (l : List (ℕ × ℕ)) (f : (t : Told) → P t
   no-pair f1 f2 [] = tt
   no-pair f1 f2 (k ∷ ks) = tt
 
+  no-class-pair : (g h cs ds : List (ℕ × ℕ)) (f1 f2 : ℕ) (rows : List (List Pair)) → Opt (RulesAll Q) (keptClassPairs g h cs ds f1 f2 rows)
+  unfolding keptClassPairs
+  no-class-pair g [] cs ds f1 f2 rows = tt
+  no-class-pair g (e ∷ h) cs ds f1 f2 rows = tt
+
   no-single : (es : List (ℕ × ℕ)) → Opt (RulesAll Q) (keptSingles es)
   unfolding keptSingles
   no-single [] = tt
@@ -269,6 +280,10 @@ module _ (P Q : Told → Type 0) (l : List (ℕ × ℕ)) (f : (t : Told) → P t
   cut-told g (Table.ligatures (some cov) sets) h = no-ligature (keptSets (cutLigatures g) g cov sets)
   cut-told g (Table.pairs-of none f1 f2 sets) h = tt
   cut-told g (Table.pairs-of (some cov) f1 f2 sets) h = no-pair f1 f2 (keptSets (cutPairs g) g cov sets)
+  cut-told g (Table.class-pairs none first second f1 f2 m rows) h = tt
+  cut-told g (Table.class-pairs (some cov) none second f1 f2 m rows) h = tt
+  cut-told g (Table.class-pairs (some cov) (some cs) none f1 f2 m rows) h = tt
+  cut-told g (Table.class-pairs (some cov) (some cs) (some ds) f1 f2 m rows) h = no-class-pair g (coveredMap g cov) cs ds f1 f2 rows
   cut-told g (Table.single-delta none d) h = tt
   cut-told g (Table.single-delta (some cov) d) h = no-single (keptSubstitutes g (deltaPairs cov d))
   cut-told g (Table.single-list none subs) h = tt

@@ -101,6 +101,7 @@ recordsName n (Table.by-class chained cover b i a sets) = setsName n sets
 recordsName n (Table.by-cover chained b i a records) = namesBelow n records
 recordsName n (Table.ligatures cover sets) = true
 recordsName n (Table.pairs-of cover f1 f2 sets) = true
+recordsName n (Table.class-pairs cover first second f1 f2 m rows) = true
 recordsName n (Table.single-delta cover d) = true
 recordsName n (Table.single-list cover subs) = true
 

@@ -8,6 +8,9 @@ pub const LIMIT: usize = 262144;
 // The highest offset or count that fits a word.
 pub const HIGHEST: usize = 65535;
 
+// The most bytes of a class table whose count fits a word.
+pub const LONGEST: usize = 131076;
+
 // What became of a table: nothing of it survives, its plain layout is over the limit or has an offset or a count that doesn't fit a word, the buffer is shorter than the layout, or it was laid, with the layout's length.
 pub enum Laid {
     Nothing,

@@ -10,7 +10,7 @@ use lib.Dec.{leb, eqb}
 use Rattle.meaning.specs.Words.{word, inside}
 use Rattle.meaning.specs.Parts.{coverageSound, classesSound}
 use Rattle.meaning.specs.Tables.{fieldCount}
-use Rattle.meaning.specs.Fault.{lowest, partFault, faultThrough, coverageFault, classesFault, ruleSound, ruleFault, ligatureFault, setFault, pairSetFault, enough, headerFault, coversFault, contextFault, singleFault, fault}
+use Rattle.meaning.specs.Fault.{lowest, partFault, faultThrough, coverageFault, classesFault, ruleSound, ruleFault, ligatureFault, setFault, pairSetFault, enough, headerFault, coversFault, contextFault, pairFault, singleFault, fault}
 use Rattle.laws.specs.ReadsBack.{fault-is}
 
 -- a place, where there is one, is not past twice the highest offset
@@ -87,13 +87,20 @@ module _ (s : List ℕ) (bytes : (i : ℕ) → getD s i 0 < 256) where
       near-cond (eqb (word s 0) 1) (near-header (enough s (word s 4)) 0 4 _ sets)
       (near-cond (eqb (word s 0) 2) (near-cond chained (near-header true 3 10 _ sets) (near-header true 1 6 _ sets)) (near-covers chained))
 
+  near-pairs : Near (pairFault s)
+  unfolding pairFault pairSetFault
+  near-pairs =
+      near-cond (eqb (word s 0) 1)
+      (near-header _ 0 8 (pairSetFault (fieldCount (word s 4)) (fieldCount (word s 6)) s) (λ p h. near-part p _ (omega arith) near-none))
+      (near-part 0 _ (omega arith) (near-lowest _ _ (near-coverages 2 1) (near-classes 8 2)))
+
   near-single : Near (singleFault s)
   unfolding singleFault
   near-single = near-part 0 _ (omega arith) (near-coverages 2 1)
 
   -- the place of a source's lowest fault, if it has one
   near-fault : (kind : ℕ) → Near (fault kind s)
-  unfolding ligatureFault pairSetFault
+  unfolding ligatureFault
   near-fault kind =
       rw (fault-is kind s)
       (near-part 0 (inside s 0 2) (omega arith)
@@ -101,9 +108,7 @@ module _ (s : List ℕ) (bytes : (i : ℕ) → getD s i 0 < 256) where
       (near-cond (eqb kind 2) (near-context true)
       (near-cond (eqb kind 3)
       (near-header (enough s (word s 4)) 0 4 _ (near-set (ligatureFault s) (λ p h. near-part p _ h near-none)))
-      (near-cond (eqb kind 4)
-      (near-header _ 0 8 (pairSetFault (fieldCount (word s 4)) (fieldCount (word s 6)) s) (λ p h. near-part p _ (omega arith) near-none))
-      near-single)))))
+      (near-cond (eqb kind 4) near-pairs near-single)))))
 
   pub place-near : (kind : ℕ) → Option·getD (fault kind s) 0 ≤ 131070
   place-near kind = near-fault kind .most

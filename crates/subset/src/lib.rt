@@ -54,14 +54,14 @@ fn good_kind(kind: usize) -> bool
     kind <= 5
 }
 
-// The last format of a kind: 3 for contexts, 1 for ligatures and pairs, 2 for single substitutions.
+// The last format of a kind: 3 for contexts, 1 for ligatures, 2 for pairs and single substitutions.
 fn last_format(kind: usize) -> usize
     ensures { λ r. ⌜ r ≡ lastFormat kind ⌝ }
 {
     if kind <= 2 {
         return 3;
     }
-    if kind <= 4 {
+    if kind == 3 {
         return 1;
     }
     2

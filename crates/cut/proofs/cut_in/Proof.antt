@@ -22,8 +22,8 @@ ligatures-requires c κs =
     let a = c .before .before .before .before .before .before .before .before .before .before in
     asks-ligatures (a .args .kind) (a .args .src .now) (a .pre) (omega arith)
 
-pairs-requires : tie.Need-pairs-requires
-pairs-requires c κs =
+pairs-in-requires : tie.Need-pairs-in-requires
+pairs-in-requires c κs =
     let a = c .before .before .before .before .before .before .before .before .before .before in
     asks-pairs (a .args .kind) (a .args .src .now) (a .pre) (omega arith)
 
@@ -54,7 +54,7 @@ returns-4 : tie.Need-returns-4
 returns-4 c =
     let k = c .before .before .before .before .before .before in
     let a = k .before .before .before .before .before .before .before .before .before .before .before .args in
-    tries-pairs (a .kind) (a .src .now) (mapEntries (a .glyphs .now)) (mapEntries (a .lookups .now)) (length (a .t .now)) (length (a .area .now)) (k .pairs .result) (a .out .now) (k .pairs .last .1 .1 .1 .1 .0) (omega arith) (k .pairs .ensures)
+    tries-pairs (a .kind) (a .src .now) (mapEntries (a .glyphs .now)) (mapEntries (a .lookups .now)) (length (a .t .now)) (length (a .area .now)) (k .pairs-in .result) (a .out .now) (k .pairs-in .last .1 .1 .1 .1 .0) (omega arith) (k .pairs-in .ensures)
 
 returns-5 : tie.Need-returns-5
 returns-5 c =
@@ -69,7 +69,7 @@ cut-in-spec =
     context-in-requires
     context-in-requires-2
     ligatures-requires
-    pairs-requires
+    pairs-in-requires
     singles-requires
     (λ c. search needs)
     (λ c. search needs)

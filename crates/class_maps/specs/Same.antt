@@ -19,9 +19,6 @@ pub record Same (from to : ℕ) (t u : List ℕ) : Type 0 where
 
 pub kept-same : {at : ℕ} {t u : List ℕ} → Kept at t u → Same 0 at t u
 kept-same k = record { size = k .size; each = λ i l h. k .same i h }
-
-pub before-same : {from to : ℕ} {t u : List ℕ} → Elsewhere from to t u → Same 0 from t u
-before-same k = record { size = k .size; each = λ i l h. k .before i h }
 
 pub after-same : {from to : ℕ} (end : ℕ) {t u : List ℕ} → Elsewhere from to t u → Same to end t u
 after-same end k = record { size = k .size; each = λ i l h. k .after i l }

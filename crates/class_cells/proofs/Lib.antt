@@ -1,0 +1,2 @@
+pub mod Using
+pub mod Writing

@@ -1,0 +1,3 @@
+pub mod Stretching
+pub mod Between
+pub mod Counting

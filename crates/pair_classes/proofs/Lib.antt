@@ -1,0 +1,4 @@
+pub mod Siding
+pub mod Laying
+pub mod Kept
+pub mod Cutting

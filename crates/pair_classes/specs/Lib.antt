@@ -1,0 +1,4 @@
+pub mod Kerning
+pub mod Sides
+pub mod Laying
+pub mod Cutting
