@@ -15,7 +15,7 @@ use Rattle.meaning.specs.Matching.{atPlace, match, ligate, adjust, secondFormat
 use Rattle.laws.specs.Stands.{All}
 use Rattle.promises.specs.Strings.{Retained, new}
 use Rattle.promises.specs.Ligatures.{Closed}
-use Rattle.promises.specs.Singles.{SubstituteRetained, Closes}
+use Rattle.promises.specs.Singles.{SubstituteRetained, SubstitutesRetained}
 use Rattle.promises.specs.Survives.{isRetained, classSurvives, glyphRuleSurvives, classRuleSurvives, setKept, coverageSurvives, ligatureSurvives, pairSurvives, substituteSurvives, survives}
 use Rattle.promises.specs.Walks.{walk}
 use Rattle.promises.specs.Refusals.{Call, answer}
@@ -155,7 +155,7 @@ module _ (c d : Call) (more : KeepsMore c d) where
 
     -- `same-substitutes`: both give a glyph that the first map retains the same substitute of the source, each under its own new number, or none,
     -- if under both maps each retained glyph has a retained substitute.
-    pub same-substitutes : c .kind ≡ 5 → Closes g (says c) → Closes h (says c) → (x : ℕ) → Retained g x
+    pub same-substitutes : c .kind ≡ 5 → SubstitutesRetained g (says c) → SubstitutesRetained h (says c) → (x : ℕ) → Retained g x
         → Alike (SameSubstitute g h (substitute (says c) x)) (substitute (small-says c) (new g x)) (substitute (small-says d) (new h x))
     same-substitutes k closed-c closed-d x rx = Both.substitutes-more c d more bytes-c bytes-d kept-c kept-d k x rx (closed-c x rx)
 
