@@ -1,0 +1,11 @@
+pub mod Wider
+pub mod Records
+pub mod Alike
+pub mod Formed
+pub mod OneClosed
+pub mod Fields
+pub mod Cells
+pub mod Formats
+pub mod Both
+pub mod Needed
+pub mod Promises
