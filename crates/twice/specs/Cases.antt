@@ -2,7 +2,7 @@
 use Prim.Native.Nat.{ℕ}
 use mathlib.Core.Path.{_≡_, refl}
 use mathlib.Core.List.{List, [], _∷_, map}
-use lib.ListN.{replicate}
+use lib.ListN.{take, replicate}
 use Rattle.meaning.specs.Words.{flat}
 use Rattle.meaning.specs.Tables.{table}
 use Rattle.meaning.specs.Subset.{subset, left}
@@ -159,6 +159,15 @@ differs = refl
 pub each-double : map done doubles ≡ map stated doubles
 unfolding p1 by-class doubles combined mapBytes combinedMap subset
 each-double = refl
+
+-- what the identity without lookups leaves of what the first call leaves
+abbrev pub without-lookups : Double → ℕ × List ℕ
+without-lookups d = called (d .kind) (first d .1) (identityMap (flat (d .glyphs))) []
+
+-- P1, cut: its record is lost
+pub record-lost : map without-lookups (take 1 doubles) ≡ map (λ ws. (0, flat ws)) ((1 ∷ 28 ∷ 2 ∷ 10 ∷ 20 ∷ 1 ∷ 4 ∷ 2 ∷ 0 ∷ 3 ∷ 1 ∷ 4 ∷ 1 ∷ 0 ∷ 1 ∷ 2 ∷ 1 ∷ 2 ∷ []) ∷ [])
+unfolding p1 by-class doubles mapBytes same identityMap subset
+record-lost = refl
 
 pub each-again : map again doubles ≡ map first doubles
 unfolding p1 by-class doubles mapBytes same identityMap lookupsOf ordered identityLookups subset

@@ -4,8 +4,8 @@ use Prim.Native.Nat.{ℕ, _≤_}
 use mathlib.Core.Path.{_≡_, refl, sym, ap, _∙_}
 use mathlib.Core.Bool.{true}
 use mathlib.Core.Option.{Option, some}
-use mathlib.Core.List.{List, _++_, map}
-use lib.ListN.{length, drop}
+use mathlib.Core.List.{List, [], _∷_, _++_, map}
+use lib.ListN.{length, take, drop}
 use lib.Seq.{take-at}
 use Rattle.meaning.specs.Words.{flat, ascends, keys, values, member, bind}
 use Rattle.meaning.specs.Maps.{mapEntries, goodGlyphs, goodLookups}
@@ -29,7 +29,7 @@ use Rattle.twice.specs.Identity.{cut-same}
 use Rattle.twice.specs.Written.{glyphs-written, combined-good, combined-lookups, same-good}
 use Rattle.twice.specs.Lookups.{good-names, own-good, own-identity, own-all}
 use Rattle.twice.specs.Calls.{left-plain, left-kind, left-source, left-fits}
-use Rattle.twice.specs.Cases.{Done, doubles, done, stated, each-double, first, again, each-again, beyond, beyond-single, differs}
+use Rattle.twice.specs.Cases.{Done, doubles, done, stated, each-double, first, again, each-again, beyond, beyond-single, differs, without-lookups, record-lost}
 
 -- `cases`: worked cases, by computation: the combined maps, and the answers of the second call and of the single one.
 pub cases : map done doubles ≡ map stated doubles
@@ -181,8 +181,12 @@ module _ (c : Call) (bytes : BytesOf c) (first-kept : (answer c) .number ≡ 0) 
       let n = good-names (small-says c) (left-kind c bytes first-kept .0) in
       record { good = own-good (small-says c) n; identity = own-identity (small-says c) n; each = own-all (small-says c) n }
 
--- The condition is needed.
+-- The conditions are needed.
 
 -- `within-needed`: each old id of the second glyph map must be a new id of the first. Else it may hold class 0 in what is cut, where the single call does not know it: the bytes left differ.
 pub within-needed : ((done beyond) .second ≡ (0, flat (beyond .words))) × ((done beyond) .single ≡ (0, flat beyond-single))
 within-needed = (ap (λ (x : Done). x .second) differs, ap (λ (x : Done). x .single) differs)
+
+-- `all-lookups-needed`: an identity lookup map must have each lookup that the cut table names. Else records are lost, as of P1.
+pub all-lookups-needed : map without-lookups (take 1 doubles) ≡ map (λ ws. (0, flat ws)) ((1 ∷ 28 ∷ 2 ∷ 10 ∷ 20 ∷ 1 ∷ 4 ∷ 2 ∷ 0 ∷ 3 ∷ 1 ∷ 4 ∷ 1 ∷ 0 ∷ 1 ∷ 2 ∷ 1 ∷ 2 ∷ []) ∷ [])
+all-lookups-needed = record-lost
