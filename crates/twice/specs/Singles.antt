@@ -8,7 +8,7 @@ use lib.Dec.{eqb}
 use borrow.Author.Tests.{eqb-true}
 use Rattle.meaning.specs.Words.{keys, values, every, find, bind, push, mapSome}
 use Rattle.meaning.specs.Tables.{Table, deltaPairs, listPairs}
-use Rattle.meaning.specs.Cut.{keptSubstitutes, deltaOf, keptSingles, cut}
+use Rattle.meaning.specs.Cut.{keptSubstitutes, deltaOf, agree, keptSingles, cut}
 use Rattle.laws.specs.Stands.{All, all-map, Word}
 use Rattle.laws.specs.Through.{Opt}
 use Rattle.laws.specs.SetsBack.{Words2}
@@ -39,19 +39,19 @@ cut-list g l cov subs = refl
 
 -- what is kept, as a table, says the pairs that were kept
 kept-says : (g l ks : List (ℕ × ℕ)) → All Words2 ks → bind (keptSingles ks) (cut g l) ≡ keptSingles (keptSubstitutes g ks)
-unfolding bind keptSingles keptSubstitutes mapSome
+unfolding bind agree keptSingles keptSubstitutes mapSome
 kept-says g l [] w = refl
 kept-says g l (e ∷ r) w = go (every (λ x. eqb (deltaOf x) (deltaOf e)) r) refl
   where
     ks : List (ℕ × ℕ)
     ks = e ∷ r
 
-    agree : every (λ x. eqb (deltaOf x) (deltaOf e)) r ≡ true → All (λ x. deltaOf x ≡ deltaOf e) ks
-    agree h = (refl, all-map (λ (x : ℕ × ℕ). eqb (deltaOf x) (deltaOf e) ≡ true) (λ x. deltaOf x ≡ deltaOf e) (λ x p. eqb-true (deltaOf x) (deltaOf e) p) r (all-every (λ x. eqb (deltaOf x) (deltaOf e)) r h))
+    alike : every (λ x. eqb (deltaOf x) (deltaOf e)) r ≡ true → All (λ x. deltaOf x ≡ deltaOf e) ks
+    alike h = (refl, all-map (λ (x : ℕ × ℕ). eqb (deltaOf x) (deltaOf e) ≡ true) (λ x. deltaOf x ≡ deltaOf e) (λ x p. eqb-true (deltaOf x) (deltaOf e) p) r (all-every (λ x. eqb (deltaOf x) (deltaOf e)) r h))
 
     go : (b : Bool) → every (λ x. eqb (deltaOf x) (deltaOf e)) r ≡ b
         → cut g l (cond b (Table.single-delta (some (keys ks)) (deltaOf e)) (Table.single-list (some (keys ks)) (values ks))) ≡ keptSingles (keptSubstitutes g ks)
-    go true h = cut-delta g l (keys ks) (deltaOf e) ∙ ap (λ (es : List (ℕ × ℕ)). keptSingles (keptSubstitutes g es)) (delta-is (deltaOf e) ks w (agree h))
+    go true h = cut-delta g l (keys ks) (deltaOf e) ∙ ap (λ (es : List (ℕ × ℕ)). keptSingles (keptSubstitutes g es)) (delta-is (deltaOf e) ks w (alike h))
     go false h = cut-list g l (keys ks) (values ks) ∙ ap (λ (es : List (ℕ × ℕ)). keptSingles (keptSubstitutes g es)) (list-is ks)
 
 module _ (g₁ g₂ g : List (ℕ × ℕ)) (e : Then (find g₁) (find g₂) (find g)) where
