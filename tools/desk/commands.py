@@ -26,6 +26,17 @@ def add_make(command):
     add("-o", "--output", metavar="OUT", help="the file to write; standard output if not given")
 
 
+def add_combine(command):
+    add = command("combine", job_commands.combine,
+                  "Makes one job of two, the second of which cuts what the first keeps. If the first keeps something, "
+                  "the one job's answer is the second's, with the same bytes.",
+                  "tools/job combine region.job label.job | ./label").add_argument
+    add("first", metavar="FIRST", help="the job that comes first; the one job has its table")
+    add("second", metavar="SECOND", help="the job on what the first keeps; its table is not looked at. Each old id of "
+        "its glyph map has to be a new id of the first's")
+    add("-o", "--output", metavar="OUT", help="the file to write; standard output if not given")
+
+
 def add_show(command):
     add = command("show", job_commands.show,
                   "Shows a job file's parts, maps and table, or a subtable alone, field by field; a line marked ! says "
@@ -116,7 +127,7 @@ def arguments(given):
         one.set_defaults(run=run)
         return one
 
-    for add in (add_make, add_show, add_read, add_lookups, add_from_font, add_font):
+    for add in (add_make, add_combine, add_show, add_read, add_lookups, add_from_font, add_font):
         add(command)
     return parser.parse_args(given)
 

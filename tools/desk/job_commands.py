@@ -1,7 +1,7 @@
-"""The commands of tools/job that take and make job files: make, show and read."""
+"""The commands of tools/job that take and make job files: make, combine, show and read."""
 import re, sys
 from .answers import AFTER_THE_CUT, ANSWERS, KINDS
-from .jobs import EXAMPLE, build_job, map_bytes, map_text, new_ids, parts_of, split_job
+from .jobs import EXAMPLE, build_job, combined, map_bytes, map_entries, map_text, new_ids, parts_of, split_job
 from .judge import complaints, source_complaints
 from .prose import print_reasons, print_table, say
 from .tables import coverages, decode, tally
@@ -26,6 +26,32 @@ def write_job(output, data):
         print(f"tools/job: warning: the program will answer `refused {found[0][0]}`", file=sys.stderr)
         print_reasons(found, file=sys.stderr)
     write_bytes(output or sys.stdout.fileno(), data)
+
+
+def combine(args):
+    write_job(args.output, one_job(*(read_bytes(name) for name in (args.first, args.second))))
+
+
+def one_job(*pair):
+    """The job that cuts at once what two jobs cut one after the other, the second of them what the first keeps."""
+    first, second = (with_good_maps(data, which) for data, which in zip(pair, ("first", "second")))
+    if first["kind"] != second["kind"]:
+        raise Trouble(f"the first job is of kind {first['kind']} and the second of {second['kind']}; a cut keeps the kind")
+    (table, *maps), (_, *then) = parts_of(first), parts_of(second)
+    known = set(new_ids(first).values())
+    unknown = [(old, old) for old, _ in map_entries(then[0]) if old not in known]
+    if unknown:
+        raise Trouble("the second glyph map has old ids that are no new ids of the first: "
+                      + ranges_text(joined(unknown)))
+    return build_job(first["kind"], table, *map(combined, maps, then))
+
+
+def with_good_maps(data, which):
+    job = split_job(data)
+    found = [text for answer, text in complaints(job) if answer in (11, 2, 3)]
+    if found:
+        raise Trouble(f"the {which} job: {found[0]}")
+    return job
 
 
 def show(args):

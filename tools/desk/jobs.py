@@ -45,6 +45,12 @@ def map_text(data):
     return " ".join(f"{ranges_text([(run[0][0], run[-1][0])])}:{run[0][1]}" for run in runs)
 
 
+def combined(first, second):
+    """The map that does at once what two good maps do one after the other."""
+    then = dict(map_entries(second))
+    return entry_bytes((old, then[new]) for old, new in map_entries(first) if new in then)
+
+
 def map_faults(name, data, columns):
     if len(data) % 4:
         yield f"the {name} has {len(data)} bytes, not a multiple of 4"
@@ -59,6 +65,11 @@ def build_job(kind, *parts):
     starts = itertools.accumulate(map(len, parts), initial=0)
     spans = b"".join(struct.pack(">II", start, len(part)) for start, part in zip(starts, parts))
     return b"".join(parts) + struct.pack(">H", kind) + spans + TAG
+
+
+def call_job(call):
+    """The job file of a stored call (tools/run_vectors)."""
+    return build_job(call["kind"], *(bytes.fromhex(call[part]) for part in ("source", "gmap", "lmap")))
 
 
 def split_job(data):

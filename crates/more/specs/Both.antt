@@ -9,7 +9,7 @@ use lib.ListN.{length, take, drop}
 use lib.Dec.{ltb}
 use borrow.Author.Tests.{not-true, not-false}
 use Rattle.meaning.specs.Words.{bind, values}
-use Rattle.meaning.specs.Maps.{mapEntries, goodGlyphs, goodLookups}
+use Rattle.meaning.specs.Maps.{mapEntries}
 use Rattle.meaning.specs.Tables.{Table, table}
 use Rattle.meaning.specs.Cut.{cut}
 use Rattle.meaning.specs.Matching.{atPlace, match, ligate, adjust, secondFormat, skips, substitute}
@@ -27,6 +27,7 @@ use Rattle.promises.specs.Singles.{SubstituteRetained}
 use Rattle.promises.specs.Survives.{survives}
 use Rattle.promises.specs.Walks.{walk}
 use Rattle.promises.specs.Refusals.{Call, answer, plain, plainWords, refusals, first, NoneOf, answer-meets, given-exactly, kept-exactly}
+use Rattle.promises.specs.Tested.{GoodMaps, tests, tested, kept-tested}
 use Rattle.promises.specs.Promises.{BytesOf, says, small-says, reads-back, context-same, ligature-same, pair-same, pair-skipped, single-same, walk-same}
 use Rattle.more.specs.Wider.{Wider, table-also}
 use Rattle.more.specs.Records.{records-within}
@@ -49,19 +50,13 @@ pub record KeepsMore (c d : Call) : Type 0 where
   pub glyphs : Wider (glyphMap c) (glyphMap d)
   pub lookups : Wider (lookupMap c) (lookupMap d)
 
--- a call's maps are good: neither 2 nor 3 applies
-pub record GoodMaps (c : Call) : Type 0 where
-  pub glyphs : goodGlyphs (c .glyphs) ≡ true
-  pub lookups : goodLookups (c .lookups) ≡ true
-
 -- something survives and is laid out: it is kept (0), too big (9) or there is no room for it (10)
 abbrev pub LaidOut : ℕ → Type 0
 LaidOut n = (n ≡ 0) ⊎ ((n ≡ 9) ⊎ (n ≡ 10))
 
 -- the refusals before 8 that do not look at a map are the same for calls on one source
 tests-same : (c d : Call) → d .kind ≡ c .kind → d .source ≡ c .source → NoneOf (take 8 (refusals c)) → GoodMaps d → NoneOf (take 8 (refusals d))
-unfolding refusals
-tests-same c d k s (n1, (n2, (n3, late))) m = rw (k, s) (n1, (ap not (m .glyphs), (ap not (m .lookups), late)))
+tests-same c d k s n m = tested d (rw (k, s) (tests c n .0)) m
 
 -- refused as empty: nothing survives, and no refusal before 8 applies; and the other way round
 empty-is : (c : Call) → (answer c) .number ≡ 8 → (not (survives (glyphMap c) (says c)) ≡ true) × NoneOf (take 8 (refusals c))
@@ -72,12 +67,10 @@ is-empty : (c : Call) → not (survives (glyphMap c) (says c)) ≡ true → None
 unfolding refusals
 is-empty c e n = given-exactly c (take 8 (refusals c)) 8 (not (survives (glyphMap c) (says c))) (drop 9 (refusals c)) refl .1 e n
 
--- kept: something survives, and no refusal before 8 applies
-kept-is : (c : Call) → (answer c) .number ≡ 0 → (survives (glyphMap c) (says c) ≡ true) × NoneOf (take 8 (refusals c))
+-- kept: something survives
+kept-survives : (c : Call) → (answer c) .number ≡ 0 → survives (glyphMap c) (says c) ≡ true
 unfolding refusals
-kept-is c k =
-    let (n1, (n2, (n3, (n4, (n5, (n6, (n7, (n12, (n8, late))))))))) = kept-exactly c .0 k in
-    (not-false _ n8, (n1, (n2, (n3, (n4, (n5, (n6, (n7, (n12, tt)))))))))
+kept-survives c k = let (n1, (n2, (n3, (n4, (n5, (n6, (n7, (n12, (n8, late))))))))) = kept-exactly c .0 k in not-false _ n8
 
 module _ (c d : Call) (more : KeepsMore c d) where
   -- both read one table
@@ -89,14 +82,14 @@ module _ (c d : Call) (more : KeepsMore c d) where
   survives-more e = rw same-table (table-also (glyphMap c) (glyphMap d) (more .glyphs) (says c) e)
 
   pub never-empty : (answer c) .number ≡ 0 → (answer d) .number ≡ 8 → ⊥
-  never-empty k e = true≢false (sym (survives-more (kept-is c k .0)) ∙ not-true _ (empty-is d e .0))
+  never-empty k e = true≢false (sym (survives-more (kept-survives c k)) ∙ not-true _ (empty-is d e .0))
 
   -- the second is kept, too big or short of room
   pub more-kept : (answer c) .number ≡ 0 → GoodMaps d → LaidOut ((answer d) .number)
   unfolding refusals first
   more-kept k g =
-      let (n1, (n2, (n3, (n4, (n5, (n6, (n7, (n12, u)))))))) = tests-same c d (more .kind) (more .source) (kept-is c k .1) g in
-      rw (answer-meets d .number, n1, n2, n3, n4, n5, n6, n7, n12, survives-more (kept-is c k .0))
+      let (n1, (n2, (n3, (n4, (n5, (n6, (n7, (n12, u)))))))) = tests-same c d (more .kind) (more .source) (kept-tested c k) g in
+      rw (answer-meets d .number, n1, n2, n3, n4, n5, n6, n7, n12, survives-more (kept-survives c k))
       (step (tooBig (plainWords d)) (ltb (length (d .buffer)) (length (plain d))))
     where
       step : (big short : Bool) → LaidOut (cond big 9 (cond short 10 0))
@@ -131,11 +124,11 @@ module _ (c d : Call) (more : KeepsMore c d) (bytes-c : BytesOf c) (bytes-d : By
   wider = retained-more g h (more .glyphs)
 
   -- what the second call has passed, its glyph map, and what it leaves of the table that both read
-  tests : Passed (d .kind) (d .source) (d .glyphs) (d .lookups) (d .buffer)
-  tests = passed (d .kind) (d .source) (d .glyphs) (d .lookups) (d .buffer) kept-d
+  passes : Passed (d .kind) (d .source) (d .glyphs) (d .lookups) (d .buffer)
+  passes = passed (d .kind) (d .source) (d .glyphs) (d .lookups) (d .buffer) kept-d
 
   good : GoodMap h
-  good = good-glyphs (d .glyphs) (bytes-d .glyphs) (tests .glyphs-good)
+  good = good-glyphs (d .glyphs) (bytes-d .glyphs) (passes .glyphs-good)
 
   left-d : cut h m (table (d .kind) (d .source)) ≡ some (small-says d)
   left-d = reads-back d bytes-d kept-d .0
@@ -166,7 +159,7 @@ module _ (c d : Call) (more : KeepsMore c d) (bytes-c : BytesOf c) (bytes-d : By
     unfolding bind
     second-forms k closed =
         rw (left-d, same) at
-        (one-closed-forms g h m wider (injective h (up-ascends 0 (values h) (good .new))) (d .kind) (more .kind ∙ k) (d .source) (tests .sound) (rw same closed) string i r)
+        (one-closed-forms g h m wider (injective h (up-ascends 0 (values h) (good .new))) (d .kind) (more .kind ∙ k) (d .source) (passes .sound) (rw same closed) string i r)
 
     pub ligatures-more : c .kind ≡ 3 → Closed g (says c) → Alike (SameLigature g h formed)
         (atPlace (λ before x after. ligate (small-says c) x after) [] (map (new g) string) i) (atPlace (λ before x after. ligate (small-says d) x after) [] (map (new h) string) i)

@@ -3,7 +3,7 @@
 -- A reader who believes the definitions of `meaning` and the statements of `promises` needs of this crate what stands here and
 -- `Then`, `Also`, `Wider`, `slotKept`, `firstClassKept`, `secondClassKept` and `cellSurvives` (Wider.antt), `fieldSurvives` (Fields.antt), `cellFieldSurvives` (Cells.antt),
 -- `fieldStays`, `StandIn`, `KeepsFields` and `MoreFields` (Formats.antt), `Alike`, `SameMatch`, `SameLigature` and `SameSubstitute` (Alike.antt),
--- `KeepsMore`, `GoodMaps` and `LaidOut` (Both.antt), each a few lines. Needed.antt has the smallest calls that show that each condition is needed.
+-- `KeepsMore` and `LaidOut` (Both.antt), and `GoodMaps` (Tested.antt in `promises`), each a few lines. Needed.antt has the smallest calls that show that each condition is needed.
 use Prim.Native.Nat.{ℕ}
 use mathlib.Core.Path.{_≡_}
 use mathlib.Core.Bool.{Bool}
@@ -19,6 +19,7 @@ use Rattle.promises.specs.Singles.{SubstituteRetained, SubstitutesRetained}
 use Rattle.promises.specs.Survives.{isRetained, classSurvives, glyphRuleSurvives, classRuleSurvives, setKept, coverageSurvives, ligatureSurvives, pairSurvives, substituteSurvives, survives}
 use Rattle.promises.specs.Walks.{walk}
 use Rattle.promises.specs.Refusals.{Call, answer}
+use Rattle.promises.specs.Tested.{GoodMaps}
 use Rattle.promises.specs.Promises.{BytesOf, says, small-says}
 use Rattle.more.specs.Wider as Wide
 use Rattle.more.specs.Wider.{Also, Wider, slotKept, firstClassKept, secondClassKept, cellSurvives}
@@ -26,7 +27,7 @@ use Rattle.more.specs.Formats as Formats
 use Rattle.more.specs.Formats.{firstFormat, firstStays, secondStays, StandIn, KeepsFields, MoreFields}
 use Rattle.more.specs.Alike.{Alike, SameMatch, SameLigature, SameSubstitute}
 use Rattle.more.specs.Both as Both
-use Rattle.more.specs.Both.{glyphMap, lookupMap, KeepsMore, GoodMaps, LaidOut}
+use Rattle.more.specs.Both.{glyphMap, lookupMap, KeepsMore, LaidOut}
 
 -- What survives under the first glyph map g survives under the second, h: the whole table and each of its parts, in the words of Survives.antt, without `cut`.
 module _ (g h : List (ℕ × ℕ)) (wider : Wider g h) where

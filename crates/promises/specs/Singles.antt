@@ -30,7 +30,7 @@ abbrev pub SubstitutesRetained : List (ℕ × ℕ) → Table → Type 0
 SubstitutesRetained g t = (x : ℕ) → Retained g x → SubstituteRetained g t x
 
 -- the kept pairs, written by a list or by a delta, are these pairs
-list-is : (ks : List (ℕ × ℕ)) → listPairs (keys ks) (values ks) ≡ ks
+pub list-is : (ks : List (ℕ × ℕ)) → listPairs (keys ks) (values ks) ≡ ks
 unfolding listPairs keys values
 list-is [] = refl
 list-is (e ∷ r) = ap (λ (l : List (ℕ × ℕ)). e ∷ l) (list-is r)
@@ -39,7 +39,7 @@ delta-moves : (n m d : ℕ) → Words2 (n, m) → deltaOf (n, m) ≡ d → plusD
 unfolding deltaOf plusDelta
 delta-moves n m d w e = omega arith
 
-delta-is : (d : ℕ) (ks : List (ℕ × ℕ)) → All Words2 ks → All (λ e. deltaOf e ≡ d) ks → deltaPairs (keys ks) d ≡ ks
+pub delta-is : (d : ℕ) (ks : List (ℕ × ℕ)) → All Words2 ks → All (λ e. deltaOf e ≡ d) ks → deltaPairs (keys ks) d ≡ ks
 unfolding deltaPairs keys
 delta-is d [] w h = refl
 delta-is d (e ∷ r) w h = ap₂ (λ (m : ℕ) (l : List (ℕ × ℕ)). (e .0, m) ∷ l) (delta-moves (e .0) (e .1) d (w .0) (h .0)) (delta-is d r (w .1) (h .1))
