@@ -87,6 +87,7 @@ table-named many (Table.by-class chained cover b i a sets) = sets-named many set
 table-named many (Table.by-cover chained b i a records) = records-named many records
 table-named many (Table.ligatures cover sets) = refl
 table-named many (Table.pairs-of cover f1 f2 sets) = refl
+table-named many (Table.class-pairs cover first second f1 f2 m rows) = refl
 table-named many (Table.single-delta cover d) = refl
 table-named many (Table.single-list cover subs) = refl
 

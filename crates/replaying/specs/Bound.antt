@@ -163,6 +163,7 @@ module _ (steps : List ℕ) where
       step false = tt
   match-under (Table.ligatures cover sets) before g after = tt
   match-under (Table.pairs-of cover f1 f2 sets) before g after = tt
+  match-under (Table.class-pairs cover first second f1 f2 m rows) before g after = tt
   match-under (Table.single-delta cover d) before g after = tt
   match-under (Table.single-list cover subs) before g after = tt
 

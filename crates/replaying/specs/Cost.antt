@@ -50,6 +50,7 @@ tableSteps steps (Table.by-class chained cover b i a sets) = setsSteps steps set
 tableSteps steps (Table.by-cover chained b i a records) = recordSteps steps records
 tableSteps steps (Table.ligatures cover sets) = 0
 tableSteps steps (Table.pairs-of cover f1 f2 sets) = 0
+tableSteps steps (Table.class-pairs cover first second f1 f2 m rows) = 0
 tableSteps steps (Table.single-delta cover d) = 0
 tableSteps steps (Table.single-list cover subs) = 0
 

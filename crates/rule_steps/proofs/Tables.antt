@@ -6,8 +6,8 @@ use mathlib.Core.List.{List}
 use lib.Dec.{eqb}
 use borrow.Author.Tests.{ne-eqb}
 use Rattle.meaning.specs.Words.{word, words, entries}
-use Rattle.meaning.specs.Parts.{coverage}
-use Rattle.meaning.specs.Tables.{Table, fieldCount, reach, reaches, rule, ruleSet, ligatureSet, pairSet, classContext, coverContext, context, table}
+use Rattle.meaning.specs.Parts.{coverage, classes}
+use Rattle.meaning.specs.Tables.{Table, fieldCount, reach, reaches, rule, ruleSet, ligatureSet, pairSet, cellRows, pairTable, single, classContext, coverContext, context, table}
 use Rattle.rules.specs.Parts.{IsRule}
 use Rattle.rules.specs.declared.RuleParts.{RuleParts}
 use Rattle.matching.specs.Rows.{IsCovers}
@@ -45,6 +45,24 @@ module _ (steps s : List ℕ) {t : ℕ} where
     unfolding context
     format-3 f g h = rw (← e, ne-eqb format 1 f, ne-eqb format 2 g) h
 
+-- pairs and single substitutions take no steps
+pairs-taken : (steps s : List ℕ) → 0 ≡ tableSteps steps (pairTable s)
+unfolding pairTable tableSteps
+pairs-taken steps s = step (eqb (word s 0) 1)
+  where
+    step : (b : Bool) → 0 ≡ tableSteps steps (cond b (Table.pairs-of (reach (coverage s) s 0 2) (word s 4) (word s 6) (reaches (pairSet (fieldCount (word s 4)) (fieldCount (word s 6)) s) s 0 10 (word s 8)))
+        (Table.class-pairs (reach (coverage s) s 0 2) (reach (classes s) s 0 8) (reach (classes s) s 0 10) (word s 4) (word s 6) (word s 14) (cellRows s (fieldCount (word s 4)) (fieldCount (word s 6)) (word s 14) 16 (word s 12))))
+    step true = refl
+    step false = refl
+
+singles-taken : (steps s : List ℕ) → 0 ≡ tableSteps steps (single s)
+unfolding single tableSteps
+singles-taken steps s = step (eqb (word s 0) 1)
+  where
+    step : (b : Bool) → 0 ≡ tableSteps steps (cond b (Table.single-delta (reach (coverage s) s 0 2) (word s 4)) (Table.single-list (reach (coverage s) s 0 2) (words s 6 (word s 4))))
+    step true = refl
+    step false = refl
+
 -- a lookup by its kind
 module _ (steps : List ℕ) (kind : ℕ) (s : List ℕ) where
   pub kind-plain : kind ≡ 1 → {t : ℕ} → t ≡ tableSteps steps (context false s) → t ≡ tableSteps steps (table kind s)
@@ -57,15 +75,12 @@ module _ (steps : List ℕ) (kind : ℕ) (s : List ℕ) where
 
   pub kind-other : (kind ≡ 1 → ⊥) → (kind ≡ 2 → ⊥) → 0 ≡ tableSteps steps (table kind s)
   unfolding table tableSteps
-  kind-other a b = rw (ne-eqb kind 1 a, ne-eqb kind 2 b) (step (eqb kind 3) (eqb kind 4) (eqb (word s 0) 1))
+  kind-other a b = rw (ne-eqb kind 1 a, ne-eqb kind 2 b) (step (eqb kind 3) (eqb kind 4))
     where
-      step : (b d e : Bool) → 0 ≡ tableSteps steps (cond b (Table.ligatures (reach (coverage s) s 0 2) (reaches (ligatureSet s) s 0 6 (word s 4)))
-          (cond d (Table.pairs-of (reach (coverage s) s 0 2) (word s 4) (word s 6) (reaches (pairSet (fieldCount (word s 4)) (fieldCount (word s 6)) s) s 0 10 (word s 8)))
-          (cond e (Table.single-delta (reach (coverage s) s 0 2) (word s 4)) (Table.single-list (reach (coverage s) s 0 2) (words s 6 (word s 4))))))
-      step true d e = refl
-      step false true e = refl
-      step false false true = refl
-      step false false false = refl
+      step : (b d : Bool) → 0 ≡ tableSteps steps (cond b (Table.ligatures (reach (coverage s) s 0 2) (reaches (ligatureSet s) s 0 6 (word s 4))) (cond d (pairTable s) (single s)))
+      step true d = refl
+      step false true = pairs-taken steps s
+      step false false = singles-taken steps s
 
 -- a lookup of the list, by its bytes as they were read
 pub source-taken : (steps list buffer : List ℕ) (k : ℕ) {src : List ℕ} {kind t : ℕ} → src ≡ sourceAt list buffer k → kind ≡ word list (10 * k) → t ≡ tableSteps steps (table kind src)
