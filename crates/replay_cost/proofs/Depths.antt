@@ -5,10 +5,9 @@ use mathlib.Core.Bool.{Bool, true, false, cond}
 use mathlib.Core.Option.{Option, none, some}
 use mathlib.Core.List.{List, [], _∷_, _++_, map, append-nil}
 use native.Mathlib.Omega.{arith}
-use lib.ListN.{length, getD, set, drop, take, replicate, length-replicate, length-drop}
-use lib.Seq.{sets, set-out}
-use lib.Dec.{eqb}
-use borrow.Author.Tests.{eq-eqb, ne-eqb}
+use lib.ListN.{length, getD, set, drop, take, length-replicate}
+use lib.Seq.{sets}
+use borrow.Author.Tests.{ne-eqb}
 use Rattle.meaning.specs.Words.{word, isSome}
 use Rattle.meaning.specs.Tables.{Table, table}
 use Rattle.laws.specs.Written.{sets-front}
@@ -17,7 +16,7 @@ use Rattle.replaying.specs.Trace.{runsOf}
 use Rattle.replaying.specs.Applying.{depthLimit}
 use Rattle.replaying.specs.Replay.{Replayed, refusal, replay}
 use Rattle.replaying.specs.Answers.{done-exactly}
-use Rattle.replaying.specs.Cost.{Cost, stepLimit, cutOff, lookupSteps, tableSteps, levelSteps, sumSteps, listSteps, replayCost}
+use Rattle.replaying.specs.Cost.{stepLimit, cutOff, lookupSteps, tableSteps, levelSteps, sumSteps, listSteps, replayCost}
 use Rattle.rule_steps.proofs.Sums.{cut-under, cut-left, cut-right, cut-small}
 use Rattle.names.proofs.Naming.{zeros, many-listed, zeros-part}
 use Rattle.lookup_list.specs.Ready.{sourceAt}

@@ -16,9 +16,9 @@ use Rattle.laws.specs.Through.{Opt}
 use Rattle.laws.specs.CutGood.{opt-bind}
 use Rattle.replaying.specs.Asking.{Answer, answerOf, ask}
 use Rattle.replaying.specs.Listed.{ifSome, lookupsOf}
-use Rattle.replaying.specs.Trace.{Run, runsOf}
-use Rattle.replaying.specs.Applying.{Step, lookupAt, runRecords, act, apply, sweep, depthLimit, sweepAll, inOrder, run}
-use Rattle.replaying.specs.Replay.{refusal, replay, runsIn}
+use Rattle.replaying.specs.Trace.{Run}
+use Rattle.replaying.specs.Applying.{Step, lookupAt, apply, sweep, depthLimit, sweepAll, run}
+use Rattle.replaying.specs.Replay.{replay}
 use Rattle.replaying.specs.Turns.{AsLong, apply-long}
 use Rattle.replaying.specs.Cost.{stepLimit, cutOff, larger, largest, stepsOf, recordSteps, ruleSteps, setsSteps, tableSteps, lookupSteps, levelSteps, sumSteps, listSteps, replayCost}
 

@@ -36,6 +36,7 @@ unfoldable pub recordSteps : List ℕ → List (ℕ × ℕ) → ℕ
 recordSteps steps [] = 0
 recordSteps steps (r ∷ rs) = cutOff (stepsOf steps (r .1) + recordSteps steps rs)
 
+-- so of a rule
 unfoldable pub ruleSteps : List ℕ → Rule → ℕ
 ruleSteps steps r = recordSteps steps (r .records)
 
