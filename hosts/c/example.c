@@ -1,6 +1,6 @@
 /* Cuts the first worked example, P1, and says in words what came back: a
  * context by glyph with three rules, of which the maps leave two. Then replays
- * three recorded runs over one lookup. */
+ * three recorded runs over one lookup, after asking what that may cost. */
 #include <stdio.h>
 #include <stdlib.h>
 #include "gillcurtain.h"
@@ -80,7 +80,10 @@ static const uint8_t trace[] = {
 
 static int replay (void)
 {
-  uint8_t tally[GILLCURTAIN_TALLY];
+  uint8_t tally[GILLCURTAIN_TALLY], steps[GILLCURTAIN_STEPS];
+  uint64_t cost = gillcurtain_replay_cost (list, sizeof list, buffer, sizeof buffer, steps, sizeof steps);
+  printf ("cost: answer %u, at most %u lookups asked for each glyph\n", gillcurtain_replay_number (cost),
+          (unsigned) gillcurtain_stepped (steps));
   uint64_t result = gillcurtain_replay (list, sizeof list, buffer, sizeof buffer, trace, sizeof trace,
                                         tally, sizeof tally);
   printf ("replay: answer %u, %u runs, %u agree, the first that does not is run %u\n",

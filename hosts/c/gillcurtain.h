@@ -146,12 +146,27 @@ enum gillcurtain_replay_answer {
  * The result is the answer times 2^56, plus the place, which is 0 save with
  * GILLCURTAIN_MALFORMED.
  * Lookups that call each other can take more steps than anyone waits for, and
- * none of them is refused: replay a list from an unknown hand under a time
- * limit of your own. */
+ * none of them is refused: ask what a list from an unknown hand may cost, or
+ * replay it under a time limit of your own. */
 uint64_t gillcurtain_replay (const uint8_t *list, size_t list_len,
                              const uint8_t *buffer, size_t buffer_len,
                              const uint8_t *trace, size_t trace_len,
                              uint8_t *tally, size_t tally_len);
+
+/* The bytes of a number of steps, and the number at which it is cut off. */
+#define GILLCURTAIN_STEPS 8u
+#define GILLCURTAIN_MANY_STEPS ((uint64_t) 1 << 63)
+
+/* What a replay over this list may cost, told before any run: the most lookups
+ * that are asked, each at one place, for each glyph that went into the runs.
+ * That is a bound: most runs ask far fewer.
+ * It is written to the front of `steps`, which overlaps none of the others, in
+ * eight bytes; a shorter slice gets what fits. GILLCURTAIN_MANY_STEPS says that
+ * many or more. The result is that of gillcurtain_replay, with its refusals of
+ * the list and its lookups; with a refusal the steps are 0. */
+uint64_t gillcurtain_replay_cost (const uint8_t *list, size_t list_len,
+                                  const uint8_t *buffer, size_t buffer_len,
+                                  uint8_t *steps, size_t steps_len);
 
 static inline unsigned gillcurtain_replay_number (uint64_t result) { return (unsigned) (result >> 56); }
 static inline uint64_t gillcurtain_replay_place (uint64_t result) { return result & 0xFFFFFFFFFFFFFFu; }
@@ -163,6 +178,9 @@ static inline uint64_t gillcurtain_tallied (const uint8_t *tally, unsigned which
   for (unsigned i = 0; i < 8; i++) n = n << 8 | tally[8 * which + i];
   return n;
 }
+
+/* The number of steps. */
+static inline uint64_t gillcurtain_stepped (const uint8_t *steps) { return gillcurtain_tallied (steps, 0); }
 
 static inline unsigned gillcurtain_number (uint64_t result) { return (unsigned) (result >> 32); }
 static inline size_t gillcurtain_length (uint64_t result) { return (size_t) (result & 0xFFFFFFFFu); }

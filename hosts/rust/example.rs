@@ -1,7 +1,8 @@
 //! Cuts the first worked example, P1, and says in words what came back: a context by glyph with
-//! three rules, of which the maps leave two. Then replays three recorded runs over one lookup.
+//! three rules, of which the maps leave two. Then replays three recorded runs over one lookup, after
+//! asking what that may cost.
 
-use gillcurtain::{replay, subset, Answer, Subsetter, CONTEXT};
+use gillcurtain::{replay, replay_cost, subset, Answer, Subsetter, CONTEXT};
 
 const SOURCE: [u16; 28] = [
     1, 48, 2, 10, 36, // format 1, coverage, two sets
@@ -79,6 +80,8 @@ fn main() {
         assert_eq!(cut_with(&mut Subsetter::with_bytes(bytes), &mut other), answer);
         assert_eq!(other, room);
     }
+    let cost = replay_cost(&bytes(&LIST), &bytes(&BUFFER));
+    println!("cost: answer {}, at most {} lookups asked for each glyph", cost.number, cost.steps);
     let told = replay(&bytes(&LIST), &bytes(&BUFFER), &bytes(&TRACE));
     println!(
         "replay: answer {}, {} runs, {} agree, the first that does not is run {}",

@@ -3,7 +3,7 @@
 //! [`subset`] cuts one subtable down to the glyphs and lookups that are kept, or refuses. It asks
 //! the system for nothing, keeps nothing between calls and takes no lock. A [`Subsetter`] does the
 //! same with scratch that it owns: somewhat faster, and with little stack. [`replay`] replays
-//! recorded runs over a list of lookups.
+//! recorded runs over a list of lookups, and [`replay_cost`] says before what that may cost.
 
 use std::fmt;
 
@@ -93,6 +93,19 @@ extern "C" {
         tally: *mut u8,
         tally_len: usize,
     ) -> u64;
+    fn gillcurtain_replay_cost(
+        list: *const u8,
+        list_len: usize,
+        buffer: *const u8,
+        buffer_len: usize,
+        steps: *mut u8,
+        steps_len: usize,
+    ) -> u64;
+}
+
+/// The number that the bytes have, the highest first.
+fn number(bytes: &[u8]) -> u64 {
+    bytes.iter().fold(0, |n, &byte| n << 8 | u64::from(byte))
 }
 
 /// What comes of a replay.
@@ -117,7 +130,8 @@ pub struct Replayed {
 /// All numbers are big-endian.
 ///
 /// Lookups that call each other can take more steps than anyone waits for, and none of them is
-/// refused: replay a list from an unknown hand under a time limit of your own.
+/// refused: ask [`replay_cost`] of a list from an unknown hand, or replay it under a time limit of
+/// your own.
 pub fn replay(list: &[u8], buffer: &[u8], trace: &[u8]) -> Replayed {
     let mut tally = [0u8; 24];
     // SAFETY: as in `subset`; the tally is this call's own.
@@ -133,13 +147,49 @@ pub fn replay(list: &[u8], buffer: &[u8], trace: &[u8]) -> Replayed {
             tally.len(),
         )
     };
-    let tallied = |which: usize| tally[8 * which..][..8].iter().fold(0, |n, &byte| n << 8 | u64::from(byte));
+    let tallied = |which: usize| number(&tally[8 * which..][..8]);
     Replayed {
         number: (result >> 56) as u32,
         place: result & 0xFF_FFFF_FFFF_FFFF,
         runs: tallied(0),
         agreements: tallied(1),
         first: tallied(2),
+    }
+}
+
+/// Where a number of steps is cut off: it says so many or more.
+pub const MANY_STEPS: u64 = 1 << 63;
+
+/// What a replay may cost.
+#[derive(Clone, Copy, Debug, PartialEq, Eq)]
+pub struct Cost {
+    /// 0, or the number of the refusal that [`replay`] would give of the list and its lookups.
+    pub number: u32,
+    /// With 6, where the lowest faulty part of the lookup starts; else 0.
+    pub place: u64,
+    /// The most lookups that are asked, each at one place, for each glyph that went into the runs.
+    pub steps: u64,
+}
+
+/// What a replay over this list may cost, told before any run. That is a bound: most runs ask far
+/// fewer lookups.
+pub fn replay_cost(list: &[u8], buffer: &[u8]) -> Cost {
+    let mut steps = [0u8; 8];
+    // SAFETY: as in `subset`; the steps are this call's own.
+    let result = unsafe {
+        gillcurtain_replay_cost(
+            list.as_ptr(),
+            list.len(),
+            buffer.as_ptr(),
+            buffer.len(),
+            steps.as_mut_ptr(),
+            steps.len(),
+        )
+    };
+    Cost {
+        number: (result >> 56) as u32,
+        place: result & 0xFF_FFFF_FFFF_FFFF,
+        steps: number(&steps),
     }
 }
 

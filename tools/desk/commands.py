@@ -1,6 +1,6 @@
 """What tools/job is asked on the command line."""
 import argparse, sys, textwrap
-from . import font_commands, job_commands
+from . import font_commands, job_commands, text_commands
 from .answers import KINDS
 from .words import Trouble
 
@@ -116,6 +116,23 @@ def add_font(command):
         "of this checkout if not given")
 
 
+def add_replay(command):
+    add = command("replay", text_commands.make_replay,
+                  "Makes a replay file of a list and a trace, which ./replay --help describes.",
+                  "tools/job replay label.list label.trace -o label.replay").add_argument
+    add("list", metavar="LIST", help="the lookups")
+    add("trace", metavar="TRACE", help="the recorded runs")
+    add("-o", "--output", metavar="OUT", help="the file to write; standard output if not given")
+
+
+def add_texts(command):
+    add = command("texts", text_commands.write_texts,
+                  "Writes the list and the trace of a replay file as texts, NAME.list and NAME.trace.",
+                  "tools/job texts label.replay -o label").add_argument
+    add("file", metavar="FILE", help="a replay file, or - for standard input")
+    add("-o", "--output", metavar="NAME", required=True, help="what the two files are called")
+
+
 def arguments(given):
     parser = argparse.ArgumentParser(prog="tools/job", description=DESCRIPTION)
     commands = parser.add_subparsers(required=True, metavar="COMMAND")
@@ -127,7 +144,7 @@ def arguments(given):
         one.set_defaults(run=run)
         return one
 
-    for add in (add_make, add_combine, add_show, add_read, add_lookups, add_from_font, add_font):
+    for add in (add_make, add_combine, add_show, add_read, add_lookups, add_from_font, add_font, add_replay, add_texts):
         add(command)
     return parser.parse_args(given)
 

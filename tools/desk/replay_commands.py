@@ -1,5 +1,5 @@
 """What ./replay is asked on the command line."""
-import argparse, pathlib, re, subprocess, sys, time
+import argparse, pathlib, re, struct, subprocess, sys, time
 from . import walk
 from .answers import ANSWERS, JOB_LIMIT
 from .font_commands import LABEL, Bar, run_label
@@ -45,6 +45,7 @@ def arguments(given):
     add("trace", metavar="TRACE", help="the recorded runs")
     add("--cut", metavar="GLYPHS", help='cut every lookup down to these glyphs, "3:1 5:2" (old:new) or "5-9:100" '
         "(neighbours in step), and replay before and after")
+    add("--cost", action="store_true", help="say first how many lookups a run may ask at most for each of its glyphs")
     add("--seconds", metavar="N", type=float, default=60, help="stop after so many seconds, 60 if not given: a list "
         "whose lookups call each other can take longer than anyone waits for")
     add("--program", metavar="COMMAND", help="the program that replays a file; crates/replay_job if not given")
@@ -72,7 +73,7 @@ class Program:
 
     def __init__(self, args):
         self.command = [args.program] if args.program else [PROVED, "replay_job", "./replay"]
-        self.seconds = args.seconds
+        self.seconds, self.cost = args.seconds, ""
         if not args.program and subprocess.run([PROVED, "--build", *self.command[1:]], check=False).returncode:
             raise Trouble("there is no program to replay with")
         self.end = time.monotonic() + self.seconds
@@ -82,8 +83,7 @@ class Program:
             ran = subprocess.run(self.command, input=file, stdout=subprocess.PIPE, check=False,
                                  timeout=max(0.01, self.end - time.monotonic()))
         except subprocess.TimeoutExpired as late:
-            raise Trouble(f"stopped after {self.seconds:g} s; --seconds gives it longer, and a list whose lookups call "
-                          "each other can take longer than anyone waits for") from late
+            raise Trouble(f"stopped after {self.seconds:g} s; --seconds gives it longer. {self.cost}") from late
         said = ANSWER.fullmatch(ran.stdout.decode("ascii", "replace"))
         if not said:
             raise Trouble(f"{self.command[0]} gave no answer (exit status {ran.returncode})")
@@ -95,6 +95,7 @@ class Program:
         room = FILE_LIMIT - TRAILER - len(entries) - len(buffer)
         if room < 2 + 4 * 64:
             raise Trouble(f"the lookups have {len(buffer)} bytes, and a replay file has {FILE_LIMIT} at most")
+        self.cost = say_cost(lookups)
         bar, told = Bar(len(runs)), Replay()
         for count, piece in pieces(runs, min(room, PIECE)):
             told.add(*self.answer(build_replay(entries, buffer, piece)))
@@ -105,6 +106,15 @@ class Program:
 
 
 # ---- What is said ----
+def say_cost(lookups):
+    """How much there may be to do; nothing of a list that a walk by hand cannot read, which the program refuses."""
+    try:
+        steps = walk.cost([walk.lookup(one.kind, one.data) for one in lookups])
+    except (struct.error, IndexError):
+        return ""
+    return f"A run asks at most {steps:,} lookups for each of its glyphs."
+
+
 def say_tally(title, told):
     if told.number and told.number != TOO_DEEP:
         place = f", in the part at {told.place:#06x}" if told.number == 6 else ""
@@ -194,6 +204,8 @@ def main(given=None):
         lookups, names = read_list(args.list)
         trace = read_trace(args.trace, names)
         program = Program(args)
+        if args.cost and say_cost(lookups):
+            print(say_cost(lookups))
         if args.cut is None:
             return plain(program, lookups, trace)
         return before_and_after(args, program, lookups, trace)

@@ -171,6 +171,41 @@ def split_replay(data):
     return [data[start:start + length] for start, length in zip(numbers[::2], numbers[1::2])]
 
 
+def replay_parts(name, data):
+    """The lookups and the runs of a replay file."""
+    if len(data) < TRAILER or not data.endswith(TAG):
+        raise Trouble(f"{name} is no replay file, which ends in {TAG.decode()}")
+    entries, buffer, trace = split_replay(data)
+    try:
+        listed = list(struct.iter_unpack(">HII", entries))
+        return [Lookup("", kind, buffer[start:start + length]) for kind, start, length in listed], runs_of(trace)
+    except struct.error as fault:
+        raise Trouble(f"{name} has a list that is not of whole entries, or a trace that is cut short") from fault
+
+
+def runs_of(trace):
+    runs, at = [], 0
+    while at < len(trace):
+        count = struct.unpack_from(">H", trace, at)[0]
+        glyphs = struct.unpack_from(f">{2 * count}H", trace, at + 2)
+        runs.append((glyphs[:count], glyphs[count:]))
+        at += 2 + 4 * count
+    return runs
+
+
+# ---- The text forms, written ----
+def list_text(lookups):
+    """A list of lookups by hex words."""
+    for place, one in enumerate(lookups):
+        if not one.data:
+            raise Trouble(f"lookup {place} has no bytes, which a list cannot say")
+    return "".join(f"{one.kind} {one.data.hex(' ', -2).upper()}\n" for one in lookups)
+
+
+def trace_text(runs):
+    return "".join(" ".join([*map(str, given), "->", *map(str, came)]) + "\n" for given, came in runs)
+
+
 def pieces(runs, room):
     """The runs in pieces of whole runs, at most so many bytes each; how many they are, and the bytes."""
     count, piece = 0, b""

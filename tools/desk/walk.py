@@ -88,12 +88,13 @@ def fits(holds, wanted, glyphs):
 
 
 class Context:
-    """Kinds 1 and 2: at a place, the input length and the records of the first rule that fits."""
+    """Kinds 1 and 2: at a place, the input length and the records of the first rule that fits; and each rule's."""
 
     def __init__(self, table, chained):
         form = table.word(0)
         if form == 3:
-            self.rules_of, self.holds = self.covers(table, chained), (holds_coverage,) * 3
+            (self.rules_of, records), self.holds = self.covers(table, chained), (holds_coverage,) * 3
+            self.records = [records]
             return
         cover = table.reach(table.coverage, 0, 2) or {}
         at = 4
@@ -110,6 +111,7 @@ class Context:
             def index(glyph):
                 return inside.get(glyph, 0) if inside is not None and glyph in cover else None
         sets = table.reaches(table.rule_set(chained), 0, at + 2, table.word(at))
+        self.records = [rule[4] for rules in sets for rule in rules or []]
 
         def rules_of(glyph):
             chosen = index(glyph)
@@ -135,7 +137,7 @@ class Context:
         def rules_of(glyph):
             chosen = inside and holds_coverage(inside[0], glyph)
             return [(back, len(inside), inside[1:], ahead, records)] if chosen else []
-        return rules_of
+        return rules_of, records
 
     def match(self, string, place):
         back_holds, holds, ahead_holds = self.holds
@@ -158,6 +160,8 @@ class Context:
 
 class Single:
     """Kind 5: a substitute for each covered glyph."""
+
+    records = ()
 
     def __init__(self, table):
         form, cover = table.word(0), table.reach(table.coverage, 0, 2) or {}
@@ -194,6 +198,15 @@ def run(lookups, given):
         while place < len(string):
             place += max(1, apply(lookups, number, string, place, 1))
     return string
+
+
+def cost(lookups):
+    """The most lookups that a run asks for each of its glyphs: each listed one asks itself and runs one rule's records."""
+    steps = [0] * len(lookups)
+    for _ in range(DEPTH):
+        steps = [1 + max((sum(steps[number] for _, number in records) for records in one.records), default=0)
+                 for one in lookups]
+    return sum(steps)
 
 
 def replay(lookups, runs):

@@ -26,7 +26,7 @@ ghost use Rattle.checks.specs.Parts.{faultOfPart, byGlyphFault, byClassF
 // The places that one offset leads to, and those that two lead to, where rules start: a mark for each says what was visited.
 const PLACES: usize = 65536;
 
-const RULE_PLACES: usize = 131072;
+pub const RULE_PLACES: usize = 131072;
 
 // How many offsets pay for marks: fewer reach 2^26 members at most, which are soon checked.
 const MANY: usize = 2048;
@@ -299,7 +299,7 @@ fn members(src: &[u8], slot: usize, n: usize) -> usize
 }
 
 // Whether these sets have more than one member for each eight bytes of a source of 1,024 to 262,144 bytes, so that they share members or have such as say next to nothing. Then it pays to mark each rule that was asked.
-fn crowded(src: &[u8], slot: usize, n: usize) -> bool
+pub fn crowded(src: &[u8], slot: usize, n: usize) -> bool
     requires { ⌜ (slot < 65536) × (n < 65536) ⌝ }
     ensures { λ r. ⌜ r ≡ crowds (now (src .entry)) slot n ⌝ }
 {

@@ -9,7 +9,7 @@ ghost use Rattle.meaning.specs.Job.{long, bytesOf};
 ghost use Rattle.replaying.specs.Listed.{entryAt, goodEntry, goodList};
 
 // The most lookups of a list.
-const LIST_LIMIT: usize = 16;
+pub const LIST_LIMIT: usize = 16;
 
 // The number of four bytes whose first stands at `at`.
 pub fn long_at(list: &[u8], at: usize) -> usize

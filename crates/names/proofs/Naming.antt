@@ -1,144 +1,109 @@
--- The ways through the records of rules, sets, contexts and lists.
+-- Records that name a listed lookup take no step where the listed ones take none; and the loop over the list.
 use Prim.Native.Nat.{ℕ, zero, suc, _+_, _-_, _*_, _/_, _≤_, _<_}
-use mathlib.Core.Path.{_≡_, refl, sym, ap, _∙_}
-use mathlib.Core.Bool.{Bool, true, false, cond, _&&_, not}
-use mathlib.Core.Option.{none}
-use mathlib.Core.List.{List, map}
+use mathlib.Core.Path.{_≡_, refl, sym, ap, ap₂, _∙_}
+use mathlib.Core.Bool.{Bool, true, false, cond, _&&_}
+use mathlib.Core.Option.{Option}
+use mathlib.Core.List.{List, [], _∷_, map}
 use native.Mathlib.Omega.{arith}
-use native.Mathlib.Nat.{zero-add}
-use lib.ListN.{length}
+use native.Mathlib.Decide.{decLt}
+use lib.ListN.{length, getD, drop, take, replicate, length-replicate, getD-replicate, List·getD-eq-default}
 use lib.Dec.{ltb, eqb}
-use borrow.Author.Tests.{lt-ltb, le-ltb, eq-eqb, ne-eqb, not-true, not-false}
-use Rattle.meaning.specs.Words.{word, words, entries, every}
-use Rattle.meaning.specs.Parts.{coverage, classes}
-use Rattle.meaning.specs.Tables.{Table, fieldCount, reach, reaches, rule, ruleSet, ligatureSet, pairSet, cellRows, pairTable, single, classContext, coverContext, context, table}
-use Rattle.laws.specs.Left.{entries-left, entries-all, entries-none}
-use Rattle.laws.specs.EachLeft.{passes, allPass}
-use Rattle.rules.specs.Parts.{IsRule}
-use Rattle.rules.specs.declared.RuleParts.{RuleParts}
-use Rattle.matching.specs.Rows.{IsCovers}
+use borrow.Author.Tests.{lt-ltb, le-ltb, eq-eqb, ne-eqb}
+use Rattle.meaning.specs.Words.{word, every}
+use Rattle.meaning.specs.Tables.{Rule, Table, dropNull, table}
 use Rattle.replaying.specs.Listed.{entryAt, entriesFrom, listed, sourceOf, lookupOf, lookupsOf, namesBelow, ruleNames, setsName, recordsName, allNamed}
+use Rattle.replaying.specs.Cost.{stepLimit, cutOff, larger, largest, stepsOf, recordSteps, ruleSteps, setsSteps, tableSteps}
+use Rattle.rule_steps.proofs.Sums.{cut-under, cut-over, record-small}
+use Rattle.rule_steps.proofs.Most.{larger-above, larger-first}
 use Rattle.lookup_list.specs.Ready.{sourceAt}
 
--- What the loop over records keeps: whether those that are left name listed lookups is whether all do.
-pub record Below (many : ℕ) (s : List ℕ) (at n i : ℕ) : Type 0 where
-  pub within : i ≤ n
-  pub left : namesBelow many (entries s (at + 4 * i) (n - i)) ≡ namesBelow many (entries s at n)
+-- as many lookups that take no steps
+abbrev pub zeros : ℕ → List ℕ
+zeros n = replicate n 0
 
-module _ {many : ℕ} {s : List ℕ} {at n : ℕ} where
-  pub below-all : Below many s at n 0
-  below-all = record { within = omega arith; left = rw (entries-all s at n) }
-
-  module _ {i w : ℕ} (k : Below many s at n i) (h : i < n) (e : w ≡ word s (at + 4 * i + 2)) where
-    turn : ltb w many && namesBelow many (entries s (at + 4 * (i + 1)) (n - (i + 1))) ≡ namesBelow many (entries s at n)
-    unfolding namesBelow every
-    turn = rw e (rw (entries-left s at n i h) at (k .left))
-
-    pub below-next : w < many → Below many s at n (i + 1)
-    below-next l = record { within = omega arith; left = rw (lt-ltb w many l) at turn }
-
-    -- a record that names none settles it
-    pub below-past : many ≤ w → false ≡ namesBelow many (entries s at n)
-    below-past l = rw (le-ltb w many l) at turn
-
-  pub below-end : {i : ℕ} → Below many s at n i → n ≤ i → true ≡ namesBelow many (entries s at n)
-  unfolding namesBelow every
-  below-end {i} k h = rw (entries-none s (at + 4 * i) n i h) at (k .left)
-
--- What an offset reaches: nothing where it is null, and a rule or a set.
-module _ (many : ℕ) (chained : Bool) (s : List ℕ) (base slot : ℕ) {off : ℕ} (e : off ≡ word s slot) where
-  pub rule-null : off ≡ 0 → true ≡ passes (ruleNames many) (rule chained s) s base slot
-  rule-null z = rw (eq-eqb (word s slot) 0 (sym e ∙ z))
-
-  pub rule-reached : (off ≡ 0 → ⊥) → {r : RuleParts} → IsRule chained s (base + off) r → {b : Bool} → b ≡ namesBelow many (entries s (r .records .at) (r .records .len))
-      → b ≡ passes (ruleNames many) (rule chained s) s base slot
-  unfolding ruleNames
-  rule-reached z k f = rw (ne-eqb (word s slot) 0 (λ q. z (e ∙ q)), ← e) (rw (k .records) at f)
-
-module _ (many : ℕ) (chained : Bool) (s : List ℕ) (slot : ℕ) {set : ℕ} (e : set ≡ word s slot) where
-  pub set-null : set ≡ 0 → true ≡ passes (every (ruleNames many)) (ruleSet chained s) s 0 slot
-  set-null z = rw (eq-eqb (word s slot) 0 (sym e ∙ z))
-
-  pub set-reached : (set ≡ 0 → ⊥) → {n : ℕ} → n ≡ word s set → {b : Bool} → b ≡ allPass (ruleNames many) (rule chained s) s set (set + 2) n
-      → b ≡ passes (every (ruleNames many)) (ruleSet chained s) s 0 slot
-  unfolding ruleSet
-  set-reached z f g = rw (ne-eqb (word s slot) 0 (λ q. z (e ∙ q)), ← e, zero-add set, ← f) g
-
--- A context by its format.
-module _ (many : ℕ) (s : List ℕ) {t : Bool} where
-  pub sets-all : (chained : Bool) (slot n : ℕ) → t ≡ allPass (every (ruleNames many)) (ruleSet chained s) s 0 slot n → t ≡ setsName many (reaches (ruleSet chained s) s 0 slot n)
-  unfolding setsName
-  sets-all chained slot n h = h
-
-  pub covers-all : (chained : Bool) {r : RuleParts} → IsCovers chained s r → t ≡ namesBelow many (entries s (r .records .at) (r .records .len)) → t ≡ recordsName many (coverContext chained s)
-  unfolding recordsName
-  covers-all chained k h = rw (k .is) h
-
-  pub classes-plain : {n : ℕ} → n ≡ word s 6 → t ≡ setsName many (reaches (ruleSet false s) s 0 8 n) → t ≡ recordsName many (classContext false s)
-  unfolding classContext recordsName
-  classes-plain e h = rw e at h
-
-  pub classes-chained : {n : ℕ} → n ≡ word s 10 → t ≡ setsName many (reaches (ruleSet true s) s 0 12 n) → t ≡ recordsName many (classContext true s)
-  unfolding classContext recordsName
-  classes-chained e h = rw e at h
-
-  module _ (chained : Bool) {format : ℕ} (e : format ≡ word s 0) where
-    pub names-1 : format ≡ 1 → {n : ℕ} → n ≡ word s 4 → t ≡ setsName many (reaches (ruleSet chained s) s 0 6 n) → t ≡ recordsName many (context chained s)
-    unfolding context recordsName
-    names-1 f g h = rw (← e, f) (rw g at h)
-
-    pub names-2 : format ≡ 2 → t ≡ recordsName many (classContext chained s) → t ≡ recordsName many (context chained s)
-    unfolding context
-    names-2 f h = rw (← e, f) h
-
-    pub names-3 : (format ≡ 1 → ⊥) → (format ≡ 2 → ⊥) → t ≡ recordsName many (coverContext chained s) → t ≡ recordsName many (context chained s)
-    unfolding context
-    names-3 f g h = rw (← e, ne-eqb format 1 f, ne-eqb format 2 g) h
-
--- Pairs and single substitutions have no records.
-pairs-name : (many : ℕ) (s : List ℕ) → true ≡ recordsName many (pairTable s)
-unfolding pairTable recordsName
-pairs-name many s = step (eqb (word s 0) 1)
+-- a listed lookup takes none, another one
+zeros-steps : (many n : ℕ) → stepsOf (zeros many) n ≡ cond (ltb n many) 0 1
+unfolding stepsOf
+zeros-steps many n = step (decLt n many)
   where
-    step : (b : Bool) → true ≡ recordsName many (cond b (Table.pairs-of (reach (coverage s) s 0 2) (word s 4) (word s 6) (reaches (pairSet (fieldCount (word s 4)) (fieldCount (word s 6)) s) s 0 10 (word s 8)))
-        (Table.class-pairs (reach (coverage s) s 0 2) (reach (classes s) s 0 8) (reach (classes s) s 0 10) (word s 4) (word s 6) (word s 14) (cellRows s (fieldCount (word s 4)) (fieldCount (word s 6)) (word s 14) 16 (word s 12))))
-    step true = refl
-    step false = refl
+    step : Dec (n < many) → getD (zeros many) n 1 ≡ cond (ltb n many) 0 1
+    step (yes l) = rw (lt-ltb n many l) (getD-replicate many n 0 1 l)
+    step (no l) =
+        let e : many ≤ n = omega arith in
+        rw (le-ltb n many e) (List·getD-eq-default (zeros many) 1 (omega (arith, length-replicate {A = ℕ} many 0)))
 
-singles-name : (many : ℕ) (s : List ℕ) → true ≡ recordsName many (single s)
-unfolding single recordsName
-singles-name many s = step (eqb (word s 0) 1)
+-- one and more is not cut off to none
+cut-some : (n : ℕ) → cutOff (1 + n) ≡ 0 → ⊥
+unfolding stepLimit
+cut-some n h = step (decLt (1 + n) stepLimit)
   where
-    step : (b : Bool) → true ≡ recordsName many (cond b (Table.single-delta (reach (coverage s) s 0 2) (word s 4)) (Table.single-list (reach (coverage s) s 0 2) (words s 6 (word s 4))))
-    step true = refl
-    step false = refl
+    step : Dec (1 + n < stepLimit) → ⊥
+    step (yes l) = omega (arith, cut-under (1 + n) (omega arith))
+    step (no l) = omega (arith, cut-over (1 + n) (omega arith))
 
--- A lookup by its kind.
-module _ (many kind : ℕ) (s : List ℕ) where
-  pub names-plain : kind ≡ 1 → {t : Bool} → t ≡ recordsName many (context false s) → t ≡ recordsName many (table kind s)
-  unfolding table
-  names-plain e h = rw e h
+records-named : (many : ℕ) (rs : List (ℕ × ℕ)) → namesBelow many rs ≡ eqb (recordSteps (zeros many) rs) 0
+unfolding namesBelow every recordSteps
+records-named many [] = refl
+records-named many (r ∷ rs) = rw (zeros-steps many (r .1)) (step (ltb (r .1) many) (records-named many rs))
+  where
+    rest : ℕ
+    rest = recordSteps (zeros many) rs
 
-  pub names-chained : kind ≡ 2 → {t : Bool} → t ≡ recordsName many (context true s) → t ≡ recordsName many (table kind s)
-  unfolding table
-  names-chained e h = rw e h
+    step : (b : Bool) → every (λ e. ltb (e .1) many) rs ≡ eqb rest 0 → b && every (λ e. ltb (e .1) many) rs ≡ eqb (cutOff (cond b 0 1 + rest)) 0
+    step true h =
+        let z : 0 + rest ≡ rest = omega arith in
+        h ∙ ap (λ (n : ℕ). eqb n 0) (sym (ap cutOff z ∙ cut-under rest (record-small (zeros many) rs)))
+    step false h = sym (ne-eqb (cutOff (1 + rest)) 0 (cut-some rest))
 
-  pub names-other : (kind ≡ 1 → ⊥) → (kind ≡ 2 → ⊥) → true ≡ recordsName many (table kind s)
-  unfolding table recordsName
-  names-other a b = rw (ne-eqb kind 1 a, ne-eqb kind 2 b) (step (eqb kind 3) (eqb kind 4))
-    where
-      step : (b d : Bool) → true ≡ recordsName many (cond b (Table.ligatures (reach (coverage s) s 0 2) (reaches (ligatureSet s) s 0 6 (word s 4))) (cond d (pairTable s) (single s)))
-      step true d = refl
-      step false true = pairs-name many s
-      step false false = singles-name many s
+-- the larger of two is none where both are
+larger-none : (a b : ℕ) → eqb a 0 && eqb b 0 ≡ eqb (larger a b) 0
+larger-none zero zero = sym (eq-eqb (larger 0 0) 0 (sym (larger-first 0 0 (omega arith))))
+larger-none zero (suc b) =
+    let x = larger-above 0 (suc b) in
+    let y : larger 0 (suc b) ≡ 0 → ⊥ = λ q. omega (arith, x .1) in
+    ne-eqb (suc b) 0 (λ q. omega arith) ∙ sym (ne-eqb (larger 0 (suc b)) 0 y)
+larger-none (suc a) b =
+    let x = larger-above (suc a) b in
+    let y : larger (suc a) b ≡ 0 → ⊥ = λ q. omega (arith, x .0) in
+    let z : eqb (suc a) 0 ≡ false = ne-eqb (suc a) 0 (λ q. omega arith) in
+    ap (λ (c : Bool). c && eqb b 0) z ∙ sym (ne-eqb (larger (suc a) b) 0 y)
 
--- the records of a lookup, by its bytes as they were read
-pub source-names : (many : ℕ) (list buffer : List ℕ) (k : ℕ) {src : List ℕ} {kind : ℕ} {t : Bool} → src ≡ sourceAt list buffer k → kind ≡ word list (10 * k) → t ≡ recordsName many (table kind src)
-    → t ≡ recordsName many (table (word list (10 * k)) (sourceAt list buffer k))
-source-names many list buffer k e f h = rw (← e, ← f) h
+largest-none : {A : Type 0} (test : A → Bool) (f : A → ℕ) → ((a : A) → test a ≡ eqb (f a) 0) → (l : List A) → every test l ≡ eqb (largest f l) 0
+unfolding every largest
+largest-none test f k [] = refl
+largest-none test f k (a ∷ l) = ap₂ _&&_ (k a) (largest-none test f k l) ∙ larger-none (f a) (largest f l)
+
+-- so in sets
+sets-named : (many : ℕ) (sets : List (Option (List Rule))) → setsName many sets ≡ eqb (setsSteps (zeros many) sets) 0
+unfolding setsName setsSteps ruleNames ruleSteps
+sets-named many sets =
+    largest-none (every (ruleNames many)) (largest (ruleSteps (zeros many))) (largest-none (ruleNames many) (ruleSteps (zeros many)) (λ r. records-named many (r .records))) (dropNull sets)
+
+-- so in a table
+pub table-named : (many : ℕ) (t : Table) → recordsName many t ≡ eqb (tableSteps (zeros many) t) 0
+unfolding recordsName tableSteps
+table-named many (Table.by-glyph chained cover sets) = sets-named many sets
+table-named many (Table.by-class chained cover b i a sets) = sets-named many sets
+table-named many (Table.by-cover chained b i a records) = records-named many records
+table-named many (Table.ligatures cover sets) = refl
+table-named many (Table.pairs-of cover f1 f2 sets) = refl
+table-named many (Table.class-pairs cover first second f1 f2 m rows) = refl
+table-named many (Table.single-delta cover d) = refl
+table-named many (Table.single-list cover subs) = refl
+
+-- a 0 for each listed lookup
+pub zeros-part : (many : ℕ) → many ≤ 16 → take (many - 0) (drop 0 (zeros 16)) ≡ zeros many
+zeros-part many h =
+    let e : many - 0 ≡ many = omega arith in
+    rw e (first many 16 h)
+  where
+    first : (m n : ℕ) → m ≤ n → take m (zeros n) ≡ zeros m
+    first zero n l = refl
+    first (suc m) zero l = absurd (omega arith)
+    first (suc m) (suc n) l = ap (λ (x : List ℕ). 0 ∷ x) (first m n (omega arith))
 
 -- as many lookups as entries
-many-listed : (list buffer : List ℕ) (at n : ℕ) → length (map (lookupOf buffer) (entriesFrom list at n)) ≡ n
+pub many-listed : (list buffer : List ℕ) (at n : ℕ) → length (map (lookupOf buffer) (entriesFrom list at n)) ≡ n
 unfolding entriesFrom
 many-listed list buffer at zero = refl
 many-listed list buffer at (suc n) = ap suc (many-listed list buffer (at + 10) n)
@@ -155,19 +120,19 @@ module _ {list buffer : List ℕ} where
       let d : length list / 10 - 0 ≡ length list / 10 = omega arith in
       record { within = omega arith; left = rw (many-listed list buffer 0 (length list / 10), d) }
 
-  module _ {many k : ℕ} (c : Naming list buffer many k) (h : k < many) {b : Bool} (e : b ≡ recordsName many (table (word list (10 * k)) (sourceAt list buffer k))) where
-    next : b && every (recordsName many) (map (lookupOf buffer) (entriesFrom list (10 * (k + 1)) (many - (k + 1)))) ≡ allNamed (lookupsOf list buffer)
+  module _ {many k : ℕ} (c : Naming list buffer many k) (h : k < many) {none : List ℕ} (z : none ≡ zeros many) {n : ℕ} (e : n ≡ tableSteps none (table (word list (10 * k)) (sourceAt list buffer k))) where
+    next : eqb n 0 && every (recordsName many) (map (lookupOf buffer) (entriesFrom list (10 * (k + 1)) (many - (k + 1)))) ≡ allNamed (lookupsOf list buffer)
     unfolding every entriesFrom entryAt lookupOf sourceOf sourceAt
     next =
         let a : many - k ≡ suc (many - (k + 1)) = omega arith in
         let d : 10 * (k + 1) ≡ 10 * k + 10 = omega arith in
-        rw (e, d) (rw a at (c .left))
+        rw (e, z, ← table-named many (table (word list (10 * k)) (sourceAt list buffer k)), d) (rw a at (c .left))
 
-    pub naming-none : not b ≡ true → false ≡ allNamed (lookupsOf list buffer)
-    naming-none z = rw (not-true b z) at next
+    pub naming-none : (n ≡ 0 → ⊥) → false ≡ allNamed (lookupsOf list buffer)
+    naming-none q = rw (ne-eqb n 0 q) at next
 
-    pub naming-turn : not b ≡ false → Naming list buffer many (k + 1)
-    naming-turn z = record { within = omega arith; left = rw (not-false b z) at next }
+    pub naming-turn : n ≡ 0 → Naming list buffer many (k + 1)
+    naming-turn q = record { within = omega arith; left = rw (eq-eqb n 0 q) at next }
 
   pub naming-end : {many k : ℕ} → Naming list buffer many k → many ≤ k → true ≡ allNamed (lookupsOf list buffer)
   unfolding every entriesFrom

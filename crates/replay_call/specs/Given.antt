@@ -5,6 +5,7 @@ use mathlib.Core.List.{List, [], _∷_, _++_}
 use lib.Seq.{sets}
 use Rattle.meaning.specs.Words.{flat}
 use Rattle.replaying.specs.Replay.{Tally, Replayed}
+use Rattle.replaying.specs.Cost.{Cost}
 
 -- a number in eight bytes, the highest first
 unfoldable pub bytes8 : ℕ → List ℕ
@@ -19,3 +20,9 @@ pub record Gives (a : Replayed) (before : List ℕ) (r : ℕ) (after : List ℕ)
   pub answer : r ≡ a .number * 0x100_0000_0000_0000 + a .place
   pub fits : a .place < 0x100_0000_0000_0000
   pub tally : after ≡ sets before 0 (tallyBytes (a .tally))
+
+-- the same answer of a cost, and its steps at the front of the lent bytes, as far as they reach
+pub record Costs (a : Cost) (before : List ℕ) (r : ℕ) (after : List ℕ) : Type 0 where
+  pub answer : r ≡ a .number * 0x100_0000_0000_0000 + a .place
+  pub fits : a .place < 0x100_0000_0000_0000
+  pub steps : after ≡ sets before 0 (bytes8 (a .steps))

@@ -1,13 +1,15 @@
-// The replay for other languages, on byte slices and one number.
+// The replay and its cost for other languages, on byte slices and one number.
 use replay::Tally;
 use replay::replay_all;
+use replay_cost::replay_cost;
 use wire::put_entry;
 ghost use mathlib.Core.Path.{_≡_};
 ghost use Prim.Native.Nat.{_+_, _*_, _≤_, _<_};
 ghost use lib.Seq.{sets};
 ghost use Rattle.replaying.specs.Replay.{replay};
+ghost use Rattle.replaying.specs.Cost.{replayCost};
 ghost use Rattle.replay.specs.Counting.{tallyOf};
-ghost use Rattle.replay_call.specs.Given.{bytes8, tallyBytes, Gives};
+ghost use Rattle.replay_call.specs.Given.{bytes8, tallyBytes, Gives, Costs};
 
 // A number in eight bytes from `at` on, the highest first, each where there is room for it; the place after them.
 fn put_eight(out: &mut [u8], at: usize, n: usize) -> usize
@@ -37,7 +39,7 @@ fn one_number(number: usize, place: usize) -> u64
 
 // The replay of a trace over a list of lookups in a buffer. The answer is one number: the answer's number times 2^56, plus the place that comes with 6.
 // The tally is written at the front of `tally`: runs, agreements and the first disagreeing run, eight bytes each, the highest first; a slice under 24 bytes gets what fits.
-// A list from an unknown hand can nest to more steps than anyone waits for: it is replayed under the caller's time limit.
+// A list from an unknown hand can nest to more steps than anyone waits for: it is replayed under the caller's time limit, or after its cost was asked.
 #[no_mangle]
 pub extern "C" fn gillcurtain_replay(
     list: &[u8],
@@ -50,4 +52,15 @@ pub extern "C" fn gillcurtain_replay(
     let r = replay_all(list, buffer, trace);
     put_tally(tally, r.tally);
     one_number(r.number, r.place)
+}
+
+// The cost of a list of lookups in a buffer, told before any run. The answer is one number, as that of `gillcurtain_replay`; 16 and 18 are not given.
+// With 0 the most lookups that a replay asks for each glyph that went into its runs are written at the front of `steps`, cut off at 2^63, and with a refusal 0: eight bytes, the highest first; a shorter slice gets what fits.
+#[no_mangle]
+pub extern "C" fn gillcurtain_replay_cost(list: &[u8], buffer: &[u8], steps: &mut [u8]) -> u64
+    ensures { λ r. ⌜ Costs (replayCost (now (list .entry)) (now (buffer .entry))) (now (steps .entry)) r (now (steps .exit)) ⌝ }
+{
+    let c = replay_cost(list, buffer);
+    put_eight(steps, 0, c.steps);
+    one_number(c.number, c.place)
 }
