@@ -6,6 +6,7 @@ use view::header;
 use view::subtable_place;
 use wire::Fault;
 use wire::byte;
+use wire::found_before;
 use wire::inside;
 use wire::lowest;
 use wire::put_byte;
@@ -19,7 +20,6 @@ ghost use Rattle.meaning.specs.Records.{setsWithin, recordsWithin};
 ghost use Rattle.meaning.specs.Fault.{lowest, faultThrough, headerFault, coversFault, contextFault, pairFault, fault, enough};
 ghost use Rattle.wire.specs.Fault.{faultOf, placeOf};
 ghost use Rattle.wire.specs.declared.Fault.the-variants.{Sound};
-ghost use Rattle.checks.specs.Low.{foundBefore};
 ghost use Rattle.checks.specs.Seen.{Seen};
 ghost use Rattle.checks.specs.Crowded.{membersAt, crowds};
 ghost use Rattle.checks.specs.Parts.{faultOfPart, byGlyphFault, byClassFault, ligaturesFault, pairFields, glyphPairsFault, classPairsFault};
@@ -57,18 +57,8 @@ fn check_part(part: Part, src: &[u8], at: usize) -> Fault
     }
 }
 
-// Whether a fault was found at `at` or before it.
-fn found_before(low: Fault, at: usize) -> bool
-    ensures { λ r. ⌜ r ≡ foundBefore low at ⌝ }
-{
-    match low {
-        Fault::At(place) => place <= at,
-        Fault::Sound => false,
-    }
-}
-
 // The lower of `low` and the fault of the part at `at`. A part whose place has a mark was counted before; another gets one, where `marks` has room for it.
-// No part has a fault before its own start, so that one that starts after a fault that was found is not visited.
+// One that starts after a fault that was found is not visited.
 fn check_once(part: Part, src: &[u8], at: usize, low: Fault, marks: &mut [u8]) -> Fault
     requires { ⌜ (at < 65536) × Seen (faultOfPart part (now src)) low (now marks) ⌝ }
     ensures { λ r. ⌜ (r ≡ faultOf (lowest (placeOf low) (faultOfPart part (now (src .entry)) at))) × Seen (faultOfPart part (now (src .entry))) r (now (marks .exit)) ⌝ }

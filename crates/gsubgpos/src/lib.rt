@@ -3,6 +3,7 @@ use rules::check_rule;
 use rules::rule_within;
 use wire::Fault;
 use wire::byte;
+use wire::found_before;
 use wire::inside;
 use wire::lowest;
 use wire::put_byte;
@@ -30,6 +31,9 @@ fn check_rules(chained: bool, src: &[u8], at: usize, n: usize) -> Fault
         let offset = word_at(src, at + 2 + 2 * i);
         i += 1;
         if offset == 0 {
+            continue;
+        }
+        if found_before(low, at + offset) {
             continue;
         }
         low = lowest(low, check_rule(chained, src, at + offset));

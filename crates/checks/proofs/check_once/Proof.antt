@@ -1,8 +1,9 @@
 -- `checks::check_once` meets its contract: a mark says that the part's fault was counted, a fault found before the part stays the lowest, and a part that is counted gets a mark. Assumes nothing.
 use mathlib.Core.Path.{sym, _∙_}
 use borrow.Author.Needs.{needs}
+use Rattle.wire.specs.Low.{none-lower}
 use Rattle.checks.specs.Parts.{faultOfPart}
-use Rattle.checks.proofs.Low.{none-lower}
+use Rattle.checks.proofs.Low.{from-start}
 use Rattle.checks.proofs.Seen.{seen-passed, seen-found, seen-more}
 use Rattle.checks.proofs.check_once.Statement.{statement}
 use Rattle.checks.proofs.check_once.Tie as tie
@@ -15,7 +16,7 @@ returns c =
 returns-2 : tie.Need-returns-2
 returns-2 c =
     let a = c .before .before .before .before .before .before .before in
-    (none-lower (a .args .part) (a .args .src .now) (a .args .at) (a .args .low) (sym (c .before .found-before .ensures) ∙ c .if2 .taken), a .pre .1)
+    (none-lower (a .args .low) (a .args .at) (faultOfPart (a .args .part) (a .args .src .now) (a .args .at)) (from-start (a .args .part) (a .args .src .now) (a .args .at)) (sym (c .before .found-before .ensures) ∙ c .if2 .taken), a .pre .1)
 
 returns-3 : tie.Need-returns-3
 returns-3 c =

@@ -1,10 +1,10 @@
--- `checks::found_before` meets its contract, by the fault's case. Assumes nothing.
+-- `wire::found_before` meets its contract, by the fault's case. Assumes nothing.
 use mathlib.Core.Path.{sym, ap}
 use borrow.Author.Needs.{needs}
 use Rattle.wire.specs.declared.Fault.{Fault}
-use Rattle.checks.specs.Low.{foundBefore}
-use Rattle.checks.proofs.found_before.Statement.{statement}
-use Rattle.checks.proofs.found_before.Tie as tie
+use Rattle.wire.specs.Low.{foundBefore}
+use Rattle.wire.proofs.found_before.Statement.{statement}
+use Rattle.wire.proofs.found_before.Tie as tie
 
 returns : tie.Need-returns
 returns c = ap (λ (f : Fault). foundBefore f (c .before .before .before .args .at)) (sym (c .before .low .given .1))
