@@ -20,6 +20,10 @@ refused {b} e h = sym e ∙ not-true b h
 pub passed : {b o : Bool} → b ≡ o → not b ≡ false → o ≡ true
 passed {b} e h = sym e ∙ not-false b h
 
+-- marks that are as long as those before are as long as those at first
+pub still-long : {a b c : ℕ} → b ≡ c → a ≡ b → a ≡ c
+still-long p q = q ∙ p
+
 -- an answer stands for the place that it names
 fault-place : (r : Fault) → faultOf (placeOf r) ≡ r
 fault-place (At p) = refl

@@ -10,21 +10,23 @@ use Rattle.checks.proofs.check_once.Tie as tie
 
 returns : tie.Need-returns
 returns c =
-    let a = c .before .before .before .before .before in
-    (seen-passed (a .pre .1) (a .args .at) (λ z. c .if1 .taken (c .before .byte .ensures .0 ∙ z)), a .pre .1)
+    let a = c .before .before .before .before .before .before in
+    (seen-passed (a .pre .1) (a .args .at) (λ z. c .if1 .taken (c .before .byte .ensures .0 ∙ z)), a .pre .1, a .pre .2)
 
 returns-2 : tie.Need-returns-2
 returns-2 c =
-    let a = c .before .before .before .before .before .before .before in
-    (none-lower (a .args .low) (a .args .at) (faultOfPart (a .args .part) (a .args .src .now) (a .args .at)) (from-start (a .args .part) (a .args .src .now) (a .args .at)) (sym (c .before .found-before .ensures) ∙ c .if2 .taken), a .pre .1)
+    let a = c .before .before .before .before .before .before .before .before in
+    let part = a .args .part in
+    let s = a .args .src .now in
+    (none-lower (a .args .low) (a .args .at) (faultOfPart part s (a .args .at)) (from-start part s (a .args .at)) (sym (c .before .found-before .ensures) ∙ c .if2 .taken), a .pre .1, a .pre .2)
 
 returns-3 : tie.Need-returns-3
 returns-3 c =
     let p = c .before .before .before in
-    let f = p .before .before in
-    let a = f .before .before .before .before .before .before .before .before in
-    let g = seen-found (faultOfPart (a .args .part) (a .args .src .now)) (a .args .low) (a .args .at) (f .check-part .ensures) (c .lowest .ensures) in
-    (g, seen-more (a .args .at) (a .pre .1) g (p .put-byte .ensures))
+    let f = p .before .before .before .before in
+    let a = f .before .before .before .before .before .before .before .before .before .before in
+    let g = seen-found (faultOfPart (a .args .part) (a .args .src .now)) (a .args .low) (a .args .at) (f .check-part .ensures .0) (c .lowest .ensures) in
+    (g, seen-more (a .args .at) (a .pre .1) g (p .put-byte .ensures), f .check-part .ensures .1)
 
 pub check-once-spec : {M : Type 1} → statement M
 check-once-spec =
@@ -39,5 +41,6 @@ check-once-spec =
     (λ c κs. search needs)
     (λ c κs. search needs)
     (λ c κs. search needs)
+    (λ c. search needs)
     (λ c. search needs)
     returns-3)
