@@ -6,6 +6,7 @@ use view::header;
 use view::subtable_place;
 use wire::Fault;
 use wire::byte;
+use wire::found_before;
 use wire::inside;
 use wire::lowest;
 use wire::put_byte;
@@ -19,7 +20,7 @@ ghost use Rattle.meaning.specs.Records.{setsWithin, recordsWithin};
 ghost use Rattle.meaning.specs.Fault.{lowest, faultThrough, headerFault, coversFault, contextFault, pairFault, fault, enough};
 ghost use Rattle.wire.specs.Fault.{faultOf, placeOf};
 ghost use Rattle.wire.specs.declared.Fault.the-variants.{Sound};
-ghost use Rattle.checks.specs.Seen.{Seen};
+ghost use Rattle.checks.specs.Seen.{Seen, SoundRules};
 ghost use Rattle.checks.specs.Crowded.{membersAt, crowds};
 ghost use Rattle.checks.specs.Parts.{faultOfPart, byGlyphFault, byClassFault, ligaturesFault, pairFields, glyphPairsFault, classPairsFault};
 
@@ -41,37 +42,55 @@ pub enum Part {
     Pairs,
 }
 
-// The lowest fault of the part at `at`, and of what it reaches. The value formats of pairs stand in the header.
-fn check_part(part: Part, src: &[u8], at: usize) -> Fault
-    requires { ⌜ at < 65536 ⌝ }
-    ensures { λ r. ⌜ r ≡ faultOf (faultOfPart part (now (src .entry)) at) ⌝ }
+// The lowest fault of the part at `at`, and of what it reaches. The value formats of pairs stand in the header. `rules` has marks of rules that were found sound.
+fn check_part(part: Part, src: &[u8], at: usize, rules: &mut [u8]) -> Fault
+    requires { ⌜ (at < 65536) × SoundRules part (now src) (now rules) ⌝ }
+    ensures { λ r. ⌜ (r ≡ faultOf (faultOfPart part (now (src .entry)) at)) × SoundRules part (now (src .entry)) (now (rules .exit)) ⌝ }
 {
     match part {
         Part::Coverage => coverage::check(src, at),
         Part::Classes => classes::check(src, at),
-        Part::Rules => gsubgpos::check_set(false, src, at),
-        Part::ChainedRules => gsubgpos::check_set(true, src, at),
+        Part::Rules => gsubgpos::check_set(false, src, at, rules),
+        Part::ChainedRules => gsubgpos::check_set(true, src, at, rules),
         Part::Ligatures => ligature_subst::check_set(src, at),
         Part::Pairs => pair_pos::check_set(src, at, word_at(src, 4), word_at(src, 6)),
     }
 }
 
 // The lower of `low` and the fault of the part at `at`. A part whose place has a mark was counted before; another gets one, where `marks` has room for it.
-fn check_once(part: Part, src: &[u8], at: usize, low: Fault, marks: &mut [u8]) -> Fault
-    requires { ⌜ (at < 65536) × Seen (faultOfPart part (now src)) low (now marks) ⌝ }
-    ensures { λ r. ⌜ (r ≡ faultOf (lowest (placeOf low) (faultOfPart part (now (src .entry)) at))) × Seen (faultOfPart part (now (src .entry))) r (now (marks .exit)) ⌝ }
+// One that starts after a fault that was found is not visited.
+fn check_once(
+    part: Part,
+    src: &[u8],
+    at: usize,
+    low: Fault,
+    marks: &mut [u8],
+    rules: &mut [u8],
+) -> Fault
+    requires { ⌜ (at < 65536) × Seen (faultOfPart part (now src)) low (now marks) × SoundRules part (now src) (now rules) ⌝ }
+    ensures { λ r. ⌜ (r ≡ faultOf (lowest (placeOf low) (faultOfPart part (now (src .entry)) at))) × Seen (faultOfPart part (now (src .entry))) r (now (marks .exit)) × SoundRules part (now (src .entry)) (now (rules .exit)) ⌝ }
 {
     if byte(marks, at) != 0 {
         return low;
     }
-    let found = check_part(part, src, at);
+    if found_before(low, at) {
+        return low;
+    }
+    let found = check_part(part, src, at, rules);
     put_byte(marks, at, 1);
     lowest(low, found)
 }
 
-// The lowest fault among the parts that `n` offsets from `slot` on reach; a null offset reaches none. Where `marks`, which has no mark yet, has a place for each that an offset can lead to, a part is checked once, however many offsets reach it.
-fn check_each(part: Part, src: &[u8], slot: usize, n: usize, marks: &mut [u8]) -> Fault
-    requires { ⌜ (slot + 2 * n < 0x1_0000_0000_0000) × Seen (faultOfPart part (now src)) Sound (now marks) ⌝ }
+// The lowest fault among the parts that `n` offsets from `slot` on reach; a null offset reaches none. Where `marks` and `rules`, which have no mark yet, have a place for each that an offset can lead to, a part is checked once, however many offsets reach it.
+fn check_each(
+    part: Part,
+    src: &[u8],
+    slot: usize,
+    n: usize,
+    marks: &mut [u8],
+    rules: &mut [u8],
+) -> Fault
+    requires { ⌜ (slot + 2 * n < 0x1_0000_0000_0000) × Seen (faultOfPart part (now src)) Sound (now marks) × SoundRules part (now src) (now rules) ⌝ }
     ensures { λ r. ⌜ r ≡ faultOf (faultThrough (faultOfPart part (now (src .entry))) (now (src .entry)) 0 slot n) ⌝ }
 {
     let mut low = Fault::Sound;
@@ -82,7 +101,7 @@ fn check_each(part: Part, src: &[u8], slot: usize, n: usize, marks: &mut [u8]) -
         if off == 0 {
             continue;
         }
-        low = check_once(part, src, off, low, marks);
+        low = check_once(part, src, off, low, marks, rules);
     }
     low
 }
@@ -96,7 +115,8 @@ fn check_shared(part: Part, src: &[u8], slot: usize, n: usize, rounds: usize) ->
         return check_shared(part, src, slot, n, rounds - 1);
     }
     let mut marks = [0u8; PLACES];
-    check_each(part, src, slot, n, &mut marks)
+    let mut rules = [0u8; RULE_PLACES];
+    check_each(part, src, slot, n, &mut marks, &mut rules)
 }
 
 // The same of any offsets. Marks are made only where there are many, since clearing them takes longer than most tables do.
@@ -108,7 +128,8 @@ fn check_through(part: Part, src: &[u8], slot: usize, n: usize) -> Fault
         return check_shared(part, src, slot, n, slot % 2);
     }
     let mut no_marks = [0u8; 1];
-    check_each(part, src, slot, n, &mut no_marks)
+    let mut no_rules = [0u8; 1];
+    check_each(part, src, slot, n, &mut no_marks, &mut no_rules)
 }
 
 // Whether there is a set for each covered glyph, where there are `n` sets; not judged where the coverage is null or faulty.

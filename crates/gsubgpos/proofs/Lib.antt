@@ -1,1 +1,2 @@
+pub mod FoundSound
 pub mod Within

@@ -3,6 +3,7 @@ use rules::check_rule;
 use rules::rule_within;
 use wire::Fault;
 use wire::byte;
+use wire::found_before;
 use wire::inside;
 use wire::lowest;
 use wire::put_byte;
@@ -17,12 +18,28 @@ ghost use Rattle.meaning.specs.Fault.{ruleFault, faultThrough, setFault};
 ghost use Rattle.meaning.specs.Records.{ruleWithin, setsWithin};
 ghost use Rattle.laws.specs.EachLeft.{passes};
 ghost use Rattle.wire.specs.Fault.{faultOf};
+ghost use Rattle.gsubgpos.specs.FoundSound.{FoundSound};
 ghost use Rattle.gsubgpos.specs.Within.{Marked};
 
+// The fault of the rule at `at`. A rule whose place has a mark was found sound before; one that is gets a mark, where `marks` has room for it.
+fn check_once(chained: bool, src: &[u8], at: usize, marks: &mut [u8]) -> Fault
+    requires { ⌜ (at < 0x100_0000_0000) × FoundSound chained (now src) (now marks) ⌝ }
+    ensures { λ r. ⌜ (r ≡ faultOf (ruleFault chained (now (src .entry)) at)) × FoundSound chained (now (src .entry)) (now (marks .exit)) ⌝ }
+{
+    if byte(marks, at) != 0 {
+        return Fault::Sound;
+    }
+    if let Fault::At(place) = check_rule(chained, src, at) {
+        return Fault::At(place);
+    }
+    put_byte(marks, at, 1);
+    Fault::Sound
+}
+
 // The lowest fault among the rules that the `n` offsets of the set at `at` reach.
-fn check_rules(chained: bool, src: &[u8], at: usize, n: usize) -> Fault
-    requires { ⌜ (at < 0x100_0000_0000) × (n < 65536) ⌝ }
-    ensures { λ r. ⌜ r ≡ faultOf (faultThrough (ruleFault chained (now (src .entry))) (now (src .entry)) at (at + 2) n) ⌝ }
+fn check_rules(chained: bool, src: &[u8], at: usize, n: usize, marks: &mut [u8]) -> Fault
+    requires { ⌜ (at < 0x80_0000_0000) × (n < 65536) × FoundSound chained (now src) (now marks) ⌝ }
+    ensures { λ r. ⌜ (r ≡ faultOf (faultThrough (ruleFault chained (now (src .entry))) (now (src .entry)) at (at + 2) n)) × FoundSound chained (now (src .entry)) (now (marks .exit)) ⌝ }
 {
     let mut low = Fault::Sound;
     let mut i = 0;
@@ -32,15 +49,19 @@ fn check_rules(chained: bool, src: &[u8], at: usize, n: usize) -> Fault
         if offset == 0 {
             continue;
         }
-        low = lowest(low, check_rule(chained, src, at + offset));
+        if found_before(low, at + offset) {
+            continue;
+        }
+        low = lowest(low, check_once(chained, src, at + offset, marks));
     }
     low
 }
 
 // The fault of the set of rules at `at`: its own place if its count or its offsets do not lie inside the source, else the lowest among its rules.
-pub fn check_set(chained: bool, src: &[u8], at: usize) -> Fault
-    requires { ⌜ at < 0x100_0000_0000 ⌝ }
-    ensures { λ r. ⌜ r ≡ faultOf (setFault (ruleFault chained (now (src .entry))) (now (src .entry)) at) ⌝ }
+// `marks` has a mark at no place but those of rules that are sound; where it has a place for each rule each is checked once, however many sets share it.
+pub fn check_set(chained: bool, src: &[u8], at: usize, marks: &mut [u8]) -> Fault
+    requires { ⌜ (at < 0x80_0000_0000) × FoundSound chained (now src) (now marks) ⌝ }
+    ensures { λ r. ⌜ (r ≡ faultOf (setFault (ruleFault chained (now (src .entry))) (now (src .entry)) at)) × FoundSound chained (now (src .entry)) (now (marks .exit)) ⌝ }
 {
     if !inside(src, at, 2) {
         return Fault::At(at);
@@ -49,7 +70,7 @@ pub fn check_set(chained: bool, src: &[u8], at: usize) -> Fault
     if !inside(src, at + 2, 2 * n) {
         return Fault::At(at);
     }
-    check_rules(chained, src, at, n)
+    check_rules(chained, src, at, n, marks)
 }
 
 // How many offsets to rules the set at `set` has; where the set's offset is null there is none.

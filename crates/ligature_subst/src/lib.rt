@@ -1,5 +1,6 @@
 // Ligatures and sets of them: checked.
 use wire::Fault;
+use wire::found_before;
 use wire::inside;
 use wire::lowest;
 use wire::word_at;
@@ -44,6 +45,9 @@ fn check_ligatures(src: &[u8], at: usize, n: usize) -> Fault
         let offset = word_at(src, at + 2 + 2 * i);
         i += 1;
         if offset == 0 {
+            continue;
+        }
+        if found_before(low, at + offset) {
             continue;
         }
         low = lowest(low, check_ligature(src, at + offset));

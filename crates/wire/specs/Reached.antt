@@ -9,6 +9,7 @@ use Rattle.meaning.specs.Words.{word, inside}
 use Rattle.meaning.specs.Fault.{lowest, partFault, faultThrough, setFault}
 use Rattle.laws.specs.FaultsLeft.{Checking, checking-all, checking-null, checking-part, checking-end}
 use Rattle.wire.specs.Fault.{faultOf, placeOf, place-fault}
+use Rattle.wire.specs.Low.{foundBefore, From, none-lower}
 use Rattle.wire.specs.declared.Fault.{Fault}
 use Rattle.wire.specs.declared.Fault.the-variants.{At, Sound}
 
@@ -19,13 +20,17 @@ refused {b} e h = sym e ∙ not-true b h
 pub passed : {b o : Bool} → b ≡ o → not b ≡ false → o ≡ true
 passed {b} e h = sym e ∙ not-false b h
 
+-- marks that are as long as those before are as long as those at first
+pub still-long : {a b c : ℕ} → b ≡ c → a ≡ b → a ≡ c
+still-long p q = q ∙ p
+
 -- an answer stands for the place that it names
 fault-place : (r : Fault) → faultOf (placeOf r) ≡ r
 fault-place (At p) = refl
 fault-place Sound = refl
 
 -- What a loop over offsets keeps: the lowest answer so far and the lowest fault among the rest give the whole. Its ways: before the first turn (all),
--- past a null offset (null), past a part (part), and after the last turn (end).
+-- past a null offset (null), past a part (part) or one that is not looked at (passed), and after the last turn (end).
 pub record Lowest (faultAt : ℕ → Option ℕ) (s : List ℕ) (base slot n : ℕ) (low : Fault) (i : ℕ) : Type 0 where
   pub checking : Checking faultAt s base slot n (placeOf low) i
 
@@ -42,6 +47,10 @@ module _ {faultAt : ℕ → Option ℕ} {s : List ℕ} {base slot n : ℕ} where
     pub lowest-part : (off ≡ 0 → ⊥) → {a r : Fault} → a ≡ faultOf (faultAt (base + off)) → r ≡ faultOf (lowest (placeOf low) (placeOf a)) → Lowest faultAt s base slot n r (i + 1)
     lowest-part z f g =
         record { checking = rw (g, place-fault (lowest (placeOf low) _), f, place-fault (faultAt (base + off))) (checking-part faultAt s base slot n (k .checking) h e z) }
+
+    -- one that starts at a fault that was found, or after it, has no lower one
+    pub lowest-passed : (off ≡ 0 → ⊥) → From (base + off) (faultAt (base + off)) → foundBefore low (base + off) ≡ true → Lowest faultAt s base slot n low (i + 1)
+    lowest-passed z f g = lowest-part z {a = faultOf (faultAt (base + off))} refl (rw (place-fault (faultAt (base + off))) (none-lower low (base + off) (faultAt (base + off)) f g))
 
   pub lowest-end : {low : Fault} {i : ℕ} → Lowest faultAt s base slot n low i → n ≤ i → low ≡ faultOf (faultThrough faultAt s base slot n)
   lowest-end {low} k h = sym (fault-place low) ∙ ap faultOf (checking-end faultAt s base slot n (k .checking) h)

@@ -8,6 +8,7 @@ ghost use Rattle.meaning.specs.Words.{word, bytes2, flat, inside, ascends};
 ghost use Rattle.meaning.specs.Fault.{lowest};
 ghost use Rattle.laws.specs.Left.{column};
 ghost use Rattle.wire.specs.Fault.{faultOf, placeOf};
+ghost use Rattle.wire.specs.Low.{foundBefore};
 
 // What a check answers: where the first faulty part starts, or that all is sound.
 pub enum Fault {
@@ -115,6 +116,16 @@ pub fn put_record(out: &mut [u8], at: usize, a: usize, b: usize, c: usize) -> us
     let p = put(out, at, a);
     let q = put(out, p, b);
     put(out, q, c)
+}
+
+// Whether a fault was found at `at` or before it. No part has one before its own start, so what starts at `at` has none that is lower.
+pub fn found_before(low: Fault, at: usize) -> bool
+    ensures { λ r. ⌜ r ≡ foundBefore low at ⌝ }
+{
+    match low {
+        Fault::At(place) => place <= at,
+        Fault::Sound => false,
+    }
 }
 
 // The lower of two faults, where there is one.

@@ -3,36 +3,41 @@ use mathlib.Core.Path.{_≡_, refl}
 use Prim.Native.Nat.{_-_}
 use lib.ListN.{length}
 use borrow.Author.Needs.{needs}
-use Rattle.wire.specs.Reached.{Lowest, lowest-all, lowest-null, lowest-end}
+use Rattle.wire.specs.Reached.{Lowest, lowest-all, lowest-null, lowest-end, still-long}
 use Rattle.checks.specs.Parts.{faultOfPart}
-use Rattle.checks.specs.Seen.{Seen}
-use Rattle.checks.proofs.Seen.{reached-once, still-long}
+use Rattle.checks.specs.Seen.{Seen, SoundRules}
+use Rattle.checks.proofs.Seen.{reached-once}
 use Rattle.checks.proofs.check_each.Statement.{statement}
 use Rattle.checks.proofs.check_each.Tie as tie
 
 abbrev Inv-loop : tie.InvT-loop
-Inv-loop part src slot n marks₀ low₀ i₀ marks low i = Lowest (faultOfPart part src) src 0 slot n low i × Seen (faultOfPart part src) low marks × (length marks ≡ length marks₀)
+Inv-loop part src slot n marks₀ rules₀ low₀ i₀ marks rules low i =
+    Lowest (faultOfPart part src) src 0 slot n low i × Seen (faultOfPart part src) low marks × SoundRules part src rules × (length marks ≡ length marks₀) × (length rules ≡ length rules₀)
 
 abbrev μ-loop : tie.MeasureT-loop
-μ-loop part src slot n marks₀ low₀ i₀ marks low i = n - i
+μ-loop part src slot n marks₀ rules₀ low₀ i₀ marks rules low i = n - i
 
 loop-holds : tie.Need-loop-holds Inv-loop μ-loop
-loop-holds c = (lowest-all, c .before .before .pre .1, refl)
+loop-holds c =
+    let p = c .before .before .before .pre in
+    (lowest-all, p .1, p .2, refl, refl)
 
 loop-again : tie.Need-loop-again Inv-loop μ-loop
 loop-again c =
     let w = c .before in
     let t = w .before in
     let k = t .before .loop .inv in
-    (lowest-null (k .0) (t .loop-test .taken) (w .word-at .ensures .0) (c .if1 .taken), k .1, k .2)
+    (lowest-null (k .0) (t .loop-test .taken) (w .word-at .ensures .0) (c .if1 .taken), k .1, k .2, k .3, k .4)
 
 loop-again-2 : tie.Need-loop-again-2 Inv-loop μ-loop
 loop-again-2 c =
-    let o = c .before .before in
-    let z = o .before .before in
+    let o = c .before .before .before .before in
+    let z = o .before .before .before in
     let w = z .before in
     let t = w .before in
-    (reached-once (t .before .loop .inv .0) (t .loop-test .taken) (w .word-at .ensures .0) (z .if1 .left) (o .check-once .ensures .0), o .check-once .ensures .1, still-long (t .before .loop .inv .2) (search needs))
+    let k = t .before .loop .inv in
+    let e = o .check-once .ensures in
+    (reached-once (k .0) (t .loop-test .taken) (w .word-at .ensures .0) (z .if1 .left) (e .0), e .1, e .2, still-long (k .3) (search needs), still-long (k .4) (search needs))
 
 returns : tie.Need-returns Inv-loop μ-loop
 returns c = lowest-end (c .before .loop .inv .0) (c .loop-test .left)
@@ -53,5 +58,6 @@ check-each-spec =
     (λ c κs. search needs)
     (λ c. search needs)
     loop-again-2
-    (λ c. c .before .loop .inv .2)
+    (λ c. c .before .loop .inv .3)
+    (λ c. c .before .loop .inv .4)
     returns)

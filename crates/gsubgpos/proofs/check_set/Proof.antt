@@ -1,3 +1,4 @@
+-- `gsubgpos::check_set` meets its contract: by its count and its offsets, and then by its rules. Assumes nothing.
 use borrow.Author.Needs.{needs}
 use Rattle.meaning.specs.Fault.{ruleFault}
 use Rattle.wire.specs.Reached.{set-head, set-offsets, set-parts}
@@ -6,24 +7,27 @@ use Rattle.gsubgpos.proofs.check_set.Tie as tie
 
 returns : tie.Need-returns
 returns c =
-    let a = c .before .before .before .args in
-    set-head (ruleFault (a .chained) (a .src .now)) (a .src .now) (a .at) (c .before .inside .ensures) (c .if1 .taken)
+    let a = c .before .before .before .before in
+    let s = a .args .src .now in
+    (set-head (ruleFault (a .args .chained) s) s (a .args .at) (c .before .inside .ensures) (c .if1 .taken), a .pre .1)
 
 returns-2 : tie.Need-returns-2
 returns-2 c =
     let n = c .before .before in
     let h = n .before in
-    let a = h .before .before .before .args in
-    set-offsets (ruleFault (a .chained) (a .src .now)) (a .src .now) (a .at) (h .before .inside .ensures) (h .if1 .left) (n .word-at .ensures .0) (c .before .inside2 .ensures) (c .if2 .taken)
+    let a = h .before .before .before .before in
+    let s = a .args .src .now in
+    (set-offsets (ruleFault (a .args .chained) s) s (a .args .at) (h .before .inside .ensures) (h .if1 .left) (n .word-at .ensures .0) (c .before .inside2 .ensures) (c .if2 .taken), a .pre .1)
 
 returns-3 : tie.Need-returns-3
 returns-3 c =
-    let i = c .before in
+    let k = c .before .before in
+    let i = k .before .before in
     let n = i .before .before in
     let h = n .before in
-    let a = h .before .before .before .args in
-    set-parts (ruleFault (a .chained) (a .src .now)) (a .src .now) (a .at) (h .before .inside .ensures) (h .if1 .left) (n .word-at .ensures .0) (i .before .inside2 .ensures) (i .if2 .left)
-    (c .check-rules .ensures)
+    let a = h .before .before .before .before in
+    let s = a .args .src .now in
+    (set-parts (ruleFault (a .args .chained) s) s (a .args .at) (h .before .inside .ensures) (h .if1 .left) (n .word-at .ensures .0) (i .before .inside2 .ensures) (i .if2 .left) (k .check-rules .ensures .0), k .check-rules .ensures .1)
 
 pub check-set-spec : {M : Type 1} → statement M
 check-set-spec =
@@ -37,4 +41,5 @@ check-set-spec =
     (λ c κs. search needs)
     returns-2
     (λ c κs. search needs)
+    (λ c. search needs)
     returns-3)
