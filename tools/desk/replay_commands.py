@@ -1,5 +1,5 @@
 """What ./replay is asked on the command line."""
-import argparse, pathlib, re, struct, subprocess, sys, time
+import argparse, pathlib, re, subprocess, sys, time
 from . import walk
 from .answers import ANSWERS, JOB_LIMIT
 from .font_commands import LABEL, Bar, run_label
@@ -10,7 +10,10 @@ from .words import Trouble
 PROVED = pathlib.Path(__file__).resolve().parents[1] / "proved"
 # How many bytes of a trace are handed over at once: few enough that the bar moves, and enough that starting is cheap.
 PIECE = 400_000
-ANSWER = re.compile(r"answer ([0-9]+)\nplace ([0-9]+)\nruns ([0-9]+)\nagreed ([0-9]+)\nfirst ([0-9]+)\n")
+ANSWER = re.compile(r"answer ([0-9]+)\nplace ([0-9]+)\nruns ([0-9]+)\nagreed ([0-9]+)\nfirst ([0-9]+)\n"
+                    r"(?:steps ([0-9]+)\n)?")
+# How many seconds the program has to say what a list may cost, and the number at which it stops counting.
+COST_SECONDS, MANY_STEPS = 10, 1 << 63
 REFUSALS = {number: ANSWERS[number][0] for number in (4, 5, 6, 12)}
 REFUSALS.update({11: "the replay file is faulty", 15: "the list is not good", 16: "the trace is cut short",
                  17: "a record names no lookup of the list"})
@@ -73,21 +76,27 @@ class Program:
 
     def __init__(self, args):
         self.command = [args.program] if args.program else [PROVED, "replay_job", "./replay"]
-        self.seconds, self.cost = args.seconds, ""
+        self.seconds = args.seconds
         if not args.program and subprocess.run([PROVED, "--build", *self.command[1:]], check=False).returncode:
             raise Trouble("there is no program to replay with")
         self.end = time.monotonic() + self.seconds
 
-    def answer(self, file):
-        try:
-            ran = subprocess.run(self.command, input=file, stdout=subprocess.PIPE, check=False,
-                                 timeout=max(0.01, self.end - time.monotonic()))
-        except subprocess.TimeoutExpired as late:
-            raise Trouble(f"stopped after {self.seconds:g} s; --seconds gives it longer. {self.cost}") from late
+    def answer(self, file, seconds):
+        """The numbers that the program prints, the steps last: 0 where it says none."""
+        ran = subprocess.run(self.command, input=file, stdout=subprocess.PIPE, check=False, timeout=max(0.01, seconds))
         said = ANSWER.fullmatch(ran.stdout.decode("ascii", "replace"))
         if not said:
             raise Trouble(f"{self.command[0]} gave no answer (exit status {ran.returncode})")
-        return map(int, said.groups())
+        return [int(one or 0) for one in said.groups()]
+
+    def cost(self, lookups):
+        """What a list may cost, which a replay without runs tells; nothing of a list that is refused."""
+        try:
+            number, *_, steps = self.answer(build_replay(*list_parts(lookups), b""), COST_SECONDS)
+        except subprocess.TimeoutExpired:
+            return f"What the list may cost takes more than {COST_SECONDS} s to tell."
+        many = "2^63 or more" if steps == MANY_STEPS else f"at most {steps:,}"
+        return "" if number else f"A run asks {many} lookups for each of its glyphs."
 
     def replay(self, lookups, runs):
         """Hands the runs over in pieces, and counts."""
@@ -95,10 +104,12 @@ class Program:
         room = FILE_LIMIT - TRAILER - len(entries) - len(buffer)
         if room < 2 + 4 * 64:
             raise Trouble(f"the lookups have {len(buffer)} bytes, and a replay file has {FILE_LIMIT} at most")
-        self.cost = say_cost(lookups)
         bar, told = Bar(len(runs)), Replay()
         for count, piece in pieces(runs, min(room, PIECE)):
-            told.add(*self.answer(build_replay(entries, buffer, piece)))
+            try:
+                told.add(*self.answer(build_replay(entries, buffer, piece), self.end - time.monotonic())[:-1])
+            except subprocess.TimeoutExpired as late:
+                raise Trouble(f"stopped after {self.seconds:g} s; --seconds gives it longer. {self.cost(lookups)}") from late
             bar.step(count)
             if told.number:
                 break
@@ -106,15 +117,6 @@ class Program:
 
 
 # ---- What is said ----
-def say_cost(lookups):
-    """How much there may be to do; nothing of a list that a walk by hand cannot read, which the program refuses."""
-    try:
-        steps = walk.cost([walk.lookup(one.kind, one.data) for one in lookups])
-    except (struct.error, IndexError):
-        return ""
-    return f"A run asks at most {steps:,} lookups for each of its glyphs."
-
-
 def say_tally(title, told):
     if told.number and told.number != TOO_DEEP:
         place = f", in the part at {told.place:#06x}" if told.number == 6 else ""
@@ -204,8 +206,8 @@ def main(given=None):
         lookups, names = read_list(args.list)
         trace = read_trace(args.trace, names)
         program = Program(args)
-        if args.cost and say_cost(lookups):
-            print(say_cost(lookups))
+        if args.cost:
+            print(program.cost(lookups) or "The list is refused, so that it has no cost.")
         if args.cut is None:
             return plain(program, lookups, trace)
         return before_and_after(args, program, lookups, trace)

@@ -1,6 +1,6 @@
 -- What a replay file's trailer says of its parts, the ways through its check, and its replay.
 use Prim.Native.Nat.{ℕ, _+_, _-_, _≤_, _<_}
-use mathlib.Core.Path.{_≡_, _∙_}
+use mathlib.Core.Path.{_≡_, ap, _∙_}
 use mathlib.Core.Bool.{Bool, true, false}
 use mathlib.Core.List.{List}
 use native.Mathlib.Omega.{arith}
@@ -10,7 +10,8 @@ use borrow.Author.Tests.{le-leb, lt-leb, leb-true, eq-eqb, ne-eqb}
 use Rattle.meaning.specs.Job.{long, partAt, bytesOf}
 use Rattle.laws.specs.Runs.{both}
 use Rattle.replaying.specs.Replay.{Replayed, refusing, replay}
-use Rattle.replay_job.specs.ReplayFile.{fileLimit, trailer, listPart, bufferPart, tracePart, tag, before, goodFile, replayFile}
+use Rattle.replaying.specs.Cost.{replayCost}
+use Rattle.replay_job.specs.ReplayFile.{fileLimit, trailer, listPart, bufferPart, tracePart, tag, before, goodFile, replayFile, asksCost, fileSteps}
 
 -- x is the number of four bytes
 abbrev pub Long : List ℕ → ℕ → ℕ → Type 0
@@ -89,3 +90,23 @@ module _ (f : List ℕ) where
       → trace ≡ bytesOf f (partAt f (length f - 28 + 16)) → r ≡ replay list buffer trace → r ≡ replayFile f
   unfolding replayFile listPart bufferPart tracePart trailer
   replay-whole h a b c e = rw (h, ← a, ← b, ← c) e
+
+  -- Whether it asks for the cost, and the steps.
+  pub cost-faulty : goodFile f ≡ false → false ≡ asksCost f
+  unfolding asksCost
+  cost-faulty h = rw h
+
+  pub cost-asked : goodFile f ≡ true → {n : ℕ} → n ≡ long f (length f - 28 + 20) → eqb n 0 ≡ asksCost f
+  unfolding asksCost tracePart trailer partAt
+  cost-asked h {n} e =
+      let d : length f - 28 + 16 + 4 ≡ length f - 28 + 20 = omega arith in
+      rw (h, d, ← e)
+
+  pub asked-good : asksCost f ≡ true → goodFile f ≡ true
+  unfolding asksCost
+  asked-good h = both (goodFile f) _ h .0
+
+  pub steps-told : {list buffer : List ℕ} {n : ℕ} → list ≡ bytesOf f (partAt f (length f - 28)) → buffer ≡ bytesOf f (partAt f (length f - 28 + 8)) → n ≡ (replayCost list buffer) .steps → n ≡ fileSteps f
+  unfolding fileSteps listPart bufferPart trailer
+  steps-told {list} {buffer} a b e =
+      e ∙ ap (λ (l : List ℕ). (replayCost l buffer) .steps) a ∙ ap (λ (l : List ℕ). (replayCost (bytesOf f (partAt f (length f - 28))) l) .steps) b

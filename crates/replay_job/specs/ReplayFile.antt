@@ -8,6 +8,7 @@ use lib.Dec.{leb, eqb}
 use Rattle.meaning.specs.Words.{word}
 use Rattle.meaning.specs.Job.{Part, long, partAt, bytesOf, ascii}
 use Rattle.replaying.specs.Replay.{Replayed, refusing, replay}
+use Rattle.replaying.specs.Cost.{replayCost}
 use Rattle.report.specs.Text.{lineText}
 
 -- the most bytes of a replay file
@@ -58,6 +59,18 @@ printed r =
     ++ (lineText (ascii "agreed ") (r .tally .agreements)
     ++ lineText (ascii "first ") (r .tally .first))))
 
+-- a file whose trace is empty asks what its list may cost
+unfoldable pub asksCost : List ℕ → Bool
+asksCost f = goodFile f && eqb (tracePart f .len) 0
+
+-- the steps of a file's list
+unfoldable pub fileSteps : List ℕ → ℕ
+fileSteps f = (replayCost (bytesOf f (listPart f)) (bytesOf f (bufferPart f))) .steps
+
+-- the line that is printed for such a file besides
+unfoldable pub costText : List ℕ → List ℕ
+costText f = cond (asksCost f) (lineText (ascii "steps ") (fileSteps f)) []
+
 -- what the program prints for a file
 unfoldable pub program : List ℕ → List ℕ
-program f = printed (replayFile f)
+program f = printed (replayFile f) ++ costText f

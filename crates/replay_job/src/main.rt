@@ -1,4 +1,4 @@
-// The program: reads a replay file from standard input, whose last 28 bytes point back to a list, a buffer and a trace, and prints the answer and the tally of the replay.
+// The program: reads a replay file from standard input, whose last 28 bytes point back to a list, a buffer and a trace, and prints the answer and the tally of the replay; where the trace is empty, also what the list may cost.
 use input::Input;
 use input::read_input;
 use lookup_list::long_at;
@@ -6,6 +6,7 @@ use lookup_list::part;
 use replay::Replayed;
 use replay::refusing;
 use replay::replay_all;
+use replay_cost::replay_cost;
 use report::put_line;
 ghost use mathlib.Core.Path.{_≡_};
 ghost use mathlib.Core.Bool.{true};
@@ -14,7 +15,7 @@ ghost use lib.ListN.{length};
 ghost use Rattle.meaning.specs.Job.{partAt, bytesOf};
 ghost use Rattle.replay.specs.Counting.{replayedOf};
 ghost use Rattle.report.specs.Text.{Put};
-ghost use Rattle.replay_job.specs.ReplayFile.{before, goodFile, replayFile, printed, program};
+ghost use Rattle.replay_job.specs.ReplayFile.{before, goodFile, replayFile, printed, asksCost, fileSteps, costText, program};
 
 // The most bytes of a replay file.
 const FILE_LIMIT: usize = 500000;
@@ -29,7 +30,7 @@ const TRAILER: usize = 28;
 const TAG: usize = 0x4C53_5231;
 
 // Room for the longest text.
-const TEXT: usize = 160;
+const TEXT: usize = 192;
 
 // Whether the part whose start and length stand at `at` lies wholly before the trailer.
 fn is_before(file: &[u8], at: usize) -> bool
@@ -96,12 +97,44 @@ fn put_answer(text: &mut [u8], r: Replayed) -> usize
     put_line(text, d, b"first ", r.tally.first)
 }
 
+// Whether a file is a replay file with an empty trace, which asks for the cost.
+fn asks_cost(file: &[u8]) -> bool
+    ensures { λ r. ⌜ r ≡ asksCost (now (file .entry)) ⌝ }
+{
+    if !good_file(file) {
+        return false;
+    }
+    long_at(file, file.len() - TRAILER + 20) == 0
+}
+
+// The steps that a file's list may take.
+fn file_steps(file: &[u8]) -> usize
+    requires { ⌜ goodFile (now file) ≡ true ⌝ }
+    ensures { λ r. ⌜ r ≡ fileSteps (now (file .entry)) ⌝ }
+{
+    let at = file.len() - TRAILER;
+    let c = replay_cost(part_at(file, at), part_at(file, at + 8));
+    c.steps
+}
+
+// The line with the cost from `at` on, where the file asks for it; the place after it.
+fn put_cost(text: &mut [u8], at: usize, file: &[u8]) -> usize
+    requires { ⌜ at < 0x1_0000 ⌝ }
+    ensures { λ r. ⌜ Put (now (text .entry)) at (costText (now (file .entry))) (now (text .exit)) r ⌝ }
+{
+    if !asks_cost(file) {
+        return at;
+    }
+    put_line(text, at, b"steps ", file_steps(file))
+}
+
 // What the program prints for a file, at the front of `text`; how long it is.
 fn answer(file: &[u8], text: &mut [u8]) -> usize
-    requires { ⌜ 160 ≤ length (now text) ⌝ }
+    requires { ⌜ 192 ≤ length (now text) ⌝ }
     ensures { λ r. ⌜ Put (now (text .entry)) 0 (program (now (file .entry))) (now (text .exit)) r × (r ≤ length (now (text .exit))) ⌝ }
 {
-    put_answer(text, replay_file(file))
+    let at = put_answer(text, replay_file(file));
+    put_cost(text, at, file)
 }
 
 // Reads the file, and writes the text at once. Where that fails, a sentence on standard error says so; a failed read leaves standard output empty.
