@@ -1,4 +1,4 @@
-// Malformed, over the whole source: the header of each kind and format, and through its offsets every part, retained or not. And records that point past their rule.
+// Malformed, over the whole source: the header of each kind and format, and through its offsets every part, retained or not. And records that point past their rule, and a format that the kind has not.
 use class_counts::good_formats;
 use class_counts::good_header;
 use rules::indexes_below;
@@ -12,10 +12,11 @@ use wire::lowest;
 use wire::put_byte;
 use wire::word_at;
 ghost use mathlib.Core.Path.{_≡_};
-ghost use mathlib.Core.Bool.{true, false};
+ghost use mathlib.Core.Bool.{true, false, _&&_, not};
 ghost use Prim.Native.Nat.{_+_, _*_, _≤_, _<_};
-ghost use Rattle.meaning.specs.Words.{words};
+ghost use Rattle.meaning.specs.Words.{word, words, inside};
 ghost use Rattle.meaning.specs.Tables.{ruleSet, reaches, classContext, coverContext, context, table};
+ghost use Rattle.meaning.specs.Subset.{lastFormat, hasFormat};
 ghost use Rattle.meaning.specs.Records.{setsWithin, recordsWithin};
 ghost use Rattle.meaning.specs.Fault.{lowest, faultThrough, headerFault, coversFault, contextFault, pairFault, fault, enough};
 ghost use Rattle.wire.specs.Fault.{faultOf, placeOf};
@@ -31,6 +32,39 @@ pub const RULE_PLACES: usize = 131072;
 
 // How many offsets pay for marks: fewer reach 2^26 members at most, which are soon checked.
 const MANY: usize = 2048;
+
+// The last format of a kind: 3 for contexts, 1 for ligatures, 2 for pairs and single substitutions.
+fn last_format(kind: usize) -> usize
+    ensures { λ r. ⌜ r ≡ lastFormat kind ⌝ }
+{
+    if kind <= 2 {
+        return 3;
+    }
+    if kind == 3 {
+        return 1;
+    }
+    2
+}
+
+// Whether the kind has this format: from 1 to its last.
+fn has_format(kind: usize, format: usize) -> bool
+    ensures { λ r. ⌜ r ≡ hasFormat kind format ⌝ }
+{
+    if format < 1 {
+        return false;
+    }
+    format <= last_format(kind)
+}
+
+// Whether the first two bytes stand and hold a format the kind hasn't.
+pub fn other_format(kind: usize, src: &[u8]) -> bool
+    ensures { λ r. ⌜ r ≡ inside (now (src .entry)) 0 2 && not (hasFormat kind (word (now (src .entry)) 0)) ⌝ }
+{
+    if !inside(src, 0, 2) {
+        return false;
+    }
+    !has_format(kind, word_at(src, 0))
+}
 
 // The sorts of parts that an offset of a header reaches.
 pub enum Part {

@@ -1,2 +1,1 @@
 pub mod Refusing
-pub mod Near

@@ -4,16 +4,14 @@ use mathlib.Core.Path.{_≡_}
 use mathlib.Core.Bool.{Bool, true, false, _&&_, not}
 use mathlib.Core.Option.{none}
 use mathlib.Core.List.{List}
-use native.Mathlib.Decide.{decLt}
 use native.Mathlib.Omega.{arith}
 use lib.ListN.{length}
-use lib.Dec.{leb, ltb}
-use borrow.Author.Tests.{lt-ltb, le-ltb, le-leb, lt-leb, eq-eqb, ne-eqb, not-true, not-false}
+use borrow.Author.Tests.{lt-ltb, le-ltb, not-true, not-false}
 use Rattle.meaning.specs.Words.{word, inside}
 use Rattle.meaning.specs.Tables.{table}
 use Rattle.meaning.specs.Fault.{fault}
 use Rattle.meaning.specs.Records.{recordsWithin}
-use Rattle.meaning.specs.Subset.{limit, lastFormat, hasFormat}
+use Rattle.meaning.specs.Subset.{limit, hasFormat}
 use Rattle.wire.specs.Fault.{faultOf, is-at, is-sound}
 use Rattle.wire.specs.declared.Fault.{Fault}
 use Rattle.wire.specs.declared.Fault.the-variants.{At, Sound}
@@ -22,40 +20,6 @@ use Rattle.lookup_list.specs.Ready.{sourceAt}
 use Rattle.lookup_checks.specs.Checks.{refusalBy}
 use Rattle.lookup_checks.specs.declared.Checked.{Checked}
 use Rattle.lookup_checks.specs.declared.Checked.the-variants.{Refused, Fine}
-
--- The last format of a kind, by its ways.
-module _ (kind : ℕ) where
-  pub last-context : kind ≤ 2 → 3 ≡ lastFormat kind
-  unfolding lastFormat
-  last-context h = rw (le-leb kind 2 h)
-
-  pub last-one : 2 < kind → kind ≡ 3 → 1 ≡ lastFormat kind
-  unfolding lastFormat
-  last-one h k = rw (lt-leb kind 2 h, eq-eqb kind 3 k)
-
-  pub last-two : 2 < kind → (kind ≡ 3 → ⊥) → 2 ≡ lastFormat kind
-  unfolding lastFormat
-  last-two h k = rw (lt-leb kind 2 h, ne-eqb kind 3 k)
-
--- Another format: no bytes for it, format 0, and one past the last.
-module _ (kind : ℕ) (s : List ℕ) {b : Bool} (e : b ≡ inside s 0 2) where
-  pub format-short : not b ≡ true → false ≡ inside s 0 2 && not (hasFormat kind (word s 0))
-  format-short z = rw (← e, not-true b z)
-
-  module _ (z : not b ≡ false) {format : ℕ} (f : format ≡ word s 0) where
-    pub format-none : format < 1 → true ≡ inside s 0 2 && not (hasFormat kind (word s 0))
-    unfolding hasFormat
-    format-none h = rw (← e, not-false b z, ← f, lt-leb 1 format h)
-
-    past-last : (n : ℕ) → Dec (n < format) → ltb n format ≡ not (leb format n)
-    past-last n (yes h) = rw (lt-ltb n format h, lt-leb format n h)
-    past-last n (no h) =
-        let k : format ≤ n = omega arith in
-        rw (le-ltb n format k, le-leb format n k)
-
-    pub format-past : 1 ≤ format → {n : ℕ} → n ≡ lastFormat kind → ltb n format ≡ inside s 0 2 && not (hasFormat kind (word s 0))
-    unfolding hasFormat
-    format-past h g = rw (← e, not-false b z, ← f, le-leb 1 format h, ← g) (past-last _ (decLt _ format))
 
 -- A lookup: over the limit, another format, malformed, a record past its rule, or none of these.
 module _ (kind : ℕ) (s : List ℕ) where

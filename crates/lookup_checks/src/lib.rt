@@ -1,18 +1,17 @@
 // The lookups of a list, checked as the subsetter checks its sources: 4, 5, 6 or 12 for the first faulty one.
 use checks::check;
+use checks::other_format;
 use checks::records_within;
 use lookup_list::long_at;
 use lookup_list::part;
 use room::LIMIT;
 use wire::Fault;
-use wire::inside;
 use wire::word_at;
 ghost use mathlib.Core.Path.{_≡_};
-ghost use mathlib.Core.Bool.{true, _&&_, not};
+ghost use mathlib.Core.Bool.{true};
 ghost use Prim.Native.Nat.{_*_, _/_, _<_};
 ghost use lib.ListN.{length};
-ghost use Rattle.meaning.specs.Words.{word, inside};
-ghost use Rattle.meaning.specs.Subset.{lastFormat, hasFormat};
+ghost use Rattle.meaning.specs.Words.{word};
 ghost use Rattle.replaying.specs.Listed.{listed, goodList, lookupRefusal, firstRefusal};
 ghost use Rattle.lookup_list.specs.Ready.{sourceAt};
 ghost use Rattle.lookup_checks.specs.Checks.{refusalBy};
@@ -21,33 +20,6 @@ ghost use Rattle.lookup_checks.specs.Checks.{refusalBy};
 pub enum Checked {
     Refused(usize, usize),
     Fine,
-}
-
-// The last format of a kind: 3 for contexts, 1 for ligatures, 2 for pairs and single substitutions.
-fn last_format(kind: usize) -> usize
-    ensures { λ r. ⌜ r ≡ lastFormat kind ⌝ }
-{
-    if kind <= 2 {
-        return 3;
-    }
-    if kind == 3 {
-        return 1;
-    }
-    2
-}
-
-// Whether the first two bytes stand and hold a format that the kind has not.
-fn other_format(kind: usize, src: &[u8]) -> bool
-    ensures { λ r. ⌜ r ≡ inside (now (src .entry)) 0 2 && not (hasFormat kind (word (now (src .entry)) 0)) ⌝ }
-{
-    if !inside(src, 0, 2) {
-        return false;
-    }
-    let format = word_at(src, 0);
-    if format < 1 {
-        return true;
-    }
-    last_format(kind) < format
 }
 
 // What is wrong with a lookup: over the limit, a format that its kind has not, malformed, or a record past its rule.

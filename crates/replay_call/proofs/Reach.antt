@@ -17,7 +17,7 @@ use Rattle.replaying.specs.Listed.{orElse, Entry, listed, goodList, sourceOf, l
 use Rattle.replaying.specs.Trace.{runsOf}
 use Rattle.replaying.specs.Replay.{shallow, played, refusing, refusal, runsIn, replay}
 use Rattle.replaying.specs.Tallies.{refused-first, replays}
-use Rattle.lookup_checks.proofs.Near.{place-near}
+use Rattle.checks.specs.Near.{place-near}
 
 -- the bytes of a part
 take-bytes : (n : ℕ) (s : List ℕ) → ((i : ℕ) → getD s i 0 < 256) → (i : ℕ) → getD (take n s) i 0 < 256

@@ -17,7 +17,7 @@ use Rattle.meaning.specs.Cut.{cut}
 use Rattle.meaning.specs.Layout.{wordsFit, tableWords}
 use Rattle.meaning.specs.Subset.{Outcome, refused, limit, goodKind, hasFormat, hasDevice, tooBig, laidInto, written, subset}
 use Rattle.laws.specs.CallBack.{subset-is}
-use Rattle.subset.proofs.Near.{place-near}
+use Rattle.checks.specs.Near.{place-near}
 use Rattle.subset.specs.Answers.{numberOf, lengthOf, outcome, decoded}
 use Rattle.subset.specs.declared.Answer.{Answer}
 use Rattle.subset.specs.declared.Answer.the-variants.{Kept, BadKind, BadGlyphs, BadLookups, LongSource, BadFormat, Malformed, Device, PastRule, Nothing, TooBig, NoRoom, BadJob}

@@ -1,3 +1,2 @@
 pub mod Tested
-pub mod Near
 pub mod Coded

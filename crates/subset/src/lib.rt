@@ -1,5 +1,6 @@
 // The call: a kind, a source, a glyph map, a lookup map and a lent buffer, and the first answer that applies, in the written order of documents 01 and 02.
 use checks::check;
+use checks::other_format;
 use checks::records_within;
 use cut::cut_lent;
 use cut::cut_own;
@@ -8,15 +9,14 @@ use maps::good_lookups;
 use room::LIMIT;
 use room::Laid;
 use wire::Fault;
-use wire::inside;
 use wire::word_at;
 ghost use mathlib.Core.Path.{_≡_};
-ghost use mathlib.Core.Bool.{_&&_, _||_, not};
+ghost use mathlib.Core.Bool.{_&&_, _||_};
 ghost use Prim.Native.Nat.{_+_, _*_, _≤_};
 ghost use lib.ListN.{length};
 ghost use lib.Dec.{ltb, eqb};
-ghost use Rattle.meaning.specs.Words.{word, inside};
-ghost use Rattle.meaning.specs.Subset.{limit, goodKind, lastFormat, hasFormat, hasDevice, subset};
+ghost use Rattle.meaning.specs.Words.{word};
+ghost use Rattle.meaning.specs.Subset.{limit, goodKind, hasDevice, subset};
 ghost use Rattle.subset.specs.Answers.{numberOf, lengthOf, outcome, decoded, answerOf};
 ghost use Rattle.subset.specs.Refusals.{Judges};
 
@@ -54,44 +54,11 @@ fn good_kind(kind: usize) -> bool
     kind <= 5
 }
 
-// The last format of a kind: 3 for contexts, 1 for ligatures, 2 for pairs and single substitutions.
-fn last_format(kind: usize) -> usize
-    ensures { λ r. ⌜ r ≡ lastFormat kind ⌝ }
-{
-    if kind <= 2 {
-        return 3;
-    }
-    if kind == 3 {
-        return 1;
-    }
-    2
-}
-
-// Whether the kind has this format: from 1 to its last.
-fn has_format(kind: usize, format: usize) -> bool
-    ensures { λ r. ⌜ r ≡ hasFormat kind format ⌝ }
-{
-    if format < 1 {
-        return false;
-    }
-    format <= last_format(kind)
-}
-
 // Whether a source is over the limit.
 fn too_long(source: &[u8]) -> bool
     ensures { λ r. ⌜ r ≡ ltb limit (length (now (source .entry))) ⌝ }
 {
     LIMIT < source.len()
-}
-
-// Whether the first two bytes stand and hold a format the kind hasn't.
-fn other_format(kind: usize, source: &[u8]) -> bool
-    ensures { λ r. ⌜ r ≡ inside (now (source .entry)) 0 2 && not (hasFormat kind (word (now (source .entry)) 0)) ⌝ }
-{
-    if !inside(source, 0, 2) {
-        return false;
-    }
-    !has_format(kind, word_at(source, 0))
 }
 
 // Whether a value format has a bit of 0x00F0.

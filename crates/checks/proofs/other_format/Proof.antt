@@ -1,10 +1,10 @@
--- `subset::other_format` meets its contract: the second test is made where the first two bytes stand. Assumes nothing.
+-- `checks::other_format` meets its contract: the second test is made where the first two bytes stand. Assumes nothing.
 use mathlib.Core.Path.{ap}
 use mathlib.Core.Bool.{not}
 use borrow.Author.Needs.{needs}
 use Rattle.wire.specs.Reached.{refused, passed}
-use Rattle.subset.proofs.other_format.Statement.{statement}
-use Rattle.subset.proofs.other_format.Tie as tie
+use Rattle.checks.proofs.other_format.Statement.{statement}
+use Rattle.checks.proofs.other_format.Tie as tie
 
 returns : tie.Need-returns
 returns c = rw (refused (c .before .inside .ensures) (c .if1 .taken))

@@ -1,8 +1,8 @@
--- `subset::last_format` meets its contract: each return rewrites with the tests that led there. Assumes nothing.
+-- `checks::last_format` meets its contract: each return rewrites with the tests that led there. Assumes nothing.
 use borrow.Author.Tests.{le-leb, lt-leb, eq-eqb, ne-eqb}
 use Rattle.meaning.specs.Subset.{lastFormat}
-use Rattle.subset.proofs.last_format.Statement.{statement}
-use Rattle.subset.proofs.last_format.Tie as tie
+use Rattle.checks.proofs.last_format.Statement.{statement}
+use Rattle.checks.proofs.last_format.Tie as tie
 
 returns : tie.Need-returns
 unfolding lastFormat

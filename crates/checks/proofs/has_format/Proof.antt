@@ -1,9 +1,9 @@
--- `subset::has_format` meets its contract: each return rewrites with the test that led there. Assumes nothing.
+-- `checks::has_format` meets its contract: each return rewrites with the test that led there. Assumes nothing.
 use borrow.Author.Needs.{needs}
 use borrow.Author.Tests.{le-leb, lt-leb}
 use Rattle.meaning.specs.Subset.{hasFormat}
-use Rattle.subset.proofs.has_format.Statement.{statement}
-use Rattle.subset.proofs.has_format.Tie as tie
+use Rattle.checks.proofs.has_format.Statement.{statement}
+use Rattle.checks.proofs.has_format.Tie as tie
 
 returns : tie.Need-returns
 unfolding hasFormat
