@@ -10,7 +10,7 @@ use borrow.Author.Tests.{eq-eqb, ne-eqb}
 use Rattle.meaning.specs.Words.{word, words}
 use Rattle.laws.specs.Left.{words-left, words-all, words-none}
 use Rattle.differences.specs.Entries.{sameList}
-use Rattle.rule_rows.specs.declared.Row.{Row}
+use Rattle.rule_rows.specs.declared.Run.{Run}
 use Rattle.rule_rows.specs.Rows.{sideOf, numberBy, numbersOf, mix, printNumbers}
 
 -- the two ways through `word_of` and through `number_at`
@@ -30,7 +30,7 @@ pub stands-for : (t : List ℕ) (base w : ℕ) → (base ≡ 0 → ⊥) → getD
 unfolding numberBy
 stands-for t base w h = rw (ne-eqb base 0 h)
 
-module _ (l r t : List ℕ) (x : Row) where
+module _ (l r t : List ℕ) (x : Run) where
   -- the i-th number, and those from it on
   abbrev pub numberOf : ℕ → ℕ
   numberOf i = numberBy t (x .base) (word (sideOf (x .side) l r) (x .at + 2 * i))
@@ -54,7 +54,7 @@ module _ (l r t : List ℕ) (x : Row) where
     pub small : print < 65536
     pub left : printNumbers print (restOf n i) ≡ printNumbers h (numbersOf l r t x n)
 
-module _ {l r t : List ℕ} {x : Row} {n h : ℕ} where
+module _ {l r t : List ℕ} {x : Run} {n h : ℕ} where
   pub printing-all : h < 65536 → Printing l r t x n h h 0
   printing-all b = record { within = omega arith; small = b; left = rw (rest-all l r t x n) }
 
@@ -67,11 +67,11 @@ module _ {l r t : List ℕ} {x : Row} {n h : ℕ} where
   printing-end {i = i} k a = (rw (rest-none l r t x n i a) at (k .left), k .small)
 
 -- what the loop of `same_row` keeps
-pub record Comparing (l r t : List ℕ) (x y : Row) (n i : ℕ) : Type 0 where
+pub record Comparing (l r t : List ℕ) (x y : Run) (n i : ℕ) : Type 0 where
   pub within : i ≤ n
   pub left : sameList eqb (restOf l r t x n i) (restOf l r t y n i) ≡ sameList eqb (numbersOf l r t x n) (numbersOf l r t y n)
 
-module _ {l r t : List ℕ} {x y : Row} {n : ℕ} where
+module _ {l r t : List ℕ} {x y : Run} {n : ℕ} where
   pub comparing-all : Comparing l r t x y n 0
   comparing-all = record { within = omega arith; left = rw (rest-all l r t x n, rest-all l r t y n) }
 

@@ -9,7 +9,7 @@ ghost use Rattle.differences.specs.Entries.{sameList};
 ghost use Rattle.rule_rows.specs.Rows.{sideOf, numberBy, Reads, numbersOf, mix, printNumbers};
 
 // Where a row stands: in the left subtable (0) or in the right one, from `at` on; and where `t` has the numbers of its words, if they do not stand for themselves (0).
-pub struct Row {
+pub struct Run {
     pub side: usize,
     pub at: usize,
     pub base: usize,
@@ -26,7 +26,7 @@ pub fn word_of(left: &[u8], right: &[u8], side: usize, at: usize) -> usize
 }
 
 // The `i`-th number of a row.
-fn number_at(left: &[u8], right: &[u8], t: &[u32], x: Row, i: usize) -> usize
+fn number_at(left: &[u8], right: &[u8], t: &[u32], x: Run, i: usize) -> usize
     requires { ⌜ Reads x × (i < 0x1_0000_0000) ⌝ }
     ensures { λ r. ⌜ (r ≡ numberBy (now (t .entry)) (x .base) (word (sideOf (x .side) (now (left .entry)) (now (right .entry))) (x .at + 2 * i))) × (r < 0x1_0000_0000) ⌝ }
 {
@@ -38,7 +38,7 @@ fn number_at(left: &[u8], right: &[u8], t: &[u32], x: Row, i: usize) -> usize
 }
 
 // Whether the first `n` numbers of two rows are the same.
-pub fn same_row(left: &[u8], right: &[u8], t: &[u32], x: Row, y: Row, n: usize) -> bool
+pub fn same_row(left: &[u8], right: &[u8], t: &[u32], x: Run, y: Run, n: usize) -> bool
     requires { ⌜ Reads x × Reads y × (n < 0x1_0000_0000) ⌝ }
     ensures { λ r. ⌜ r ≡ sameList eqb (numbersOf (now (left .entry)) (now (right .entry)) (now (t .entry)) x n) (numbersOf (now (left .entry)) (now (right .entry)) (now (t .entry)) y n) ⌝ }
 {
@@ -63,7 +63,7 @@ pub fn mix(h: usize, w: usize) -> usize
 }
 
 // The first `n` numbers of a row, folded into the print `h`.
-pub fn print_row(left: &[u8], right: &[u8], t: &[u32], x: Row, n: usize, h: usize) -> usize
+pub fn print_row(left: &[u8], right: &[u8], t: &[u32], x: Run, n: usize, h: usize) -> usize
     requires { ⌜ Reads x × (n < 0x1_0000_0000) × (h < 65536) ⌝ }
     ensures { λ r. ⌜ (r ≡ printNumbers h (numbersOf (now (left .entry)) (now (right .entry)) (now (t .entry)) x n)) × (r < 65536) ⌝ }
 {
