@@ -1,10 +1,15 @@
 -- What a test of two codes tells.
 use Prim.Native.Nat.{ℕ}
-use mathlib.Core.Path.{_≡_, sym, ap, _∙_}
+use mathlib.Core.Path.{_≡_, refl, sym, ap, _∙_}
 use mathlib.Core.Bool.{Bool, true, false, true≢false}
+use mathlib.Core.List.{List}
+use lib.ListN.{getD}
+use lib.Dec.{eqb}
+use borrow.Author.Tests.{eqb-true, eqb-false}
 use Rattle.differences.specs.Content.{Says}
 use Rattle.differences.specs.Entries.{sameSays}
 use Rattle.differences.specs.Equal.{Tells, tells-says}
+use Rattle.rule_numbers.specs.Book.{codeAt, Is, Firsts, Book}
 
 module _ (says : ℕ → Says) (c : ℕ) {x y : ℕ} {b : Bool} (e : x ≡ y) (f : b ≡ sameSays (says x) (says c)) where
   pub same-tells : b ≡ true → says y ≡ says c
@@ -12,3 +17,22 @@ module _ (says : ℕ → Says) (c : ℕ) {x y : ℕ} {b : Bool} (e : x ≡ y) (f
 
   pub other-tells : b ≡ false → says y ≡ says c → ⊥
   other-tells h q = true≢false (sym (tells-says .itself (says c)) ∙ ap (λ (z : Says). sameSays z (says c)) (sym q ∙ ap says (sym e)) ∙ sym f ∙ h)
+
+-- Numbers are equal exactly if the codes say the same.
+pub numbers-tell : {says : ℕ → Says} {print : Says → ℕ} {num came : List ℕ} → Book says print num came → (c d : ℕ) → (getD num c 0 ≡ 0 → ⊥) → (getD num d 0 ≡ 0 → ⊥) → sameSays (says c) (says d) ≡ eqb (getD num c 0) (getD num d 0)
+numbers-tell {says} {print} {num} {came} b c d m n = go (sameSays (says c) (says d)) (eqb (getD num c 0) (getD num d 0)) refl refl
+  where
+    p : Is came (getD num c 0) × (says (codeAt came (getD num c 0)) ≡ says c)
+    p = b .own c m
+
+    q : Is came (getD num d 0) × (says (codeAt came (getD num d 0)) ≡ says d)
+    q = b .own d n
+
+    go : (s t : Bool) → sameSays (says c) (says d) ≡ s → eqb (getD num c 0) (getD num d 0) ≡ t → s ≡ t
+    go true true e f = refl
+    go false false e f = refl
+    go true false e f = absurd (eqb-false (getD num c 0) (getD num d 0) f (b .firsts .apart (getD num c 0) (getD num d 0) (p .0) (q .0) (p .1 ∙ tells-says .equal (says c) (says d) e ∙ sym (q .1))))
+    go false true e f =
+        let k = eqb-true (getD num c 0) (getD num d 0) f in
+        let w : says c ≡ says d = sym (p .1) ∙ ap (λ (n : ℕ). says (codeAt came n)) k ∙ q .1 in
+        sym e ∙ ap (λ (x : Says). sameSays x (says d)) w ∙ tells-says .itself (says d)
