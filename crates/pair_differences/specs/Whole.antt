@@ -1,5 +1,5 @@
 -- A pair table by glyph as a whole: its first glyphs, each with its pairs, and what is known of a sound one.
-use Prim.Native.Nat.{ℕ, zero, suc, _+_, _*_, _/_, _≤_, _<_}
+use Prim.Native.Nat.{ℕ, zero, suc, _+_, _*_, _≤_, _<_}
 use mathlib.Core.Path.{_≡_, refl, sym, ap, _∙_}
 use mathlib.Core.Bool.{Bool, true, false, cond, _&&_, _||_, not, true≢false}
 use mathlib.Core.Option.{Option, none, some}
@@ -8,22 +8,22 @@ use native.Mathlib.Nat.{zero-add}
 use native.Mathlib.Omega.{arith}
 use lib.ListN.{length, getD}
 use lib.Dec.{leb, eqb}
-use borrow.Author.Tests.{eqb-true, eqb-false, leb-true}
+use borrow.Author.Tests.{eq-eqb, eqb-true, eqb-false, leb-true}
 use Rattle.meaning.specs.Words.{word, inside, bind, upFrom}
 use Rattle.meaning.specs.Parts.{coverage, coverageSound}
-use Rattle.meaning.specs.Tables.{Pair, reach, reaches, fieldCount, pairRecords, pairSet, table}
-use Rattle.meaning.specs.Fault.{faultThrough, coverageFault, pairSetFault, headerFault, enough, fault}
+use Rattle.meaning.specs.Tables.{Pair, reach, reaches, fieldCount, pairRecords, pairSet, pairTable, table}
+use Rattle.meaning.specs.Fault.{faultThrough, coverageFault, pairSetFault, headerFault, enough, goodFormats, pairFault, fault}
 use Rattle.meaning.specs.Cut.{glyphsOf}
 use Rattle.laws.specs.Runs.{Up, both}
 use Rattle.laws.specs.Stands.{All}
-use Rattle.laws.specs.ReadsBack.{fault-pairs}
+use Rattle.laws.specs.ReadsBack.{fault-pairs, table-pairs}
 use Rattle.laws.specs.SoundGood.{Bytes, part-sound, header-good}
 use Rattle.coverage_index.specs.Index.{indexOf}
 use Rattle.differences.specs.Content.{Content, pairSays, setHolds, byIndex, covered, content}
 use Rattle.differences.specs.Entries.{each, beside, pairEntries, firstEntries, differences}
 use Rattle.differences.specs.Empty.{SortedPairs, Sorted}
 use Rattle.differences.specs.Sound.{sound-sorted}
-use Rattle.first_glyphs.specs.First.{coverOf, soundCover, sound-cover, cover-null, cover-there, by-index, index-glyphs, cover-words, index-below, slot-set, atGlyph, first-ids}
+use Rattle.first_glyphs.specs.First.{coverOf, soundCover, sound-cover, word-small, covered-below, bind-same, by-slot, index-glyphs, cover-words, index-below, atGlyph, first-ids}
 use Rattle.pair_differences.specs.Held.{pairsFrom, countIn, held}
 
 -- each covered glyph with its pairs, as the content of the table says them
@@ -50,58 +50,33 @@ set-held s slot = rw (zero-add (word s slot)) (step (eqb (word s slot) 0))
     step true = refl
     step false = refl
 
--- a word of bytes
-byte-small : (s : List ℕ) (at : ℕ) → Bytes s → getD s at 0 < 256
-byte-small [] at h = omega arith
-byte-small (b ∷ s) zero h = h .0
-byte-small (b ∷ s) (suc n) h = byte-small s n (h .1)
-
-word-small : (s : List ℕ) (at : ℕ) → Bytes s → word s at < 65536
-unfolding word
-word-small s at h = omega (arith, byte-small s at h, byte-small s (at + 1) h)
-
--- a header that has a set for each covered glyph
-covered-below : (s : List ℕ) (n : ℕ) → soundCover s ≡ true → enough s n ≡ true → length (coverOf s) ≤ n
-unfolding enough
-covered-below s n c h = step (eqb (word s 2) 0) refl (coverageSound s (word s 2)) c h
-  where
-    step : (b : Bool) → eqb (word s 2) 0 ≡ b → (t : Bool) → b || t ≡ true → b || (not t || leb (length (coverage s (word s 2))) n) ≡ true → length (coverOf s) ≤ n
-    step true e t c h = rw (cover-null s (eqb-true (word s 2) 0 e)) (omega arith)
-    step false e true c h = rw (cover-there s (eqb-false (word s 2) 0 e)) (leb-true (length (coverage s (word s 2))) n h)
-    step false e false c h = absurd (true≢false (sym c))
-
--- the content of a pair table
-pub content-pairs : (s : List ℕ) → content (table 4 s) ≡ Content.pairs (pairsIn s)
-unfolding table pairsIn content
-content-pairs s = refl
+-- the content of a pair table by glyph
+pub content-pairs : (s : List ℕ) → word s 0 ≡ 1 → content (table 4 s) ≡ Content.pairs (pairsIn s)
+unfolding pairTable pairsIn content
+content-pairs s f = rw (table-pairs s, eq-eqb _ _ f)
 
 -- its value formats are good, and it has a set for each covered glyph
 abbrev goodHeader : List ℕ → Bool
-goodHeader s = eqb (word s 4 / 256) 0 && (eqb (word s 6 / 256) 0 && enough s (word s 8))
+goodHeader s = goodFormats s && enough s (word s 8)
 
-module _ (s : List ℕ) (h : fault 4 s ≡ none) where
+module _ (s : List ℕ) (f : word s 0 ≡ 1) (h : fault 4 s ≡ none) where
   -- its header has no fault
   header : headerFault (goodHeader s) 0 8 (pairSetFault (fieldCount (word s 4)) (fieldCount (word s 6)) s) s ≡ none
-  header = part-sound 0 (inside s 0 2) (headerFault (goodHeader s) 0 8 (pairSetFault (fieldCount (word s 4)) (fieldCount (word s 6)) s) s) (sym (fault-pairs s) ∙ h) .1
+  unfolding pairFault
+  header = rw (eq-eqb _ _ f) at (part-sound 0 (inside s 0 2) (pairFault s) (sym (fault-pairs s) ∙ h) .1)
 
   pub covers : soundCover s ≡ true
   covers = sound-cover s (header-good s (goodHeader s) 0 8 (pairSetFault (fieldCount (word s 4)) (fieldCount (word s 6)) s) header .1)
 
   below : length (coverOf s) ≤ word s 8
-  below = covered-below s (word s 8) covers (both (eqb (word s 6 / 256) 0) (enough s (word s 8)) (both (eqb (word s 4 / 256) 0) (eqb (word s 6 / 256) 0 && enough s (word s 8)) (header-good s (goodHeader s) 0 8 (pairSetFault (fieldCount (word s 4)) (fieldCount (word s 6)) s) header .0) .1) .1)
+  below = covered-below s (word s 8) covers (both (goodFormats s) (enough s (word s 8)) (header-good s (goodHeader s) 0 8 (pairSetFault (fieldCount (word s 4)) (fieldCount (word s 6)) s) header .0) .1)
 
   -- a covered glyph's pairs are those of the set in its slot
   in-slots : (g : ℕ) → beside (pairsIn s) g ≡ bind (indexOf (coverOf s) g) (λ i. some (held s (word s (10 + 2 * i))))
-  unfolding pairsIn bind
-  in-slots g = by-index (pairSays (word s 4) (word s 6)) (coverOf s) sets g ∙ step (indexOf (coverOf s) g) (index-below (coverOf s) g)
-    where
-      sets : List (Option (List Pair))
-      sets = reaches (pairSet (fieldCount (word s 4)) (fieldCount (word s 6)) s) s 0 10 (word s 8)
-
-      step : (o : Option ℕ) → ((i : ℕ) → o ≡ some i → i < length (coverOf s))
-          → bind o (λ i. some (map (pairSays (word s 4) (word s 6)) (setHolds (getD sets i none)))) ≡ bind o (λ i. some (held s (word s (10 + 2 * i))))
-      step none k = refl
-      step (some i) k = ap some (ap (λ x. map (pairSays (word s 4) (word s 6)) (setHolds x)) (slot-set (pairSet (fieldCount (word s 4)) (fieldCount (word s 6)) s) s 0 10 (word s 8) i (omega (arith, k i refl, below))) ∙ set-held s (10 + 2 * i))
+  unfolding pairsIn
+  in-slots g =
+      by-slot (pairSays (word s 4) (word s 6)) (pairSet (fieldCount (word s 4)) (fieldCount (word s 6)) s) s 10 (word s 8) below g
+      ∙ bind-same (indexOf (coverOf s) g) (λ i. ap some (set-held s (10 + 2 * i)))
 
   -- a table without a fault is sound
   pub pair-table : Bytes s → PairTable s
@@ -114,7 +89,7 @@ module _ (s : List ℕ) (h : fault 4 s ≡ none) where
   }
     where
       sorted : Sorted (Content.pairs (pairsIn s))
-      sorted = rw (content-pairs s) at (sound-sorted 4 s h)
+      sorted = rw (content-pairs s f) at (sound-sorted 4 s h)
 
 -- the first glyphs of a table without a fault are words
 pub firsts-small : (s : List ℕ) → Bytes s → soundCover s ≡ true → All (λ k. k < 65536) (glyphsOf (pairsIn s))
@@ -127,8 +102,8 @@ unfolding differences
 differ l r = refl
 
 -- The list of two tables, by all ids.
-pub whole-list : (s t : List ℕ) → PairTable s → Bytes s → PairTable t → Bytes t
+pub whole-list : (s t : List ℕ) → word s 0 ≡ 1 → PairTable s → Bytes s → word t 0 ≡ 1 → PairTable t → Bytes t
     → each (atGlyph pairEntries (pairsIn s) (pairsIn t)) (upFrom 0 65536) ≡ differences (content (table 4 s)) (content (table 4 t))
-whole-list s t a b c d =
+whole-list s t p a b q c d =
     first-ids pairEntries (pairsIn s) (pairsIn t) (firsts-small s b (a .cover)) (firsts-small t d (c .cover))
-    ∙ rw (content-pairs s, content-pairs t) (differ (pairsIn s) (pairsIn t))
+    ∙ rw (content-pairs s p, content-pairs t q) (differ (pairsIn s) (pairsIn t))

@@ -11,7 +11,7 @@ ghost use mathlib.Core.Option.{none};
 ghost use mathlib.Core.List.{[], _∷_};
 ghost use Prim.Native.Nat.{_+_, _-_, _*_, _≤_, _<_};
 ghost use lib.ListN.{getD};
-ghost use Rattle.meaning.specs.Words.{words, upFrom};
+ghost use Rattle.meaning.specs.Words.{word, words, upFrom};
 ghost use Rattle.meaning.specs.Tables.{fieldCount, field, table};
 ghost use Rattle.meaning.specs.Fault.{fault};
 ghost use Rattle.meaning.specs.Cut.{glyphsOf};
@@ -193,7 +193,7 @@ fn list_glyph(left: &[u8], right: &[u8], g: usize, out: &mut [u8], pos: usize) -
 
 // What differs between two sound pair tables by glyph, listed from `pos` on, where there is room; the place after it. All ids are asked in both coverages.
 pub fn list_pairs(left: &[u8], right: &[u8], out: &mut [u8], pos: usize) -> usize
-    requires { ⌜ (fault 4 (now left) ≡ none) × (fault 4 (now right) ≡ none) × (pos < 0x800_0000_0000) ⌝ }
+    requires { ⌜ (fault 4 (now left) ≡ none) × (word (now left) 0 ≡ 1) × (fault 4 (now right) ≡ none) × (word (now right) 0 ≡ 1) × (pos < 0x800_0000_0000) ⌝ }
     ensures { λ r. ⌜ Listed (differences (content (table 4 (now (left .entry)))) (content (table 4 (now (right .entry))))) (now (out .entry)) pos (now (out .exit)) r × (r ≤ pos + 0x100_0000_0000) ⌝ }
 {
     let mut at = pos;

@@ -7,15 +7,15 @@ use mathlib.Core.List.{List, [], _∷_}
 use native.Mathlib.Nat.{zero-add}
 use native.Mathlib.Decide.{decLt}
 use native.Mathlib.Omega.{arith}
-use lib.ListN.{length, getD, set, drop, length-set, List·getD-eq-default}
-use lib.Seq.{getD-set-same, getD-set-other}
+use lib.ListN.{length, getD, set, drop, length-set, length-drop, List·getD-eq-default}
+use lib.Seq.{getD-set-same, getD-set-other, drop-set-lt, drop-set-add}
 use lib.Dec.{eqb}
-use borrow.Author.Tests.{eq-eqb, ne-eqb, eqb-true, eqb-false}
+use borrow.Author.Tests.{eqb-true, eqb-false}
 use Rattle.laws.specs.Stands.{All}
 use Rattle.differences.specs.Entries.{ranked, partner}
 use Rattle.differences.specs.Ranks.{ranksOf, first, leftOver, partner-is, left-none, left-takes, left-leaves}
 use Rattle.rule_differences.specs.Ranked.{rankOf, Partners}
-use Rattle.partners.specs.Chains.{numbersFrom, numbersIn, Chain, nextOf, Below, Cleared, Linked, Left}
+use Rattle.partners.specs.Chains.{numbersFrom, numbersIn, Chain, nextIn, nextOf, Below, Cleared, Linked, Left, Kept, Paired}
 
 -- a cell that is set to 0 reads as 0, inside or not
 set-zero : (t : List ℕ) (i : ℕ) → getD (set t i 0) i 0 ≡ 0
@@ -130,6 +130,27 @@ module _ {own : List ℕ} {m : ℕ} {others : List ℕ} {n : ℕ} {heads₀ next
       let f : n - 0 ≡ n = omega arith in
       rw f at (rw e at (c .linked))
 
+-- the same, where the next ranks are a part of the links
+pub record LinkingIn (own : List ℕ) (m : ℕ) (others : List ℕ) (n : ℕ) (heads₀ links₀ heads links : List ℕ) (j : ℕ) : Type 0 where
+  pub linking : Linking own m others n heads₀ (nextIn links₀) heads (nextIn links) j
+  pub size : length links ≡ length links₀
+  pub kept : Kept 131072 links₀ links
+
+module _ {own : List ℕ} {m : ℕ} {others : List ℕ} {n : ℕ} {heads₀ links₀ : List ℕ} where
+  pub linking-in : Cleared own m heads₀ → LinkingIn own m others n heads₀ links₀ heads₀ links₀ n
+  linking-in c = record { linking = linking-none c; size = refl; kept = record { same = λ j h. refl } }
+
+  pub linking-in-turn : {heads links one two : List ℕ} {j x h : ℕ} → Below own m (length heads₀) → 131072 + n ≤ length links₀ → LinkingIn own m others n heads₀ links₀ heads links j → 0 < j
+      → x ≡ getD others (j - 1) 0 → h ≡ getD heads x 0 → one ≡ set links (131072 + (j - 1)) h → two ≡ set heads x (j - 1 + 1) → LinkingIn own m others n heads₀ links₀ two one (j - 1)
+  linking-in-turn {heads} {links} {one} {two} {j} {x} {h} b w c p ex eh eo et = record {
+    linking = linking-turn b (omega (arith, length-drop 131072 links₀)) (c .linking) p ex eh (rw eo (drop-set-add 131072 links (j - 1) h)) et;
+    size = ap length eo ∙ length-set links (131072 + (j - 1)) h ∙ c .size;
+    kept = record { same = λ k l. ap (λ (t : List ℕ). getD t k 0) eo ∙ getD-set-other links (131072 + (j - 1)) k h 0 (λ e. omega arith) ∙ c .kept .same k l };
+  }
+
+  pub linking-in-end : {heads links : List ℕ} {j : ℕ} → LinkingIn own m others n heads₀ links₀ heads links j → j ≤ 0 → Linked own m (numbersIn others n) 0 heads (nextIn links) × Kept 131072 links₀ links
+  linking-in-end c h = (linking-end (c .linking) h, c .kept)
+
 -- Taking.
 
 -- the number of a rank
@@ -229,3 +250,32 @@ module _ {own : List ℕ} {m : ℕ} {others : List ℕ} {n : ℕ} {heads₀ next
           let q = Option·some-injective (getD own (0 + k) 0) x (sym (ranked-from own 0 m k l) ∙ e) in
           rw (← q, zero-add k) (c .stand k (omega arith))
       known k x e (no l) = absurd (Option·none-ne-some _ (sym (ranked-past own 0 m k (omega arith)) ∙ e))
+
+-- the same, where the partners and the next ranks are parts of the links
+pub record TakingIn (own : List ℕ) (m : ℕ) (others : List ℕ) (n : ℕ) (heads₀ links₀ : List ℕ) (at : ℕ) (heads links : List ℕ) (i : ℕ) : Type 0 where
+  pub taking : Taking own m others n heads₀ (nextIn links₀) (drop at links₀) heads (drop at links) i
+  pub next-same : nextIn links ≡ nextIn links₀
+  pub size : length links ≡ length links₀
+  pub kept : Kept at links₀ links
+
+module _ {own : List ℕ} {m : ℕ} {others : List ℕ} {n : ℕ} {heads₀ links₀ : List ℕ} {at : ℕ} where
+  pub taking-in : Linked own m (numbersIn others n) 0 heads₀ (nextIn links₀) → TakingIn own m others n heads₀ links₀ at heads₀ links₀ 0
+  taking-in c = record { taking = taking-none c; next-same = refl; size = refl; kept = record { same = λ j h. refl } }
+
+  pub taking-in-turn : {heads links one two : List ℕ} {i x h v : ℕ} → at + m ≤ 131072 → 131072 ≤ length links₀ → Below own m (length heads₀) → TakingIn own m others n heads₀ links₀ at heads links i → i < m
+      → x ≡ getD own i 0 → h ≡ getD heads x 0 → one ≡ set links (at + i) h → v ≡ nextOf (nextIn one) h → two ≡ set heads x v → TakingIn own m others n heads₀ links₀ at two one (i + 1)
+  taking-in-turn {heads} {links} {one} {two} {i} {x} {h} {v} a l b c p ex eh eo ev et =
+      let s : nextIn one ≡ nextIn links₀ = ap nextIn eo ∙ drop-set-lt 131072 links (at + i) h (omega arith) ∙ c .next-same in
+      record {
+        taking = taking-turn b (omega (arith, length-drop at links₀)) (c .taking) p ex eh (rw eo (drop-set-add at links i h)) (ev ∙ ap (λ (t : List ℕ). nextOf t h) s) et;
+        next-same = s;
+        size = ap length eo ∙ length-set links (at + i) h ∙ c .size;
+        kept = record { same = λ k q. ap (λ (t : List ℕ). getD t k 0) eo ∙ getD-set-other links (at + i) k h 0 (λ e. omega arith) ∙ c .kept .same k q };
+      }
+
+  pub taking-in-end : {heads links : List ℕ} {i : ℕ} → TakingIn own m others n heads₀ links₀ at heads links i → m ≤ i → Paired own m others n at links₀ links
+  taking-in-end c h = record { partners = taking-end (c .taking) h; kept = c .kept }
+
+-- the cells before `at` are as they were, also before the links were made
+pub paired-first : {own others old mid new : List ℕ} {m n at : ℕ} → at ≤ 131072 → Kept 131072 old mid → Paired own m others n at mid new → Paired own m others n at old new
+paired-first a k p = record { partners = p .partners; kept = record { same = λ j h. p .kept .same j h ∙ k .same j (omega arith) } }

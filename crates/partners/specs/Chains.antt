@@ -2,8 +2,10 @@
 use Prim.Native.Nat.{ℕ, zero, suc, _+_, _<_}
 use mathlib.Core.Path.{_≡_}
 use mathlib.Core.List.{List, [], _∷_}
-use lib.ListN.{getD}
+use lib.ListN.{getD, drop}
+use lib.Dec.{eqb}
 use Rattle.differences.specs.Ranks.{ranksOf, leftOver}
+use Rattle.rule_differences.specs.Ranked.{Partners}
 
 -- n numbers that stand in the cells from i on
 unfoldable pub numbersFrom : List ℕ → ℕ → ℕ → List ℕ
@@ -24,6 +26,14 @@ abbrev pub nextOf : List ℕ → ℕ → ℕ
 nextOf next zero = 0
 nextOf next (suc j) = getD next j 0
 
+-- the cells of next ranks among the links
+abbrev pub nextIn : List ℕ → List ℕ
+nextIn links = drop 131072 links
+
+-- the cells before `at` are as they were
+pub record Kept (at : ℕ) (old new : List ℕ) : Type 0 where
+  pub same : (j : ℕ) → j < at → getD new j 0 ≡ getD old j 0
+
 -- the first m own numbers have cells
 pub record Below (own : List ℕ) (m size : ℕ) : Type 0 where
   pub below : (k : ℕ) → k < m → getD own k 0 < size
@@ -39,3 +49,8 @@ pub record Linked (own : List ℕ) (m : ℕ) (others : List ℕ) (j : ℕ) (head
 -- their chains are the ranks that are left when the own numbers before rank i have taken theirs
 pub record Left (own : List ℕ) (m : ℕ) (others : List ℕ) (i : ℕ) (heads next : List ℕ) : Type 0 where
   pub chains : (k : ℕ) → k < m → Chain next (getD heads (getD own k 0) 0) (leftOver (numbersIn own m) others i (getD own k 0))
+
+-- The partners of the own numbers stand from `at` on, and the cells before are as they were.
+pub record Paired (own : List ℕ) (m : ℕ) (others : List ℕ) (n at : ℕ) (old new : List ℕ) : Type 0 where
+  pub partners : Partners eqb (numbersIn own m) (numbersIn others n) (drop at new)
+  pub kept : Kept at old new

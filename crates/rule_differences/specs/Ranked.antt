@@ -10,6 +10,7 @@ use lib.Dec.{ltb}
 use borrow.Author.Tests.{ltb-true, ltb-false}
 use Rattle.meaning.specs.Words.{upFrom}
 use Rattle.differences.specs.Entries.{Entry, each, ranked, partner, leftRule, rightRule, ifThere, atRank, longer, ruleEntries}
+use Rattle.differences.specs.Ranks.{each-ranks}
 
 -- the rank that a cell stands for: 0 for none
 abbrev pub rankOf : ℕ → Option ℕ
@@ -45,17 +46,12 @@ ranked-none [] i h = refl
 ranked-none (a ∷ l) zero h = absurd (omega arith)
 ranked-none (a ∷ l) (suc i) h = ranked-none l i (omega arith)
 
-each-same : (f h : ℕ → List Entry) → ((i : ℕ) → f i ≡ h i) → (l : List ℕ) → each f l ≡ each h l
-unfolding each
-each-same f h e [] = refl
-each-same f h e (i ∷ l) = ap₂ (λ (x y : List Entry). x ++ y) (e i) (each-same f h e l)
-
 -- The entries of two sets of rules, where the partners stand in scratch.
 pub ranks-are : {A : Type 0} (same : A → A → Bool) (g : ℕ) (l r : List A) (lefts rights : List ℕ) → Partners same l r lefts → Partners same r l rights
     → each (bothAt lefts (length l) rights (length r) g) (upFrom 0 (longer (length l) (length r))) ≡ ruleEntries same g l r
 unfolding ruleEntries atRank ifThere
 ranks-are {A} same g l r lefts rights a b =
-    each-same (bothAt lefts (length l) rights (length r) g) (atRank same g l r) (λ i. ap₂ (λ (x y : List Entry). x ++ y) (left i (ltb i (length l)) refl) (right i (ltb i (length r)) refl)) (upFrom 0 (longer (length l) (length r)))
+    each-ranks (bothAt lefts (length l) rights (length r) g) (atRank same g l r) (λ i. ap₂ (λ (x y : List Entry). x ++ y) (left i (ltb i (length l)) refl) (right i (ltb i (length r)) refl)) (upFrom 0 (longer (length l) (length r)))
   where
     left : (i : ℕ) (t : Bool) → ltb i (length l) ≡ t → cond t (leftRule g i (rankOf (getD lefts i 0))) [] ≡ ifThere (λ x. leftRule g i (partner same l r i x)) (ranked l i)
     left i true e =

@@ -60,7 +60,7 @@ filled-set (a ∷ l) zero (suc v) h z w = rw z
 filled-set (zero ∷ l) (suc i) v h z w = filled-set l i v (omega arith) z w
 filled-set (suc a ∷ l) (suc i) v h z w = ap suc (filled-set l i v (omega arith) z w)
 
-filled-few : (l : List ℕ) → filled l ≤ length l
+pub filled-few : (l : List ℕ) → filled l ≤ length l
 unfolding filled
 filled-few [] = omega arith
 filled-few (zero ∷ l) = omega (arith, filled-few l)

@@ -1,15 +1,18 @@
--- What a test of two codes tells.
-use Prim.Native.Nat.{ℕ}
+-- What a test of two codes tells, and what numbers tell.
+use Prim.Native.Nat.{ℕ, _+_, _*_, _≤_, _<_}
 use mathlib.Core.Path.{_≡_, refl, sym, ap, _∙_}
 use mathlib.Core.Bool.{Bool, true, false, true≢false}
 use mathlib.Core.List.{List}
-use lib.ListN.{getD}
+use native.Mathlib.Decide.{decLt}
+use native.Mathlib.Omega.{arith}
+use lib.ListN.{length, getD}
 use lib.Dec.{eqb}
 use borrow.Author.Tests.{eqb-true, eqb-false}
 use Rattle.differences.specs.Content.{Says}
 use Rattle.differences.specs.Entries.{sameSays}
-use Rattle.differences.specs.Equal.{Tells, tells-says}
-use Rattle.rule_numbers.specs.Book.{codeAt, Is, Firsts, Book}
+use Rattle.differences.specs.Equal.{tells-says}
+use Rattle.rule_numbers.specs.Book.{codeAt, Is, Book}
+use Rattle.rule_numbers.proofs.Keeping.{filled-few}
 
 module _ (says : ℕ → Says) (c : ℕ) {x y : ℕ} {b : Bool} (e : x ≡ y) (f : b ≡ sameSays (says x) (says c)) where
   pub same-tells : b ≡ true → says y ≡ says c
@@ -36,3 +39,32 @@ numbers-tell {says} {print} {num} {came} b c d m n = go (sameSays (says c) (says
         let k = eqb-true (getD num c 0) (getD num d 0) f in
         let w : says c ≡ says d = sym (p .1) ∙ ap (λ (n : ℕ). says (codeAt came n)) k ∙ q .1 in
         sym e ∙ ap (λ (x : Says). sameSays x (says d)) w ∙ tells-says .itself (says d)
+
+-- no number is greater than there are cells
+pub number-few : {says : ℕ → Says} {print : Says → ℕ} {num came : List ℕ} → Book says print num came → (c : ℕ) → getD num c 0 ≤ length num
+number-few {says} {print} {num} {came} b c = step (decLt 0 (getD num c 0))
+  where
+    step : Dec (0 < getD num c 0) → getD num c 0 ≤ length num
+    step (yes h) = omega (arith, b .own c (λ z. omega arith) .0 .few, b .enough, filled-few num)
+    step (no h) = omega arith
+
+-- where no cell is filled there are no numbers yet
+pub book-blank : {says : ℕ → Says} {print : Says → ℕ} {num came : List ℕ} → 65540 + 2 * length num ≤ length came → length num < 0x1000_0000
+    → ((i : ℕ) → getD num i 0 ≡ 0) → ((i : ℕ) → getD came i 0 ≡ 0) → Book says print num came
+book-blank {says} {print} {num} {came} l s n z = record {
+  size = l;
+  small = s;
+  enough = omega (arith, z 65536);
+  firsts = record {
+    apart = λ j k p. absurd (none j p);
+    prints = λ k p. absurd (none k p);
+    latest = λ k p. absurd (none k p);
+    chained = λ p b h. absurd (h (z p));
+    before = λ j k p. absurd (none j p);
+    linked = λ k p. absurd (none k p);
+  };
+  own = λ c h. absurd (h (n c));
+}
+  where
+    none : (k : ℕ) → Is came k → ⊥
+    none k p = omega (arith, p .some, p .few, z 65536)

@@ -1,35 +1,16 @@
--- What the walk over the slots of a set keeps.
+-- What the walks over the slots of a set, and over the sets of a side, keep.
 use Prim.Native.Nat.{ℕ, zero, suc, _+_, _-_, _*_, _≤_, _<_}
-use mathlib.Core.Path.{_≡_, refl, sym, ap, _∙_}
-use mathlib.Core.Bool.{Bool, true, false, cond}
-use mathlib.Core.Option.{Option, none, some, Option·some-injective, Option·none-ne-some}
-use mathlib.Core.List.{List, [], _∷_, _++_, append-nil, append-assoc}
+use mathlib.Core.Path.{_≡_, refl, sym, _∙_}
+use mathlib.Core.List.{List, [], _∷_}
 use native.Mathlib.Decide.{decLt}
 use native.Mathlib.Omega.{arith}
-use lib.ListN.{length, getD, set, length-set, length-append}
-use lib.Seq.{getD-set-same, getD-set-other}
-use lib.Dec.{eqb}
+use lib.ListN.{length, getD, replicate}
 use borrow.Author.Tests.{eq-eqb, ne-eqb}
 use Rattle.meaning.specs.Words.{word}
-use Rattle.differences.specs.Entries.{ranked}
+use Rattle.differences.specs.Content.{Says}
 use Rattle.rule_numbers.specs.Book.{Book, Numbered}
-use Rattle.set_numbers.specs.Sets.{codesFrom, codesOf, SetNumbered}
-
--- one more at the end
-ranked-last : (l : List ℕ) (x j c : ℕ) → ranked (l ++ (x ∷ [])) j ≡ some c → j < length l → ranked l j ≡ some c
-unfolding ranked
-ranked-last [] x j c e h = absurd (omega arith)
-ranked-last (a ∷ l) x zero c e h = e
-ranked-last (a ∷ l) x (suc j) c e h = ranked-last l x j c e (omega arith)
-
-ranked-end : (l : List ℕ) (x j c : ℕ) → ranked (l ++ (x ∷ [])) j ≡ some c → (j < length l → ⊥) → (j ≡ length l) × (c ≡ x)
-unfolding ranked
-ranked-end [] x zero c e h = (refl, sym (Option·some-injective x c e))
-ranked-end [] x (suc j) c e h = absurd (Option·none-ne-some _ e)
-ranked-end (a ∷ l) x zero c e h = absurd (h (omega arith))
-ranked-end (a ∷ l) x (suc j) c e h =
-    let r = ranked-end l x j c e (λ q. h (omega arith)) in
-    (ap suc (r .0), r .1)
+use Rattle.rule_numbers.proofs.Telling.{numbers-tell, number-few, book-blank}
+use Rattle.set_numbers.specs.Sets.{codesFrom, codesOf, AllNumbered, SetNumbered, SideNumbered, Blank, Told}
 
 -- the codes from the slot i on
 abbrev pub rest : List ℕ → ℕ → ℕ → ℕ → ℕ → List ℕ
@@ -47,73 +28,133 @@ module _ (s : List ℕ) (side at n i : ℕ) (h : i < n) where
   unfolding codesFrom
   rest-there e = rw (next-slot .0, next-slot .1, ne-eqb (word s (at + 2 + 2 * i)) 0 e)
 
-module _ {A : Type 0} (says : ℕ → A) (print : A → ℕ) where
-  -- the codes that are done have numbers, which stand in the first m cells; with those that are left they are all
-  pub record Numbering (all num₀ came₀ nums₀ : List ℕ) (left : List ℕ) (num came nums : List ℕ) (m i : ℕ) : Type 0 where
-    pub done : List ℕ
-    pub whole : done ++ left ≡ all
-    pub few : m ≤ i
-    pub size : length num ≡ length num₀
-    pub came-size : length came ≡ length came₀
-    pub nums-size : length nums ≡ length nums₀
-    pub numbered : SetNumbered says print done num₀ num came nums m
-
-module _ {A : Type 0} {says : ℕ → A} {print : A → ℕ} {num₀ came₀ nums₀ : List ℕ} where
-  none-numbered : Book says print num₀ came₀ → SetNumbered says print [] num₀ num₀ came₀ nums₀ 0
-  unfolding ranked
-  none-numbered b = record { book = b; long = refl; stand = λ j c e. absurd (Option·none-ne-some _ e); stay = λ d n. refl }
-
-  -- a null set
-  pub null-numbered : (s : List ℕ) (side at : ℕ) → at ≡ 0 → Book says print num₀ came₀ → SetNumbered says print (codesOf s side at) num₀ num₀ came₀ nums₀ 0
-  unfolding codesOf
-  null-numbered s side at e b = rw (eq-eqb at 0 e) (none-numbered b)
-
-  pub numbering-none : (s : List ℕ) (side at : ℕ) {n : ℕ} → (at ≡ 0 → ⊥) → n ≡ word s at → Book says print num₀ came₀ → Numbering says print (codesOf s side at) num₀ came₀ nums₀ (rest s side at n 0) num₀ came₀ nums₀ 0 0
-  unfolding codesOf
-  numbering-none s side at {n} z e b =
-      let p : at + 2 + 2 * 0 ≡ at + 2 = omega arith in
-      let q : n - 0 ≡ n = omega arith in
-      record { done = []; whole = rw (ne-eqb at 0 z, p, q, e); few = omega arith; size = refl; came-size = refl; nums-size = refl; numbered = none-numbered b }
-
-  module _ {all left num came nums : List ℕ} {m i : ℕ} (k : Numbering says print all num₀ came₀ nums₀ left num came nums m i) where
-    -- a null slot
-    pub numbering-null : {more : List ℕ} → left ≡ more → Numbering says print all num₀ came₀ nums₀ more num came nums m (i + 1)
-    numbering-null e = record { done = k .done; whole = rw e at (k .whole); few = omega (arith, k .few); size = k .size; came-size = k .came-size; nums-size = k .nums-size; numbered = k .numbered }
-
-    pub numbering-there : {more next after wrote : List ℕ} {c r : ℕ} → left ≡ c ∷ more → Numbered says print num c next after r → m < length nums → wrote ≡ set nums m r → length next ≡ length num → length after ≡ length came
-        → Numbering says print all num₀ came₀ nums₀ more next after wrote (m + 1) (i + 1)
-    numbering-there {more} {next} {after} {wrote} {c} {r} e w l f g h = record {
-      done = k .done ++ (c ∷ []);
-      whole = append-assoc (k .done) (c ∷ []) more ∙ (rw e at (k .whole));
-      few = omega (arith, k .few);
-      size = g ∙ k .size;
-      came-size = h ∙ k .came-size;
-      nums-size = ap length f ∙ length-set nums m r ∙ k .nums-size;
-      numbered = record {
-        book = w .book;
-        long = omega (arith, k .numbered .long, length-append (k .done) (c ∷ []));
-        stand = λ j d q. stands j d q (decLt j (length (k .done)));
-        stay = λ d n. let o = k .numbered .stay d n in w .stay d (λ z. n (sym o ∙ z)) ∙ o;
-      };
-    }
-      where
-        stands : (j d : ℕ) → ranked (k .done ++ (c ∷ [])) j ≡ some d → Dec (j < length (k .done)) → (getD wrote j 0 ≡ getD next d 0) × (0 < getD next d 0) × (getD next d 0 ≤ length next)
-        stands j d q (yes u) =
-            let o = k .numbered .stand j d (ranked-last (k .done) c j d q u) in
-            let s = w .stay d (λ z. omega (arith, o .1)) in
-            let y : j ≡ m → ⊥ = λ z. omega (arith, k .numbered .long) in
-            (ap (λ (x : List ℕ). getD x j 0) f ∙ getD-set-other nums m j r 0 y ∙ o .0 ∙ sym s, omega (arith, s, o .1), omega (arith, s, o .2, g))
-        stands j d q (no u) =
-            let o = ranked-end (k .done) c j d q u in
-            let y : j ≡ m = o .0 ∙ sym (k .numbered .long) in (
-              ap (λ (x : List ℕ). getD x j 0) f ∙ ap (λ (x : ℕ). getD (set nums m r) x 0) y ∙ getD-set-same nums m r 0 l ∙ w .here ∙ ap (λ (x : ℕ). getD next x 0) (sym (o .1)),
-              rw (o .1, ← w .here) (w .some),
-              rw (o .1, ← w .here) (w .few),
-            )
-
-    pub numbering-end : left ≡ [] → SetNumbered says print all num₀ num came nums m
-    numbering-end e = rw (sym (append-nil (k .done)) ∙ (rw e at (k .whole))) at (k .numbered)
+pub rest-all : (s : List ℕ) (side at : ℕ) {n : ℕ} → (at ≡ 0 → ⊥) → n ≡ word s at → rest s side at n 0 ≡ codesOf s side at
+unfolding codesOf
+rest-all s side at {n} z e =
+    let p : at + 2 + 2 * 0 ≡ at + 2 = omega arith in
+    let q : n - 0 ≡ n = omega arith in
+    rw (ne-eqb at 0 z, p, q, e)
 
 pub rest-end : (s : List ℕ) (side at n i : ℕ) → n ≤ i → rest s side at n i ≡ []
 unfolding codesFrom
 rest-end s side at n i h = let e : n - i ≡ 0 = omega arith in rw e
+
+-- what has a number keeps it
+pub all-stay : (num next : List ℕ) → ((d : ℕ) → (getD num d 0 ≡ 0 → ⊥) → getD next d 0 ≡ getD num d 0) → (codes : List ℕ) → AllNumbered num codes → AllNumbered next codes
+all-stay num next s [] h = tt
+all-stay num next s (c ∷ codes) h = (λ z. h .0 (sym (s c (h .0)) ∙ z), all-stay num next s codes (h .1))
+
+module _ {A : Type 0} (says : ℕ → A) (print : A → ℕ) where
+  -- what the loop of `number_set` keeps: if those that are left get numbers, all have numbers
+  pub record Numbering (all num₀ came₀ : List ℕ) (left num came : List ℕ) : Type 0 where
+    pub book : Book says print num came
+    pub size : length num ≡ length num₀
+    pub came-size : length came ≡ length came₀
+    pub stay : (d : ℕ) → (getD num₀ d 0 ≡ 0 → ⊥) → getD num d 0 ≡ getD num₀ d 0
+    pub done : (next : List ℕ) → ((d : ℕ) → (getD num d 0 ≡ 0 → ⊥) → getD next d 0 ≡ getD num d 0) → AllNumbered next left → AllNumbered next all
+
+  -- what the loop of `number_side` keeps: the sets before i have numbers, and so has the last one
+  pub record Siding (s : List ℕ) (side first : ℕ) (num₀ came₀ : List ℕ) (n last i : ℕ) (num came : List ℕ) : Type 0 where
+    pub within : i ≤ n
+    pub count : n ≡ word s (first - 2)
+    pub book : Book says print num came
+    pub size : length num ≡ length num₀
+    pub came-size : length came ≡ length came₀
+    pub stay : (d : ℕ) → (getD num₀ d 0 ≡ 0 → ⊥) → getD num d 0 ≡ getD num₀ d 0
+    pub before : (k : ℕ) → k < i → AllNumbered num (codesOf s side (word s (first + 2 * k)))
+    pub latest : AllNumbered num (codesOf s side last)
+
+module _ {A : Type 0} {says : ℕ → A} {print : A → ℕ} {num₀ came₀ : List ℕ} where
+  -- a null set
+  pub null-numbered : (s : List ℕ) (side at : ℕ) → at ≡ 0 → Book says print num₀ came₀ → SetNumbered says print (codesOf s side at) num₀ num₀ came₀
+  unfolding codesOf
+  null-numbered s side at e b = rw (eq-eqb at 0 e) (record { book = b; all = tt; stay = λ d n. refl })
+
+  pub numbering-none : {all left : List ℕ} → left ≡ all → Book says print num₀ came₀ → Numbering says print all num₀ came₀ left num₀ came₀
+  numbering-none e b = record { book = b; size = refl; came-size = refl; stay = λ d n. refl; done = λ next s h. rw e at h }
+
+  module _ {all left num came : List ℕ} (k : Numbering says print all num₀ came₀ left num came) where
+    -- a null slot
+    pub numbering-null : {more : List ℕ} → left ≡ more → Numbering says print all num₀ came₀ more num came
+    numbering-null e = rw e at k
+
+    pub numbering-there : {more next after : List ℕ} {c r : ℕ} → left ≡ c ∷ more → Numbered says print num c next after r → length next ≡ length num → length after ≡ length came
+        → Numbering says print all num₀ came₀ more next after
+    numbering-there {more} {next} {after} {c} {r} e w g h = record {
+      book = w .book;
+      size = g ∙ k .size;
+      came-size = h ∙ k .came-size;
+      stay = λ d n. let o = k .stay d n in w .stay d (λ z. n (sym o ∙ z)) ∙ o;
+      done = λ last s q. k .done last (λ d n. s d (λ z. n (sym (w .stay d n) ∙ z)) ∙ w .stay d n) (rw e (λ z. here (sym (s c here) ∙ z), q));
+    }
+      where
+        here : getD next c 0 ≡ 0 → ⊥
+        here z = omega (arith, w .here, w .some)
+
+    pub numbering-end : left ≡ [] → SetNumbered says print all num₀ num came
+    numbering-end e = record { book = k .book; all = k .done num (λ d n. refl) (rw e tt); stay = k .stay }
+
+  pub siding-none : (s : List ℕ) (side first : ℕ) {n : ℕ} → n ≡ word s (first - 2) → Book says print num₀ came₀ → Siding says print s side first num₀ came₀ n 0 0 num₀ came₀
+  unfolding codesOf
+  siding-none s side first e b = record { within = omega arith; count = e; book = b; size = refl; came-size = refl; stay = λ d n. refl; before = λ k h. absurd (omega arith); latest = tt }
+
+  module _ {s : List ℕ} {side first n last i : ℕ} {num came : List ℕ} (k : Siding says print s side first num₀ came₀ n last i num came) (h : i < n) {at : ℕ} (e : at ≡ word s (first + 2 * i)) where
+    -- the same set again
+    pub siding-same : at ≡ last → Siding says print s side first num₀ came₀ n last (i + 1) num came
+    siding-same f = record {
+      within = omega arith;
+      count = k .count;
+      book = k .book;
+      size = k .size;
+      came-size = k .came-size;
+      stay = k .stay;
+      before = λ j l. step j l (decLt j i);
+      latest = k .latest;
+    }
+      where
+        step : (j : ℕ) → j < i + 1 → Dec (j < i) → AllNumbered num (codesOf s side (word s (first + 2 * j)))
+        step j l (yes q) = k .before j q
+        step j l (no q) =
+            let d : j ≡ i = omega arith in
+            rw (d, ← e, f) (k .latest)
+
+    -- another set
+    pub siding-turn : {next after : List ℕ} → SetNumbered says print (codesOf s side at) num next after → length next ≡ length num → length after ≡ length came → Siding says print s side first num₀ came₀ n at (i + 1) next after
+    siding-turn {next} {after} w p q = record {
+      within = omega arith;
+      count = k .count;
+      book = w .book;
+      size = p ∙ k .size;
+      came-size = q ∙ k .came-size;
+      stay = λ d n. let o = k .stay d n in w .stay d (λ z. n (sym o ∙ z)) ∙ o;
+      before = λ j l. step j l (decLt j i);
+      latest = w .all;
+    }
+      where
+        step : (j : ℕ) → j < i + 1 → Dec (j < i) → AllNumbered next (codesOf s side (word s (first + 2 * j)))
+        step j l (yes q) = all-stay num next (w .stay) (codesOf s side (word s (first + 2 * j))) (k .before j q)
+        step j l (no q) =
+            let d : j ≡ i = omega arith in
+            rw (d, ← e) (w .all)
+
+  pub siding-end : {s : List ℕ} {side first n last i : ℕ} {num came : List ℕ} → Siding says print s side first num₀ came₀ n last i num came → n ≤ i → SideNumbered says print s side first num₀ num came
+  siding-end k h = record { book = k .book; sets = record { all = λ j l. k .before j (omega (arith, k .count)) }; stay = k .stay }
+
+-- cells of 0
+pub blank-cell : (n i : ℕ) → getD {A = ℕ} (replicate n 0) i 0 ≡ 0
+blank-cell zero i = refl
+blank-cell (suc n) zero = refl
+blank-cell (suc n) (suc i) = blank-cell n i
+
+-- before the first rule
+pub book-first : {says : ℕ → Says} {print : Says → ℕ} {num came : List ℕ} → Blank num → came ≡ replicate 589828 0 → length came ≡ 589828 → Book says print num came
+book-first b e l = book-blank (omega (arith, b .size)) (omega (arith, b .size)) (b .empty) (λ i. rw e (blank-cell 589828 i))
+
+-- both sides, one after the other
+pub both-told : {says : ℕ → Says} {print : Says → ℕ} {l r num one came two after : List ℕ} {first : ℕ} → SideNumbered says print l 0 first num one came → SideNumbered says print r 1 first one two after → Told says l r first two
+both-told {l = l} {one = one} {two = two} {first = first} a b = record {
+  tells = numbers-tell (b .book);
+  few = number-few (b .book);
+  lefts = record { all = λ i h. all-stay one two (b .stay) (codesOf l 0 (word l (first + 2 * i))) (a .sets .all i h) };
+  rights = b .sets;
+}

@@ -1,15 +1,13 @@
-// The numbers of the rules of a set, in order; null offsets are passed over.
-use cells::put_cell;
+// Numbers for all rules of two subtables. `num` has a cell for each code, and `came` is as rule_numbers has it.
 use rule_numbers::number;
 use rule_rows::word_of;
 use rule_says::Shape;
-ghost use mathlib.Core.Path.{_≡_};
 ghost use Prim.Native.Nat.{_≤_, _<_};
 ghost use lib.ListN.{length};
 ghost use Rattle.rule_rows.specs.Rows.{sideOf};
 ghost use Rattle.rule_says.specs.Said.{saysBy, printSays};
 ghost use Rattle.rule_numbers.specs.Book.{Book};
-ghost use Rattle.set_numbers.specs.Sets.{Near, codesOf, SetNumbered};
+ghost use Rattle.set_numbers.specs.Sets.{Near, codesOf, SetNumbered, SideNumbered, Blank, Told};
 
 // Where a set stands: in the left subtable (0) or in the right one (1), at `at`; a null one stands at 0.
 pub struct Set {
@@ -17,8 +15,8 @@ pub struct Set {
     pub at: usize,
 }
 
-// The numbers of the rules of a set, into the first cells of `nums`; how many there are.
-pub fn number_set(
+// A number for each rule of a set; null offsets are passed over.
+fn number_set(
     shape: Shape,
     left: &[u8],
     right: &[u8],
@@ -26,16 +24,14 @@ pub fn number_set(
     num: &mut [u32],
     came: &mut [u32],
     set: Set,
-    nums: &mut [u32],
-) -> usize
-    requires { ⌜ Near (set .side) (set .at) (length (now num)) (length (now nums)) × Book (saysBy shape (now left) (now right) (now t)) printSays (now num) (now came) ⌝ }
-    ensures { λ r. ⌜ SetNumbered (saysBy shape (now (left .entry)) (now (right .entry)) (now (t .entry))) printSays (codesOf (sideOf (set .side) (now (left .entry)) (now (right .entry))) (set .side) (set .at)) (now (num .entry)) (now (num .exit)) (now (came .exit)) (now (nums .exit)) r ⌝ }
+)
+    requires { ⌜ Near (set .side) (set .at) (length (now num)) × Book (saysBy shape (now left) (now right) (now t)) printSays (now num) (now came) ⌝ }
+    ensures { λ _. ⌜ SetNumbered (saysBy shape (now (left .entry)) (now (right .entry)) (now (t .entry))) printSays (codesOf (sideOf (set .side) (now (left .entry)) (now (right .entry))) (set .side) (set .at)) (now (num .entry)) (now (num .exit)) (now (came .exit)) ⌝ }
 {
     if set.at == 0 {
-        return 0;
+        return;
     }
     let n = word_of(left, right, set.side, set.at);
-    let mut m = 0;
     let mut i = 0;
     'slots: while i < n {
         let offset = word_of(left, right, set.side, set.at + 2 + 2 * i);
@@ -43,7 +39,7 @@ pub fn number_set(
             i += 1;
             continue 'slots;
         }
-        let k = number(
+        number(
             shape,
             left,
             right,
@@ -52,9 +48,50 @@ pub fn number_set(
             came,
             2 * (set.at + offset) + set.side,
         );
-        put_cell(nums, m, k);
-        m += 1;
         i += 1;
     }
-    m
+}
+
+// A number for each rule of one side (0 left, 1 right), whose sets' offsets stand from `set.at` on after their count. A set that stands in several slots in a row is walked once.
+fn number_side(
+    shape: Shape,
+    left: &[u8],
+    right: &[u8],
+    t: &[u32],
+    num: &mut [u32],
+    came: &mut [u32],
+    slots: Set,
+)
+    requires { ⌜ (2 ≤ slots .at) × Near (slots .side) (slots .at) (length (now num)) × Book (saysBy shape (now left) (now right) (now t)) printSays (now num) (now came) ⌝ }
+    ensures { λ _. ⌜ SideNumbered (saysBy shape (now (left .entry)) (now (right .entry)) (now (t .entry))) printSays (sideOf (slots .side) (now (left .entry)) (now (right .entry))) (slots .side) (slots .at) (now (num .entry)) (now (num .exit)) (now (came .exit)) ⌝ }
+{
+    let n = word_of(left, right, slots.side, slots.at - 2);
+    let mut last = 0;
+    let mut i = 0;
+    'slots: while i < n {
+        let at = word_of(left, right, slots.side, slots.at + 2 * i);
+        if at == last {
+            i += 1;
+            continue 'slots;
+        }
+        let set = Set {
+            side: slots.side,
+            at,
+        };
+        number_set(shape, left, right, t, num, came, set);
+        last = at;
+        i += 1;
+    }
+}
+
+// Numbers for all rules of both sides, equal exactly if the rules say the same. The sets' offsets stand from `first` on after their count.
+pub fn number_all(shape: Shape, left: &[u8], right: &[u8], t: &[u32], first: usize, num: &mut [u32])
+    requires { ⌜ (2 ≤ first) × (first < 65536) × Blank (now num) ⌝ }
+    ensures { λ _. ⌜ Told (saysBy shape (now (left .entry)) (now (right .entry)) (now (t .entry))) (now (left .entry)) (now (right .entry)) first (now (num .exit)) ⌝ }
+{
+    let mut came = [0u32; 589828];
+    let lefts = Set { side: 0, at: first };
+    number_side(shape, left, right, t, num, &mut came, lefts);
+    let rights = Set { side: 1, at: first };
+    number_side(shape, left, right, t, num, &mut came, rights);
 }

@@ -23,8 +23,8 @@ list-glyph-requires c κs =
     let o = r .before .before in
     let s = o .args .left .now in
     let t = o .args .right .now in (
-      pair-table s (o .pre .0) (bytes-known s (λ i. omega (arith, r .before .shared-slice-known .given i))),
-      pair-table t (o .pre .1) (bytes-known t (λ i. omega (arith, r .shared-slice-known2 .given i))),
+      pair-table s (o .pre .1) (o .pre .0) (bytes-known s (λ i. omega (arith, r .before .shared-slice-known .given i))),
+      pair-table t (o .pre .3) (o .pre .2) (bytes-known t (λ i. omega (arith, r .shared-slice-known2 .given i))),
       c .before .loop-test .taken,
       omega arith,
     )
@@ -47,7 +47,7 @@ returns c =
     let b = bytes-known s (λ i. omega (arith, r .before .shared-slice-known .given i)) in
     let d = bytes-known t (λ i. omega (arith, r .shared-slice-known2 .given i)) in
     let e = through-end (c .before .loop .inv) (c .loop-test .left) in
-    (listed-said (e .0) (whole-list s t (pair-table s (o .pre .0) b) b (pair-table t (o .pre .1) d) d), omega (arith, e .1))
+    (listed-said (e .0) (whole-list s t (o .pre .1) (pair-table s (o .pre .1) (o .pre .0) b) b (o .pre .3) (pair-table t (o .pre .3) (o .pre .2) d) d), omega (arith, e .1))
 
 pub list-pairs-spec : {M : Type 1} → statement M
 list-pairs-spec =
