@@ -218,3 +218,11 @@ module _ (chained : Bool) {l r t : List ℕ} (bl : (i : ℕ) → getD l i 0 < 25
   pub class-says-tell : (x y : ℕ) → sameSays (saysBy shape l r t x) (saysBy shape l r t y) ≡ sameSays (classSaysBy chained l r x) (classSaysBy chained l r y)
   unfolding saysBy classSaysBy
   class-says-tell x y = ap₂ sameSays (by-numbers (x % 2) (x / 2) (omega arith)) (by-numbers (y % 2) (y / 2) (omega arith)) ∙ sides-told (x % 2) (y % 2) (x / 2) (y / 2)
+
+-- the code of a rule has its place and its side
+pub code-says : (chained : Bool) (l r : List ℕ) (side : ℕ) → side < 2 → (p : ℕ) → classSaysBy chained l r (2 * p + side) ≡ classSays chained (sideOf side l r) p
+unfolding classSaysBy
+code-says chained l r side h p =
+    let e : (2 * p + side) % 2 ≡ side = omega arith in
+    let f : (2 * p + side) / 2 ≡ p = omega arith in
+    rw (e, f)
