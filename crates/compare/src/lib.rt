@@ -1,0 +1,179 @@
+// The call that compares: a kind, two subtables of it and a lent buffer, and the first answer that applies, the left subtable's refusals first.
+use checks::check;
+use listing::put_listed;
+use room::LIMIT;
+use wire::Fault;
+use wire::inside;
+use wire::word_at;
+ghost use mathlib.Core.Path.{_≡_};
+ghost use mathlib.Core.Bool.{true, cond, _&&_, _||_, not};
+ghost use Prim.Native.Nat.{_+_, _*_, _≤_, _<_};
+ghost use lib.Dec.{eqb};
+ghost use Rattle.meaning.specs.Words.{word, inside};
+ghost use Rattle.meaning.specs.Tables.{table};
+ghost use Rattle.meaning.specs.Subset.{hasDevice};
+ghost use Rattle.differences.specs.Content.{content};
+ghost use Rattle.differences.specs.Entries.{differences};
+ghost use Rattle.differences.specs.Compare.{comparedKind, comparedFormat, tableRefusal, refusal};
+ghost use Rattle.listing.specs.Listed.{Listed};
+ghost use Rattle.compare.specs.Answers.{numberOf, lengthOf, answerFor, refusalOf};
+
+// The answers, in the order in which they are tried. With `Listed` comes the number of bytes written, with `Malformed` the lowest start among the faulty parts, and with `NoRoom` the length needed; the length of any other is 0.
+pub enum Compared {
+    Listed(usize),
+    BadKind,
+    LongSource,
+    BadFormat,
+    Malformed(usize),
+    Device,
+    NoRoom(usize),
+}
+
+// What the tests before the comparison say: the answer that refuses the call, or that all is sound.
+pub enum Judged {
+    Refused(Compared),
+    Sound,
+}
+
+// Whether subtables of the kind are compared: 1 context, 2 chained, 3 ligature, 4 pair.
+fn compared_kind(kind: usize) -> bool
+    ensures { λ r. ⌜ r ≡ comparedKind kind ⌝ }
+{
+    if kind < 1 {
+        return false;
+    }
+    kind <= 4
+}
+
+// Whether the format is compared: of contexts 1, 2 and 3, of ligatures and pairs 1.
+fn compared_format(kind: usize, format: usize) -> bool
+    ensures { λ r. ⌜ r ≡ comparedFormat kind format ⌝ }
+{
+    if 2 < kind {
+        return format == 1;
+    }
+    if format < 1 {
+        return false;
+    }
+    format <= 3
+}
+
+// Whether the first two bytes stand and hold a format that is not compared.
+fn other_format(kind: usize, src: &[u8]) -> bool
+    ensures { λ r. ⌜ r ≡ inside (now (src .entry)) 0 2 && not (comparedFormat kind (word (now (src .entry)) 0)) ⌝ }
+{
+    if !inside(src, 0, 2) {
+        return false;
+    }
+    !compared_format(kind, word_at(src, 0))
+}
+
+// Whether a value format has a bit of 0x00F0.
+fn has_device(format: usize) -> bool
+    ensures { λ r. ⌜ r ≡ hasDevice format ⌝ }
+{
+    format / 16 % 16 != 0
+}
+
+// Whether the kind is pair, and one of the two value formats has such a bit.
+fn pair_device(kind: usize, src: &[u8]) -> bool
+    ensures { λ r. ⌜ r ≡ eqb kind 4 && (hasDevice (word (now (src .entry)) 4) || hasDevice (word (now (src .entry)) 6)) ⌝ }
+{
+    if kind != 4 {
+        return false;
+    }
+    if has_device(word_at(src, 4)) {
+        return true;
+    }
+    has_device(word_at(src, 6))
+}
+
+// Why a subtable of this kind is refused, if it is: over the limit, a format that is not compared, malformed, or device bits.
+fn refused(kind: usize, src: &[u8]) -> Judged
+    ensures { λ r. ⌜ refusalOf r ≡ tableRefusal kind (now (src .entry)) ⌝ }
+{
+    if LIMIT < src.len() {
+        return Judged::Refused(Compared::LongSource);
+    }
+    if other_format(kind, src) {
+        return Judged::Refused(Compared::BadFormat);
+    }
+    if let Fault::At(place) = check(kind, src) {
+        return Judged::Refused(Compared::Malformed(place));
+    }
+    if pair_device(kind, src) {
+        return Judged::Refused(Compared::Device);
+    }
+    Judged::Sound
+}
+
+// Why a call is refused, if it is: its kind, then the left subtable, then the right one.
+pub fn refusal(kind: usize, left: &[u8], right: &[u8]) -> Judged
+    ensures { λ r. ⌜ refusalOf r ≡ refusal kind (now (left .entry)) (now (right .entry)) ⌝ }
+{
+    if !compared_kind(kind) {
+        return Judged::Refused(Compared::BadKind);
+    }
+    if let Judged::Refused(answer) = refused(kind, left) {
+        return Judged::Refused(answer);
+    }
+    refused(kind, right)
+}
+
+// What differs between two contexts of different formats: the format. Listed from `pos` on, where there is room; the place after it.
+pub fn list_formats(kind: usize, left: &[u8], right: &[u8], out: &mut [u8], pos: usize) -> usize
+    requires { ⌜ (1 ≤ kind) × (kind ≤ 2) × (comparedFormat kind (word (now left) 0) ≡ true) × (comparedFormat kind (word (now right) 0) ≡ true) × (word (now left) 0 ≡ word (now right) 0 → ⊥) × (pos < 0x4000_0000_0000) ⌝ }
+    ensures { λ r. ⌜ Listed (differences (content (table kind (now (left .entry)))) (content (table kind (now (right .entry))))) (now (out .entry)) pos (now (out .exit)) r × (r ≤ pos + 12) ⌝ }
+{
+    let f = word_at(left, 0);
+    let h = word_at(right, 0);
+    put_listed(out, pos, 1, 0, 0, 0, f, h)
+}
+
+// The answer for a list of `size` bytes, by the buffer's length.
+pub fn answer_for(size: usize, room: usize) -> Compared
+    ensures { λ r. ⌜ r ≡ answerFor size room ⌝ }
+{
+    if room < size {
+        return Compared::NoRoom(size);
+    }
+    Compared::Listed(size)
+}
+
+// The number of an answer in document 01.
+pub fn number_of(a: Compared) -> usize
+    ensures { λ r. ⌜ r ≡ numberOf a ⌝ }
+{
+    match a {
+        Compared::Listed(_) => 0,
+        Compared::BadKind => 1,
+        Compared::LongSource => 4,
+        Compared::BadFormat => 5,
+        Compared::Malformed(_) => 6,
+        Compared::Device => 7,
+        Compared::NoRoom(_) => 10,
+    }
+}
+
+// The length that comes with an answer.
+pub fn length_of(a: Compared) -> usize
+    ensures { λ r. ⌜ r ≡ lengthOf a ⌝ }
+{
+    match a {
+        Compared::Listed(n) => n,
+        Compared::BadKind => 0,
+        Compared::LongSource => 0,
+        Compared::BadFormat => 0,
+        Compared::Malformed(place) => place,
+        Compared::Device => 0,
+        Compared::NoRoom(n) => n,
+    }
+}
+
+// An answer as one number: its number times 2^56, plus its length, which can pass 32 bits.
+pub fn one_number(a: Compared) -> u64
+    requires { ⌜ lengthOf a < 0x100_0000_0000_0000 ⌝ }
+    ensures { λ r. ⌜ r ≡ numberOf a * 0x100_0000_0000_0000 + lengthOf a ⌝ }
+{
+    number_of(a) as u64 * 0x100_0000_0000_0000 + length_of(a) as u64
+}
