@@ -1,9 +1,11 @@
 -- The class tables of two contexts by class, and their numbers.
-use Prim.Native.Nat.{ℕ, _+_, _/_, _%_}
-use mathlib.Core.Bool.{Bool, true, false}
-use mathlib.Core.List.{List}
+use Prim.Native.Nat.{ℕ, _+_, _*_, _/_, _%_}
+use mathlib.Core.Bool.{Bool, true, false, cond}
+use mathlib.Core.List.{List, []}
+use lib.Dec.{leb, eqb}
 use Rattle.meaning.specs.Words.{word}
-use Rattle.meaning.specs.Tables.{rule}
+use Rattle.meaning.specs.Parts.{classIn}
+use Rattle.meaning.specs.Tables.{Rule, rule, ruleSet}
 use Rattle.differences.specs.Content.{Says, ruleSays, classRuns?}
 use Rattle.class_lists.specs.Tables.{tableAt, NullOrSound}
 use Rattle.class_numbers.specs.Numbered.{ClassesNumbered}
@@ -22,7 +24,24 @@ abbrev pub aheadAt : Bool → List ℕ → ℕ
 aheadAt false s = 0
 aheadAt true s = word s 8
 
--- they are sound
+-- where the count of the sets stands
+abbrev pub countAt : Bool → ℕ
+countAt false = 6
+countAt true = 10
+
+-- where the set of a class stands; 0 for none
+unfoldable pub setAt : List ℕ → ℕ → ℕ → ℕ
+setAt s count class = cond (leb (word s count) class) 0 (word s (count + 2 + 2 * class))
+
+-- where the set of a covered glyph stands; 0 for none
+unfoldable pub setPlace : Bool → List ℕ → ℕ → ℕ
+setPlace chained s g = cond (eqb (inputAt chained s) 0) 0 (setAt s (countAt chained) (classIn (tableAt s (inputAt chained s)) g))
+
+-- the rules of the set at a place; none at 0
+unfoldable pub rulesAt : Bool → List ℕ → ℕ → List Rule
+rulesAt chained s at = cond (eqb at 0) [] (ruleSet chained s at)
+
+-- the class tables are sound
 pub record SoundTables (chained : Bool) (s : List ℕ) : Type 0 where
   pub back : NullOrSound s (backAt chained s)
   pub input : NullOrSound s (inputAt chained s)

@@ -6,7 +6,7 @@ use wire::Fault;
 use wire::inside;
 use wire::word_at;
 ghost use mathlib.Core.Path.{_≡_};
-ghost use mathlib.Core.Bool.{true, cond, _&&_, _||_, not};
+ghost use mathlib.Core.Bool.{true, _&&_, _||_, not};
 ghost use Prim.Native.Nat.{_+_, _*_, _≤_, _<_};
 ghost use lib.Dec.{eqb};
 ghost use Rattle.meaning.specs.Words.{word, inside};
