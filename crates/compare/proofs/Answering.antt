@@ -1,23 +1,39 @@
 -- What the answers say of the call.
 use Prim.Native.Nat.{ℕ, _+_, _*_, _/_, _%_, _≤_, _<_}
 use mathlib.Core.Path.{_≡_}
-use mathlib.Core.Option.{none}
+use mathlib.Core.Bool.{Bool, true, false, cond, _&&_, _||_, not}
+use mathlib.Core.Option.{Option, none, some, Option·getD}
 use mathlib.Core.List.{List}
 use native.Mathlib.Omega.{arith}
-use lib.ListN.{length}
+use lib.ListN.{length, getD}
+use lib.Dec.{ltb, eqb}
 use borrow.Author.Tests.{lt-ltb, le-ltb}
-use Rattle.meaning.specs.Words.{flat}
+use Rattle.meaning.specs.Words.{word, inside, flat}
+use Rattle.meaning.specs.Fault.{fault}
+use Rattle.meaning.specs.Subset.{Outcome, limit, hasDevice}
+use Rattle.lookup_checks.proofs.Near.{place-near}
 use Rattle.meaning.specs.Tables.{table}
 use Rattle.laws.specs.Stands.{flat-length}
 use Rattle.laws.specs.Written.{sets-front}
 use Rattle.differences.specs.Content.{content}
 use Rattle.differences.specs.Entries.{Entry, differences}
-use Rattle.differences.specs.Compare.{entryWords, refusal, listBytes, listInto, answerTo, compare}
+use Rattle.differences.specs.Compare.{entryWords, comparedKind, comparedFormat, Refusal, malformed, tableRefusal, orElse, refusal, listBytes, listInto, answerTo, compare}
 use Rattle.listing.specs.Listed as listing
-use Rattle.compare.specs.Answers.{numberOf, lengthOf, comparedOf, decoded, refusalOf, answerFor}
+use Rattle.compare.specs.Answers.{numberOf, lengthOf, comparedOf, decoded, refusalOf}
 use Rattle.compare.specs.declared.Compared.{Compared}
 use Rattle.compare.specs.declared.Compared.the-variants.{Listed, BadKind, LongSource, BadFormat, Malformed, Device, NoRoom}
-use Rattle.compare.specs.declared.Judged.the-variants.{Refused}
+use Rattle.compare.specs.Passes.{Passes}
+use Rattle.compare.specs.declared.Judged.{Judged}
+use Rattle.compare.specs.declared.Judged.the-variants.{Refused, Sound}
+use Rattle.compare.proofs.Refusing.{call-passes}
+
+-- a refusal's length, where there is one, is not past twice the highest offset
+abbrev lengthIn : Option Refusal → ℕ
+lengthIn none = 0
+lengthIn (some x) = x .len
+
+record Near (o : Option Refusal) : Type 0 where
+  most : lengthIn o ≤ 131070
 
 -- no number is over 10
 pub number-most : (a : Compared) → numberOf a ≤ 10
@@ -29,22 +45,13 @@ number-most (Malformed p) = omega arith
 number-most Device = omega arith
 number-most (NoRoom n) = omega arith
 
--- the ways through `answer_for`
-pub answer-short : (size room : ℕ) → room < size → NoRoom size ≡ answerFor size room
-unfolding answerFor
-answer-short size room h = rw (lt-ltb room size h)
-
-pub answer-fits : (size room : ℕ) → size ≤ room → Listed size ≡ answerFor size room
-unfolding answerFor
-answer-fits size room h = rw (le-ltb room size h)
-
 -- the list's length in bytes
 list-length : (es : List Entry) → length (flat (entryWords es)) ≡ 12 * length es
 list-length es = omega (arith, flat-length (entryWords es), listing.words-length es)
 
 module _ (kind : ℕ) (l r out : List ℕ) where
   -- a refusal is the call's answer
-  pub call-refused : (a : Compared) → refusalOf (Refused a) ≡ refusal kind l r → comparedOf a out ≡ compare kind l r out
+  call-refused : (a : Compared) → refusalOf (Refused a) ≡ refusal kind l r → comparedOf a out ≡ compare kind l r out
   unfolding compare answerTo
   call-refused a h = rw (← h)
 
@@ -56,21 +63,70 @@ module _ (kind : ℕ) (l r out : List ℕ) where
     size = omega (arith, k .place, list-length (differences (content (table kind l)) (content (table kind r))))
 
     -- a list that the buffer is too short for
-    pub call-short : length out < n → comparedOf (NoRoom n) out ≡ compare kind l r out
+    call-short : length out < n → comparedOf (NoRoom n) out ≡ compare kind l r out
     unfolding compare answerTo listBytes listInto
     call-short w = rw (← h, ← size, lt-ltb (length out) n w)
 
   -- a list that is laid
-  pub call-listed : none ≡ refusal kind l r → {after : List ℕ} {n : ℕ} → listing.Listed (differences (content (table kind l)) (content (table kind r))) out 0 after n → n ≤ length out
+  call-listed : none ≡ refusal kind l r → {after : List ℕ} {n : ℕ} → listing.Listed (differences (content (table kind l)) (content (table kind r))) out 0 after n → n ≤ length out
       → comparedOf (Listed n) after ≡ compare kind l r out
   unfolding compare answerTo listBytes listInto
   call-listed h {after} {n} k w =
       let s = size h k in
       rw (← h, k .bytes, sets-front out (flat (entryWords (differences (content (table kind l)) (content (table kind r))))) (omega (arith, s)), ← s, le-ltb (length out) n w)
 
+-- The length of a refusal is a place, which is not far.
+near-malformed : (o : Option ℕ) (q : Option Refusal) → Option·getD o 0 ≤ 131070 → Near q → Near (malformed o q)
+unfolding malformed
+near-malformed none q h k = k
+near-malformed (some p) q h k = record { most = h }
+
+near-cond : (b : Bool) {p q : Option Refusal} → Near p → Near q → Near (cond b p q)
+near-cond true h k = h
+near-cond false h k = k
+
+table-near : (kind : ℕ) (s : List ℕ) → ((i : ℕ) → getD s i 0 < 256) → Near (tableRefusal kind s)
+unfolding tableRefusal
+table-near kind s bytes =
+    near-cond (ltb limit (length s)) (record { most = omega arith })
+    (near-cond (inside s 0 2 && not (comparedFormat kind (word s 0))) (record { most = omega arith })
+    (near-malformed (fault kind s) _ (place-near s bytes kind) (near-cond (eqb kind 4 && (hasDevice (word s 4) || hasDevice (word s 6))) (record { most = omega arith }) (record { most = omega arith }))))
+
+near-else : (p q : Option Refusal) → Near p → Near q → Near (orElse p q)
+unfolding orElse
+near-else none q h k = k
+near-else (some x) q h k = h
+
+refusal-near : (kind : ℕ) (l r : List ℕ) → ((i : ℕ) → getD l i 0 < 256) → ((i : ℕ) → getD r i 0 < 256) → Near (refusal kind l r)
+unfolding refusal
+refusal-near kind l r bl br = near-cond (not (comparedKind kind)) (record { most = omega arith }) (near-else (tableRefusal kind l) (tableRefusal kind r) (table-near kind l bl) (table-near kind r br))
+
+-- The ways through the call: refused, a buffer that is too short, and a list.
+module _ (kind : ℕ) (l r out : List ℕ) (x : Judged) (e : refusalOf x ≡ refusal kind l r) where
+  pub answer-refused : ((i : ℕ) → getD l i 0 < 256) → ((i : ℕ) → getD r i 0 < 256) → {a : Compared} → x ≡ Refused a → (comparedOf a out ≡ compare kind l r out) × (lengthOf a < 0x100_0000_0000_0000)
+  answer-refused bl br {a} q =
+      let h : refusalOf (Refused a) ≡ refusal kind l r = rw q at e in
+      let k : Near (refusalOf (Refused a)) = rw h (refusal-near kind l r bl br) in
+      (call-refused kind l r out a h, omega (arith, k .most))
+
+  module _ (q : x ≡ Sound) where
+    none-refuses : none ≡ refusal kind l r
+    none-refuses = rw q at e
+
+    pub answer-sound : (comparedKind kind ≡ true) × Passes kind l × Passes kind r
+    answer-sound = call-passes kind l r none-refuses
+
+    pub answer-short : {before after : List ℕ} {n : ℕ} → listing.Listed (differences (content (table kind l)) (content (table kind r))) before 0 after n × (n ≤ 0x100_0000_0000) → length out < n
+        → (comparedOf (NoRoom n) out ≡ compare kind l r out) × (n < 0x100_0000_0000_0000)
+    answer-short k h = (call-short kind l r out none-refuses (k .0) h, omega arith)
+
+    pub answer-listed : {before during after : List ℕ} {n m : ℕ} → listing.Listed (differences (content (table kind l)) (content (table kind r))) before 0 during n × (n ≤ 0x100_0000_0000) → n ≤ length out
+        → listing.Listed (differences (content (table kind l)) (content (table kind r))) out 0 after m × (m ≤ 0x100_0000_0000) → (comparedOf (Listed m) after ≡ compare kind l r out) × (m < 0x100_0000_0000_0000)
+    answer-listed k h g = (call-listed kind l r out none-refuses (g .0) (omega (arith, k .0 .place, g .0 .place)), omega arith)
+
 -- an answer as one number
-pub code-says : (a : Compared) (out : List ℕ) {n : ℕ} → lengthOf a < 0x100_0000_0000_0000 → n ≡ numberOf a * 0x100_0000_0000_0000 + lengthOf a → decoded n out ≡ comparedOf a out
-code-says a out {n} h e =
+pub code-says : (a : Compared) {n : ℕ} {after : List ℕ} {o : Outcome} → (comparedOf a after ≡ o) × (lengthOf a < 0x100_0000_0000_0000) → n ≡ numberOf a * 0x100_0000_0000_0000 + lengthOf a → decoded n after ≡ o
+code-says a {n} h e =
     let q : n / 0x100_0000_0000_0000 ≡ numberOf a = omega (arith, number-most a) in
     let r : n % 0x100_0000_0000_0000 ≡ lengthOf a = omega (arith, number-most a) in
-    rw (q, r)
+    rw (q, r) (h .0)

@@ -1,3 +1,4 @@
 pub mod Refusing
 pub mod Formats
+pub mod Listing
 pub mod Answering

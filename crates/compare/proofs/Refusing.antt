@@ -18,6 +18,7 @@ use Rattle.wire.specs.declared.Fault.{Fault}
 use Rattle.wire.specs.declared.Fault.the-variants as fault
 use Rattle.differences.specs.Compare.{comparedKind, comparedFormat, Refusal, malformed, tableRefusal, orElse, refusal}
 use Rattle.compare.specs.Answers.{refusalOf}
+use Rattle.compare.specs.Passes.{Passes}
 use Rattle.compare.specs.declared.Compared.{Compared}
 use Rattle.compare.specs.declared.Compared.the-variants.{BadKind, LongSource, BadFormat, Malformed, Device}
 use Rattle.compare.specs.declared.Judged.{Judged}
@@ -88,11 +89,6 @@ module _ (kind : ℕ) (l r : List ℕ) {b : Bool} (e : b ≡ comparedKind kind) 
     refuse-right q y g = g ∙ rw (wire.passed e z, ← f, q)
 
 -- What is known of a subtable that is not refused.
-pub record Passes (kind : ℕ) (s : List ℕ) : Type 0 where
-  pub short : length s ≤ 262144
-  pub format : comparedFormat kind (word s 0) ≡ true
-  pub sound : fault kind s ≡ none
-
 table-passes : (kind : ℕ) (s : List ℕ) → tableRefusal kind s ≡ none → Passes kind s
 unfolding tableRefusal limit malformed
 table-passes kind s h = go (ltb 262144 (length s)) (inside s 0 2) (comparedFormat kind (word s 0)) (fault kind s) refl refl refl refl h

@@ -1,9 +1,7 @@
 -- The answers, as the documents' number, length and buffer.
 use Prim.Native.Nat.{ℕ, _/_, _%_}
-use mathlib.Core.Bool.{cond}
 use mathlib.Core.Option.{Option, none, some}
 use mathlib.Core.List.{List}
-use lib.Dec.{ltb}
 use Rattle.meaning.specs.Subset.{Outcome}
 use Rattle.differences.specs.Compare.{Refusal}
 use Rattle.compare.specs.declared.Compared.{Compared}
@@ -43,7 +41,3 @@ decoded n out = record { number = n / 0x100_0000_0000_0000; len = n % 0x100_0000
 abbrev pub refusalOf : Judged → Option Refusal
 refusalOf (Refused a) = some (record { number = numberOf a; len = lengthOf a })
 refusalOf Sound = none
-
--- the answer for a list of so many bytes, by the buffer's length
-unfoldable pub answerFor : ℕ → ℕ → Compared
-answerFor size room = cond (ltb room size) (NoRoom size) (Listed size)

@@ -1,5 +1,7 @@
 // The call that compares: a kind, two subtables of it and a lent buffer, and the first answer that applies, the left subtable's refusals first.
 use checks::check;
+use cover_differences::list_chained;
+use cover_differences::list_plain;
 use listing::put_listed;
 use room::LIMIT;
 use wire::Fault;
@@ -16,7 +18,8 @@ ghost use Rattle.differences.specs.Content.{content};
 ghost use Rattle.differences.specs.Entries.{differences};
 ghost use Rattle.differences.specs.Compare.{comparedKind, comparedFormat, tableRefusal, refusal};
 ghost use Rattle.listing.specs.Listed.{Listed};
-ghost use Rattle.compare.specs.Answers.{numberOf, lengthOf, answerFor, refusalOf};
+ghost use Rattle.compare.specs.Answers.{numberOf, lengthOf, refusalOf};
+ghost use Rattle.compare.specs.Passes.{Passes};
 
 // The answers, in the order in which they are tried. With `Listed` comes the number of bytes written, with `Malformed` the lowest start among the faulty parts, and with `NoRoom` the length needed; the length of any other is 0.
 pub enum Compared {
@@ -130,14 +133,15 @@ pub fn list_formats(kind: usize, left: &[u8], right: &[u8], out: &mut [u8], pos:
     put_listed(out, pos, 1, 0, 0, 0, f, h)
 }
 
-// The answer for a list of `size` bytes, by the buffer's length.
-pub fn answer_for(size: usize, room: usize) -> Compared
-    ensures { λ r. ⌜ r ≡ answerFor size room ⌝ }
+// What differs between two sound contexts of format 3, listed where there is room; the list's length.
+pub fn list_covers(kind: usize, left: &[u8], right: &[u8], out: &mut [u8]) -> usize
+    requires { ⌜ Passes kind (now left) × Passes kind (now right) × (1 ≤ kind) × (kind ≤ 2) × (word (now left) 0 ≡ 3) × (word (now right) 0 ≡ 3) ⌝ }
+    ensures { λ r. ⌜ Listed (differences (content (table kind (now (left .entry)))) (content (table kind (now (right .entry))))) (now (out .entry)) 0 (now (out .exit)) r × (r ≤ 0x100_0000_0000) ⌝ }
 {
-    if room < size {
-        return Compared::NoRoom(size);
+    if kind == 1 {
+        return list_plain(left, right, out, 0);
     }
-    Compared::Listed(size)
+    list_chained(left, right, out, 0)
 }
 
 // The number of an answer in document 01.

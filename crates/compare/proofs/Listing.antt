@@ -1,0 +1,52 @@
+-- The ways through the choice of a lister, by kind and format.
+use Prim.Native.Nat.{ℕ, _+_, _≤_, _<_}
+use mathlib.Core.Path.{_≡_, sym, _∙_}
+use mathlib.Core.Bool.{true}
+use mathlib.Core.Option.{none}
+use mathlib.Core.List.{List}
+use native.Mathlib.Decide.{decLt}
+use native.Mathlib.Omega.{arith}
+use lib.Dec.{leb}
+use borrow.Author.Tests.{lt-leb, leb-true, eqb-true}
+use Rattle.meaning.specs.Tables.{table}
+use Rattle.meaning.specs.Fault.{fault}
+use Rattle.laws.specs.Runs.{both}
+use Rattle.differences.specs.Content.{content}
+use Rattle.differences.specs.Entries.{differences}
+use Rattle.differences.specs.Compare.{comparedKind, comparedFormat}
+use Rattle.listing.specs.Listed.{Listed}
+use Rattle.compare.specs.Passes.{Passes}
+
+-- a subtable by its kind
+module _ {kind k : ℕ} (e : kind ≡ k) (l r : List ℕ) where
+  pub sound-as : {s : List ℕ} → Passes kind s → fault k s ≡ none
+  sound-as p = rw (← e) (p .sound)
+
+  pub listed-as : (most : ℕ) → most ≤ 0x100_0000_0000 → {out out' : List ℕ} {q : ℕ} → Listed (differences (content (table k l)) (content (table k r))) out 0 out' q × (q ≤ 0 + most)
+      → Listed (differences (content (table kind l)) (content (table kind r))) out 0 out' q × (q ≤ 0x100_0000_0000)
+  listed-as most h p = (rw e (p .0), omega arith)
+
+-- kinds and formats
+module _ (kind : ℕ) (h : comparedKind kind ≡ true) where
+  pub kind-range : (1 ≤ kind) × (kind ≤ 4)
+  unfolding comparedKind
+  kind-range = let p = both (leb 1 kind) (leb kind 4) h in (leb-true 1 kind (p .0), leb-true kind 4 (p .1))
+
+one-format : (kind f : ℕ) → 2 < kind → comparedFormat kind f ≡ true → f ≡ 1
+unfolding comparedFormat
+one-format kind f h k = eqb-true f 1 (rw (lt-leb kind 2 h) at k)
+
+-- two formats that differ, and format 3, are those of contexts
+pub differ-contexts : (kind f h : ℕ) → comparedFormat kind f ≡ true → comparedFormat kind h ≡ true → (f ≡ h → ⊥) → kind ≤ 2
+differ-contexts kind f h a b n = go (decLt 2 kind)
+  where
+    go : Dec (2 < kind) → kind ≤ 2
+    go (yes l) = absurd (n (one-format kind f l a ∙ sym (one-format kind h l b)))
+    go (no l) = omega arith
+
+pub three-contexts : (kind f : ℕ) → comparedFormat kind f ≡ true → f ≡ 3 → kind ≤ 2
+three-contexts kind f a e = go (decLt 2 kind)
+  where
+    go : Dec (2 < kind) → kind ≤ 2
+    go (yes l) = absurd (omega (arith, one-format kind f l a))
+    go (no l) = omega arith
