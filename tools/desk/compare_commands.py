@@ -9,7 +9,7 @@ from .tables import decode
 from .words import Trouble, hex_bytes
 
 PROVED = pathlib.Path(__file__).resolve().parents[1] / "proved"
-ANSWER = re.compile(r"answer ([0-9]+)\nlength ([0-9]+)\n((?:[0-9a-f]{24}\n)*)")
+ANSWER = re.compile(r"answer ([0-9]+)\nlength ([0-9]+)\n((?:[0-9a-f]*\n)*)")
 REFUSALS = {1: "the kind is not 1 to 4", 4: ANSWERS[4][0], 5: "a format that is not compared", 6: ANSWERS[6][0],
             7: ANSWERS[7][0], 11: "the compare file is faulty"}
 NO_ROOM = 10
@@ -66,9 +66,10 @@ def ask(args, left, right):
     ran = subprocess.run(command, input=build_compare(left.kind, left.data, right.data), stdout=subprocess.PIPE,
                          check=False)
     said = ANSWER.fullmatch(ran.stdout.decode("ascii", "replace"))
-    if not said:
+    number, length, data = (int(said[1]), int(said[2]), hex_bytes(said[3])) if said else (0, -1, b"")
+    if len(data) != (0 if number else length):
         raise Trouble(f"{command[0]} gave no answer (exit status {ran.returncode})")
-    return int(said[1]), int(said[2]), contents.read_entries(hex_bytes(said[3]))
+    return number, length, contents.read_entries(data)
 
 
 def say_refusal(number, length, tables):
