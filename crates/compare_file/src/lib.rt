@@ -1,0 +1,79 @@
+// Compare files: two subtables anywhere, and a trailer that says their kind and points back to them.
+use lookup_list::long_at;
+use lookup_list::part;
+use wire::word_at;
+ghost use mathlib.Core.Path.{_≡_};
+ghost use mathlib.Core.Bool.{true};
+ghost use Prim.Native.Nat.{_≤_, _<_};
+ghost use lib.ListN.{length};
+ghost use Rattle.meaning.specs.Job.{partAt, bytesOf};
+ghost use Rattle.compare_file.specs.CompareFile.{before, goodFile, kindIn, leftPart, rightPart};
+
+// The most bytes of a compare file.
+pub const FILE_LIMIT: usize = 600000;
+
+// The bytes of the trailer: the kind in two bytes, start and length of each subtable in four bytes each, then the tag.
+const TRAILER: usize = 22;
+
+// The four bytes `LSC1`, as one number.
+const TAG: usize = 0x4C53_4331;
+
+// Whether the part whose start and length stand at `at` lies wholly before the trailer.
+fn is_before(file: &[u8], at: usize) -> bool
+    requires { ⌜ (22 ≤ length (now file)) × (at < 0x10_0000) ⌝ }
+    ensures { λ r. ⌜ r ≡ before (now (file .entry)) (partAt (now (file .entry)) at) ⌝ }
+{
+    long_at(file, at) + long_at(file, at + 4) <= file.len() - TRAILER
+}
+
+// Whether the file is a compare file: of 22 bytes to the limit, it ends in the tag, and both subtables lie wholly before the trailer.
+pub fn good_file(file: &[u8]) -> bool
+    ensures { λ r. ⌜ r ≡ goodFile (now (file .entry)) ⌝ }
+{
+    if file.len() < TRAILER {
+        return false;
+    }
+    if FILE_LIMIT < file.len() {
+        return false;
+    }
+    let at = file.len() - TRAILER;
+    if long_at(file, at + 18) != TAG {
+        return false;
+    }
+    if !is_before(file, at + 2) {
+        return false;
+    }
+    is_before(file, at + 10)
+}
+
+// The part whose start and length stand at `at`, as a part of the lent file.
+fn part_at(file: &[u8], at: usize) -> &[u8]
+    requires { ⌜ (at < 0x10_0000) × (before (now file) (partAt (now file) at) ≡ true) ⌝ }
+    ensures { λ r. ⌜ now r ≡ bytesOf (now (file .entry)) (partAt (now (file .entry)) at) ⌝ }
+{
+    part(file, long_at(file, at), long_at(file, at + 4))
+}
+
+// The kind that a compare file says.
+pub fn kind_of(file: &[u8]) -> usize
+    requires { ⌜ goodFile (now file) ≡ true ⌝ }
+    ensures { λ r. ⌜ (r ≡ kindIn (now (file .entry))) × (r < 65536) ⌝ }
+{
+    word_at(file, file.len() - TRAILER)
+}
+
+// The left subtable.
+pub fn left_of(file: &[u8]) -> &[u8]
+    requires { ⌜ goodFile (now file) ≡ true ⌝ }
+    ensures { λ r. ⌜ now r ≡ bytesOf (now (file .entry)) (leftPart (now (file .entry))) ⌝ }
+{
+    part_at(file, file.len() - TRAILER + 2)
+}
+
+// The right subtable.
+pub fn right_of(file: &[u8]) -> &[u8]
+    requires { ⌜ goodFile (now file) ≡ true ⌝ }
+    ensures { λ r. ⌜ now r ≡ bytesOf (now (file .entry)) (rightPart (now (file .entry))) ⌝ }
+{
+    part_at(file, file.len() - TRAILER + 10)
+}
