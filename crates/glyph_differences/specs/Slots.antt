@@ -4,7 +4,7 @@ use mathlib.Core.Path.{_≡_, ap, _∙_}
 use mathlib.Core.Bool.{true}
 use mathlib.Core.Option.{none, some}
 use mathlib.Core.List.{List}
-use lib.ListN.{length, getD}
+use lib.ListN.{length}
 use Rattle.meaning.specs.Words.{word, bind}
 use Rattle.meaning.specs.Tables.{reaches}
 use Rattle.meaning.specs.Fault.{fault}
@@ -32,10 +32,6 @@ pub record SlotTable (s : List ℕ) : Type 0 where
   pub cover : soundCover s ≡ true
   pub enough : length (coverOf s) ≤ word s 4
   pub few : word s 4 < 65536
-
--- no number is over 262,144
-pub record Few (num : List ℕ) : Type 0 where
-  pub few : (c : ℕ) → getD num c 0 ≤ 262144
 
 -- the numbers of a covered glyph are those of the set in its slot
 pub in-slots : (num s : List ℕ) (side : ℕ) → SlotTable s → (g : ℕ) → beside (numbersBy num s side) g ≡ bind (indexOf (coverOf s) g) (λ i. some (numbersAt num s side (word s (6 + 2 * i))))

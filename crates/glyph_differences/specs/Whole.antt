@@ -5,7 +5,6 @@ use mathlib.Core.Bool.{Bool, true, false, cond}
 use mathlib.Core.Option.{Option, none, some}
 use mathlib.Core.List.{List, map}
 use native.Mathlib.Omega.{arith}
-use lib.ListN.{length}
 use lib.Dec.{eqb}
 use borrow.Author.Tests.{eq-eqb}
 use Rattle.meaning.specs.Words.{word, inside, bind, upFrom}
@@ -25,7 +24,7 @@ use Rattle.rule_says.specs.Said.{numbered, ligatureBy, saysAt, baseOf, saysBy}
 use Rattle.set_numbers.specs.Sets.{codesOf, Told}
 use Rattle.set_differences.specs.Gathered.{numbersAt}
 use Rattle.set_differences.specs.Said.{set-says, glyph-told}
-use Rattle.glyph_differences.specs.Slots.{ByGlyph, numbersBy, SlotTable, Few, in-slots}
+use Rattle.glyph_differences.specs.Slots.{ByGlyph, numbersBy, SlotTable, in-slots}
 
 -- Sound subtables.
 
@@ -128,7 +127,3 @@ whole-list kind l r t num a b c d k =
         (rules-slots kind l r t l 0 (omega arith) refl x g) (rules-slots kind l r t r 1 (omega arith) refl y g)
         (λ i e. k .lefts .all i (omega (arith, index-below (coverOf l) g i e, x .enough)))
         (λ j e. k .rights .all j (omega (arith, index-below (coverOf r) g j e, y .enough)))
-
--- numbers of sound subtables are few
-pub told-few : {says : ℕ → Says} {l r num : List ℕ} {first : ℕ} → Told says l r first num → length num ≡ 262144 → Few num
-told-few k h = record { few = λ c. omega (arith, k .few c) }

@@ -18,8 +18,8 @@ ghost use Rattle.differences.specs.Content.{content};
 ghost use Rattle.differences.specs.Entries.{each, ruleEntries, differences};
 ghost use Rattle.listing.specs.Listed.{Listed};
 ghost use Rattle.first_glyphs.specs.First.{atGlyph};
-ghost use Rattle.set_differences.specs.Gathered.{Fit, Remembered};
-ghost use Rattle.glyph_differences.specs.Slots.{numbersBy, SlotTable, Few, ByGlyph};
+ghost use Rattle.set_differences.specs.Gathered.{Few, Fit, Remembered};
+ghost use Rattle.glyph_differences.specs.Slots.{numbersBy, SlotTable, ByGlyph};
 
 // A first glyph, and the place in the buffer.
 struct First {

@@ -5,17 +5,18 @@ use mathlib.Core.Bool.{Bool, true, false, cond}
 use mathlib.Core.Option.{Option, none, some}
 use mathlib.Core.List.{List, [], _∷_, map}
 use native.Mathlib.Nat.{zero-add}
-use lib.ListN.{getD}
+use native.Mathlib.Omega.{arith}
+use lib.ListN.{length, getD}
 use lib.Dec.{eqb}
 use Rattle.meaning.specs.Words.{word, bind}
 use Rattle.meaning.specs.Tables.{reach, reaches, dropNull}
 use Rattle.laws.specs.Stands.{All}
 use Rattle.differences.specs.Content.{Says, setHolds}
-use Rattle.differences.specs.Entries.{Entry, sameSays, beside, atKey, ruleEntries}
+use Rattle.differences.specs.Entries.{sameSays, beside, atKey, ruleEntries}
 use Rattle.differences.specs.Ranks.{number-entries}
 use Rattle.first_glyphs.specs.First.{onlyAt, atGlyph}
-use Rattle.set_numbers.specs.Sets.{codesFrom, codesOf, AllNumbered}
-use Rattle.set_differences.specs.Gathered.{numberIn, numbersAt}
+use Rattle.set_numbers.specs.Sets.{codesFrom, codesOf, AllNumbered, Told}
+use Rattle.set_differences.specs.Gathered.{numberIn, numbersAt, Few}
 
 module _ {A B : Type 0} (read : ℕ → A) (say : A → B) (says : ℕ → B) (s : List ℕ) (side : ℕ) (e : (p : ℕ) → says (2 * p + side) ≡ say (read p)) where
   codes-say : (base slot n : ℕ) → map say (dropNull (reaches read s base slot n)) ≡ map says (codesFrom s side base slot n)
@@ -29,17 +30,27 @@ module _ {A B : Type 0} (read : ℕ → A) (say : A → B) (says : ℕ → B) (s
       step true h = h
       step false h = ap₂ (λ (x : B) (l : List B). x ∷ l) (sym (e (base + word s slot))) h
 
-  -- what the set in a slot says is what its codes say
-  pub set-says : (set : ℕ → List A) → ((at : ℕ) → set at ≡ dropNull (reaches read s at (at + 2) (word s at))) → (slot : ℕ)
-      → map say (setHolds (reach set s 0 slot)) ≡ map says (codesOf s side (word s slot))
-  unfolding reach setHolds codesOf
-  set-says set q slot = rw (zero-add (word s slot), q (word s slot)) (step (eqb (word s slot) 0) (codes-say (word s slot) (word s slot + 2) (word s (word s slot))))
-    where
-      step : (b : Bool) → map say (dropNull (reaches read s (word s slot) (word s slot + 2) (word s (word s slot)))) ≡ map says (codesFrom s side (word s slot) (word s slot + 2) (word s (word s slot)))
-          → map say (setHolds (cond b none (some (dropNull (reaches read s (word s slot) (word s slot + 2) (word s (word s slot)))))))
-          ≡ map says (cond b [] (codesFrom s side (word s slot) (word s slot + 2) (word s (word s slot))))
-      step true h = refl
-      step false h = h
+  module _ (set : ℕ → List A) (q : (at : ℕ) → set at ≡ dropNull (reaches read s at (at + 2) (word s at))) where
+    -- what the set at a place says is what its codes say; a null one, at 0, says nothing
+    pub place-says : (at : ℕ) → map say (cond (eqb at 0) [] (set at)) ≡ map says (codesOf s side at)
+    unfolding codesOf
+    place-says at = rw (q at) (step (eqb at 0) (codes-say at (at + 2) (word s at)))
+      where
+        step : (b : Bool) → map say (dropNull (reaches read s at (at + 2) (word s at))) ≡ map says (codesFrom s side at (at + 2) (word s at))
+            → map say (cond b [] (dropNull (reaches read s at (at + 2) (word s at)))) ≡ map says (cond b [] (codesFrom s side at (at + 2) (word s at)))
+        step true h = refl
+        step false h = h
+
+    -- the same of the set in a slot
+    pub set-says : (slot : ℕ) → map say (setHolds (reach set s 0 slot)) ≡ map says (codesOf s side (word s slot))
+    unfolding reach setHolds
+    set-says slot =
+        let h : map say (setHolds (reach set s 0 slot)) ≡ map say (cond (eqb (word s slot) 0) [] (set (word s slot))) = rw (zero-add (word s slot)) (holds (eqb (word s slot) 0)) in
+        h ∙ place-says (word s slot)
+      where
+        holds : (b : Bool) → map say (setHolds (cond b none (some (set (word s slot))))) ≡ map say (cond b [] (set (word s slot)))
+        holds true = refl
+        holds false = refl
 
 -- the numbers of the set in a slot
 pub set-numbers : (num s : List ℕ) (side slot : ℕ) → map (numberIn num) (setHolds (reach (codesOf s side) s 0 slot)) ≡ numbersAt num s side (word s slot)
@@ -77,3 +88,7 @@ module _ (num : List ℕ) (says : ℕ → Says) (tells : (c d : ℕ) → (getD n
       step none (some j) h k = refl
       step (some i) none h k = refl
       step (some i) (some j) h k = numbered-entries g (l i) (r j) (h i refl) (k j refl)
+
+-- no number is over the number of cells
+pub told-few : {says : ℕ → Says} {l r num : List ℕ} {first : ℕ} → Told says l r first num → length num ≡ 262144 → Few num
+told-few k h = record { few = λ c. omega (arith, k .few c) }

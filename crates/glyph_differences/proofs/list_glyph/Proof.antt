@@ -1,4 +1,4 @@
-use Rattle.glyph_differences.proofs.Glyphs.{slot-few, glyph-right, glyph-left, glyph-both}
+use Rattle.glyph_differences.proofs.Glyphs.{slot-few, slot-right, slot-left, slot-both}
 use native.Mathlib.Omega.{arith}
 use borrow.Author.Needs.{needs}
 use Rattle.glyph_differences.proofs.list_glyph.Statement.{statement}
@@ -25,7 +25,7 @@ returns c =
     let m = l .before .before in
     let f = m .before .before in
     let o = f .before .before .before .before .before .before .before .before in
-    let x = glyph-right (o .args .num .now) (o .pre .0) (o .pre .1) (o .args .at .glyph) (f .cover-index .ensures) (m .enum-told .given .1) (l .list-right .ensures) in
+    let x = slot-right (o .args .num .now) (o .pre .0) (o .pre .1) (o .args .at .glyph) (f .cover-index .ensures) (m .enum-told .given .1) (l .list-right .ensures) in
     (x .0, x .1, o .pre .5)
 
 cover-index-requires-2 : tie.Need-cover-index-requires-2
@@ -51,7 +51,7 @@ returns-2 c =
     let i = f .before .before in
     let e = i .before .before in
     let o = e .before .before .before .before .before .before .before .before in
-    let x = glyph-left (o .args .num .now) (o .pre .0) (o .pre .1) (o .args .at .glyph) (e .cover-index .ensures) (i .i .given .1) (f .cover-index2 .ensures) (m .enum-told2 .given .1) (l .put-listed .ensures) in
+    let x = slot-left (o .args .num .now) (o .pre .0) (o .pre .1) (o .args .at .glyph) (e .cover-index .ensures) (i .i .given .1) (f .cover-index2 .ensures) (m .enum-told2 .given .1) (l .put-listed .ensures) in
     (x .0, x .1, o .pre .5)
 
 mul-word-at : tie.Need-mul-word-at
@@ -112,7 +112,7 @@ returns-3 c =
     let i = c .before .before .before .before .before .before .before .before .before .before .before .before .before .before .before .before .before .before .before .before in
     let e = c .before .before .before .before .before .before .before .before .before .before .before .before .before .before .before .before .before .before .before .before .before .before in
     let o = c .before .before .before .before .before .before .before .before .before .before .before .before .before .before .before .before .before .before .before .before .before .before .before .before .before .before .before .before .before .before in
-    (glyph-both (o .args .num .now) (o .pre .0) (o .pre .1) (o .args .at .glyph) (e .cover-index .ensures) (i .i .given .1) (f .cover-index2 .ensures) (j .j .given .1) (w .before .word-at .ensures .0) (w .word-at2 .ensures .0) (l .0), l .1, l .2)
+    (slot-both (o .args .num .now) (o .pre .0) (o .pre .1) (o .args .at .glyph) (e .cover-index .ensures) (i .i .given .1) (f .cover-index2 .ensures) (j .j .given .1) (w .before .word-at .ensures .0) (w .word-at2 .ensures .0) (l .0), l .1, l .2)
 
 pub list-glyph-spec : {M : Type 1} → statement M
 list-glyph-spec =

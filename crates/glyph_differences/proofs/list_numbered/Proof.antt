@@ -1,8 +1,12 @@
+use lib.Dec.{eqb}
+use Rattle.differences.specs.Entries.{ruleEntries}
+use Rattle.first_glyphs.specs.First.{atGlyph}
+use Rattle.glyph_differences.specs.Slots.{numbersBy}
 use borrow.Author.Needs.{needs}
 use lib.ListN.{length-replicate}
 use Rattle.listing.specs.Listed.{listed-length}
 use Rattle.set_numbers.proofs.Slots.{blank-cell}
-use Rattle.glyph_differences.proofs.Glyphs.{Going, going-none, going-fit, going-turn, going-end}
+use Rattle.set_differences.proofs.Going.{Going, going-none, going-fit, going-turn, going-end}
 use mathlib.Core.Path.{sym}
 use Prim.Native.Nat.{ℕ, _-_}
 use native.Mathlib.Omega.{arith}
@@ -10,7 +14,7 @@ use Rattle.glyph_differences.proofs.list_numbered.Statement.{statement}
 use Rattle.glyph_differences.proofs.list_numbered.Tie as tie
 
 abbrev Inv-loop : tie.InvT-loop
-Inv-loop left right num out₀ pos nums₀ heads₀ links₀ at₀ g₀ out nums heads links at g = Going num left right out₀ pos out nums heads links at g
+Inv-loop left right num out₀ pos nums₀ heads₀ links₀ at₀ g₀ out nums heads links at g = Going (atGlyph (ruleEntries eqb) (numbersBy num left 0) (numbersBy num right 1)) num left right out₀ pos out nums heads links at g
 
 abbrev μ-loop : tie.MeasureT-loop
 μ-loop left right num out₀ pos nums₀ heads₀ links₀ at₀ g₀ out nums heads links at g = 65536 - g

@@ -2,7 +2,8 @@ use lib.ListN.{replicate, length-replicate}
 use Rattle.listing.specs.Listed.{listed-said}
 use Rattle.first_glyphs.specs.First.{bytes-known}
 use Rattle.set_numbers.proofs.Slots.{blank-cell}
-use Rattle.glyph_differences.specs.Whole.{slot-table, whole-list, told-few}
+use Rattle.glyph_differences.specs.Whole.{slot-table, whole-list}
+use Rattle.set_differences.specs.Said.{told-few}
 use Prim.Native.Nat.{ℕ}
 use native.Mathlib.Omega.{arith}
 use borrow.Author.Needs.{needs}
