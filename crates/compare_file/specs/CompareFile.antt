@@ -1,12 +1,13 @@
--- The compare file: two subtables anywhere, and a trailer that says their kind and points back to them.
+-- The compare file: two subtables anywhere, and a trailer that says their kind and points back to them; and what is printed of an answer.
 use Prim.Native.Nat.{ℕ, _+_, _-_}
 use mathlib.Core.Path.{_≡_, refl}
-use mathlib.Core.Bool.{Bool, _&&_}
-use mathlib.Core.List.{List}
+use mathlib.Core.Bool.{Bool, cond, _&&_}
+use mathlib.Core.List.{List, _++_}
 use lib.ListN.{length}
 use lib.Dec.{leb, eqb}
 use Rattle.meaning.specs.Words.{word}
-use Rattle.meaning.specs.Job.{Part, long, partAt, ascii}
+use Rattle.meaning.specs.Job.{Part, long, partAt, ascii, hexLines}
+use Rattle.report.specs.Text.{lineText}
 
 -- the most bytes of a compare file
 unfoldable pub fileLimit : ℕ
@@ -41,3 +42,9 @@ before f p = leb (p .start + p .len) (trailer f)
 -- a file of 22 bytes to the limit, which ends in the tag and whose two subtables lie wholly before the trailer
 unfoldable pub goodFile : List ℕ → Bool
 goodFile f = leb 22 (length f) && (leb (length f) fileLimit && (eqb (long f (trailer f + 18)) tag && (before f (leftPart f) && before f (rightPart f))))
+
+-- what is printed of an answer: its number, its length, and with 0 the list
+unfoldable pub printed : ℕ → ℕ → List ℕ → List ℕ
+printed number len list =
+    cond (eqb number 0) (lineText (ascii "answer ") number ++ (lineText (ascii "length ") len ++ hexLines 16 list))
+    (lineText (ascii "answer ") number ++ lineText (ascii "length ") len)

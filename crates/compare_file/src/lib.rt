@@ -1,13 +1,16 @@
-// Compare files: two subtables anywhere, and a trailer that says their kind and points back to them.
+// Compare files: two subtables anywhere, and a trailer that says their kind and points back to them. And the text that is printed for one.
 use lookup_list::long_at;
 use lookup_list::part;
+use report::put_line;
+use report::put_lines;
 use wire::word_at;
 ghost use mathlib.Core.Path.{_≡_};
 ghost use mathlib.Core.Bool.{true};
 ghost use Prim.Native.Nat.{_≤_, _<_};
 ghost use lib.ListN.{length};
 ghost use Rattle.meaning.specs.Job.{partAt, bytesOf};
-ghost use Rattle.compare_file.specs.CompareFile.{before, goodFile, kindIn, leftPart, rightPart};
+ghost use Rattle.report.specs.Text.{Put};
+ghost use Rattle.compare_file.specs.CompareFile.{before, goodFile, kindIn, leftPart, rightPart, printed};
 
 // The most bytes of a compare file.
 pub const FILE_LIMIT: usize = 600000;
@@ -76,4 +79,17 @@ pub fn right_of(file: &[u8]) -> &[u8]
     ensures { λ r. ⌜ now r ≡ bytesOf (now (file .entry)) (rightPart (now (file .entry))) ⌝ }
 {
     part_at(file, file.len() - TRAILER + 10)
+}
+
+// What is printed of an answer, at the front of `text`: a line with its number, one with its length, and with 0 the list in hex, 16 bytes a line; how long it is.
+pub fn put_answer(text: &mut [u8], number: usize, len: usize, list: &[u8]) -> usize
+    requires { ⌜ length (now list) ≤ 262144 ⌝ }
+    ensures { λ r. ⌜ Put (now (text .entry)) 0 (printed number len (now (list .entry))) (now (text .exit)) r ⌝ }
+{
+    let p = put_line(text, 0, b"answer ", number);
+    let q = put_line(text, p, b"length ", len);
+    if number != 0 {
+        return q;
+    }
+    put_lines(text, q, list)
 }
