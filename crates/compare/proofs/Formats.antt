@@ -52,7 +52,7 @@ formats-differ (Content.whole x) (Content.pairs r) f h p q n = absurd q
 formats-differ (Content.pairs l) y f h p q n = absurd p
 
 -- a context's kind
-context-kind : (kind : ℕ) → 1 ≤ kind → kind ≤ 2 → kind ≡ cond (eqb kind 2) 2 1
+pub context-kind : (kind : ℕ) → 1 ≤ kind → kind ≤ 2 → kind ≡ cond (eqb kind 2) 2 1
 context-kind kind h k = go (eqb kind 2) refl
   where
     go : (b : Bool) → eqb kind 2 ≡ b → kind ≡ cond b 2 1

@@ -1,13 +1,14 @@
 -- The ways through the choice of a lister, by kind and format.
 use Prim.Native.Nat.{ℕ, _+_, _≤_, _<_}
 use mathlib.Core.Path.{_≡_, sym, _∙_}
-use mathlib.Core.Bool.{true}
+use mathlib.Core.Bool.{Bool, true, cond}
 use mathlib.Core.Option.{none}
 use mathlib.Core.List.{List}
 use native.Mathlib.Decide.{decLt}
 use native.Mathlib.Omega.{arith}
-use lib.Dec.{leb}
-use borrow.Author.Tests.{lt-leb, leb-true, eqb-true}
+use lib.Dec.{leb, eqb}
+use borrow.Author.Tests.{le-leb, lt-leb, leb-true, eqb-true}
+use Rattle.meaning.specs.Words.{word}
 use Rattle.meaning.specs.Tables.{table}
 use Rattle.meaning.specs.Fault.{fault}
 use Rattle.laws.specs.Runs.{both}
@@ -15,7 +16,10 @@ use Rattle.differences.specs.Content.{content}
 use Rattle.differences.specs.Entries.{differences}
 use Rattle.differences.specs.Compare.{comparedKind, comparedFormat}
 use Rattle.listing.specs.Listed.{Listed}
+use Rattle.glyph_differences.specs.Slots.{ByGlyph}
+use Rattle.class_differences.specs.Reached.{ByClass}
 use Rattle.compare.specs.Passes.{Passes}
+use Rattle.compare.proofs.Formats.{context-kind}
 
 -- a subtable by its kind
 module _ {kind k : ℕ} (e : kind ≡ k) (l r : List ℕ) where
@@ -32,7 +36,8 @@ module _ (kind : ℕ) (h : comparedKind kind ≡ true) where
   unfolding comparedKind
   kind-range = let p = both (leb 1 kind) (leb kind 4) h in (leb-true 1 kind (p .0), leb-true kind 4 (p .1))
 
-one-format : (kind f : ℕ) → 2 < kind → comparedFormat kind f ≡ true → f ≡ 1
+-- ligatures and pairs have one format
+pub one-format : (kind f : ℕ) → 2 < kind → comparedFormat kind f ≡ true → f ≡ 1
 unfolding comparedFormat
 one-format kind f h k = eqb-true f 1 (rw (lt-leb kind 2 h) at k)
 
@@ -50,3 +55,32 @@ three-contexts kind f a e = go (decLt 2 kind)
     go : Dec (2 < kind) → kind ≤ 2
     go (yes l) = absurd (omega (arith, one-format kind f l a))
     go (no l) = omega arith
+
+-- Rules: by class in format 2, by glyph in format 1.
+module _ (kind : ℕ) (one : 1 ≤ kind) where
+  class-context : (f : ℕ) → comparedFormat kind f ≡ true → f ≡ 2 → kind ≤ 2
+  class-context f a e = go (decLt 2 kind)
+    where
+      go : Dec (2 < kind) → kind ≤ 2
+      go (yes l) = absurd (omega (arith, one-format kind f l a))
+      go (no l) = omega arith
+
+  pub class-kind : {b : Bool} → b ≡ eqb kind 2 → (f : ℕ) → comparedFormat kind f ≡ true → f ≡ 2 → kind ≡ cond b 2 1
+  class-kind e f a h = rw e (context-kind kind one (class-context f a h))
+
+  pub class-given : {b : Bool} {s : List ℕ} → b ≡ eqb kind 2 → Passes kind s → word s 0 ≡ 2 → ByClass b s
+  class-given {b} {s} e p h = record { format = h; sound = rw (← class-kind e (word s 0) (p .format) h) (p .sound) }
+
+  first-format : (f : ℕ) → comparedFormat kind f ≡ true → (f ≡ 2 → ⊥) → (f ≡ 3 → ⊥) → f ≡ 1
+  unfolding comparedFormat
+  first-format f a m n = go (decLt 2 kind)
+    where
+      go : Dec (2 < kind) → f ≡ 1
+      go (yes l) = one-format kind f l a
+      go (no l) =
+          let k : kind ≤ 2 = omega arith in
+          let q = both (leb 1 f) (leb f 3) (rw (le-leb kind 2 k) at a) in
+          omega (arith, leb-true 1 f (q .0), leb-true f 3 (q .1), m, n)
+
+  pub glyph-given : {s : List ℕ} → kind ≤ 3 → Passes kind s → (word s 0 ≡ 2 → ⊥) → (word s 0 ≡ 3 → ⊥) → ByGlyph kind s
+  glyph-given {s} h p m n = record { low = one; high = h; format = first-format (word s 0) (p .format) m n; sound = p .sound }

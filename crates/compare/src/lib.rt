@@ -3,6 +3,7 @@ use checks::check;
 use cover_differences::list_chained;
 use cover_differences::list_plain;
 use listing::put_listed;
+use pair_differences::list_pairs;
 use room::LIMIT;
 use wire::Fault;
 use wire::inside;
@@ -16,9 +17,9 @@ ghost use Rattle.meaning.specs.Tables.{table};
 ghost use Rattle.meaning.specs.Subset.{hasDevice};
 ghost use Rattle.differences.specs.Content.{content};
 ghost use Rattle.differences.specs.Entries.{differences};
-ghost use Rattle.differences.specs.Compare.{comparedKind, comparedFormat, tableRefusal, refusal};
+ghost use Rattle.differences.specs.Compare.{comparedKind, comparedFormat, tableRefusal, refusal, compare};
 ghost use Rattle.listing.specs.Listed.{Listed};
-ghost use Rattle.compare.specs.Answers.{numberOf, lengthOf, refusalOf};
+ghost use Rattle.compare.specs.Answers.{numberOf, lengthOf, comparedOf, decoded, refusalOf};
 ghost use Rattle.compare.specs.Passes.{Passes};
 
 // The answers, in the order in which they are tried. With `Listed` comes the number of bytes written, with `Malformed` the lowest start among the faulty parts, and with `NoRoom` the length needed; the length of any other is 0.
@@ -111,7 +112,7 @@ fn refused(kind: usize, src: &[u8]) -> Judged
 }
 
 // Why a call is refused, if it is: its kind, then the left subtable, then the right one.
-pub fn refusal(kind: usize, left: &[u8], right: &[u8]) -> Judged
+fn refusal(kind: usize, left: &[u8], right: &[u8]) -> Judged
     ensures { λ r. ⌜ refusalOf r ≡ refusal kind (now (left .entry)) (now (right .entry)) ⌝ }
 {
     if !compared_kind(kind) {
@@ -124,7 +125,7 @@ pub fn refusal(kind: usize, left: &[u8], right: &[u8]) -> Judged
 }
 
 // What differs between two contexts of different formats: the format. Listed from `pos` on, where there is room; the place after it.
-pub fn list_formats(kind: usize, left: &[u8], right: &[u8], out: &mut [u8], pos: usize) -> usize
+fn list_formats(kind: usize, left: &[u8], right: &[u8], out: &mut [u8], pos: usize) -> usize
     requires { ⌜ (1 ≤ kind) × (kind ≤ 2) × (comparedFormat kind (word (now left) 0) ≡ true) × (comparedFormat kind (word (now right) 0) ≡ true) × (word (now left) 0 ≡ word (now right) 0 → ⊥) × (pos < 0x4000_0000_0000) ⌝ }
     ensures { λ r. ⌜ Listed (differences (content (table kind (now (left .entry)))) (content (table kind (now (right .entry))))) (now (out .entry)) pos (now (out .exit)) r × (r ≤ pos + 12) ⌝ }
 {
@@ -133,8 +134,19 @@ pub fn list_formats(kind: usize, left: &[u8], right: &[u8], out: &mut [u8], pos:
     put_listed(out, pos, 1, 0, 0, 0, f, h)
 }
 
+// What differs between two sound subtables of rules, of format 1 or 2, listed where there is room; the list's length.
+fn list_rules(kind: usize, left: &[u8], right: &[u8], out: &mut [u8]) -> usize
+    requires { ⌜ Passes kind (now left) × Passes kind (now right) × (1 ≤ kind) × (kind ≤ 3) × (word (now left) 0 ≡ word (now right) 0) × (word (now left) 0 ≡ 3 → ⊥) ⌝ }
+    ensures { λ r. ⌜ Listed (differences (content (table kind (now (left .entry)))) (content (table kind (now (right .entry))))) (now (out .entry)) 0 (now (out .exit)) r × (r ≤ 0x100_0000_0000) ⌝ }
+{
+    if word_at(left, 0) == 2 {
+        return class_differences::list_rules(kind == 2, left, right, out, 0);
+    }
+    glyph_differences::list_rules(kind, left, right, out, 0)
+}
+
 // What differs between two sound contexts of format 3, listed where there is room; the list's length.
-pub fn list_covers(kind: usize, left: &[u8], right: &[u8], out: &mut [u8]) -> usize
+fn list_covers(kind: usize, left: &[u8], right: &[u8], out: &mut [u8]) -> usize
     requires { ⌜ Passes kind (now left) × Passes kind (now right) × (1 ≤ kind) × (kind ≤ 2) × (word (now left) 0 ≡ 3) × (word (now right) 0 ≡ 3) ⌝ }
     ensures { λ r. ⌜ Listed (differences (content (table kind (now (left .entry)))) (content (table kind (now (right .entry))))) (now (out .entry)) 0 (now (out .exit)) r × (r ≤ 0x100_0000_0000) ⌝ }
 {
@@ -142,6 +154,40 @@ pub fn list_covers(kind: usize, left: &[u8], right: &[u8], out: &mut [u8]) -> us
         return list_plain(left, right, out, 0);
     }
     list_chained(left, right, out, 0)
+}
+
+// What differs between two sound subtables, listed where there is room; the list's length.
+fn list_all(kind: usize, left: &[u8], right: &[u8], out: &mut [u8]) -> usize
+    requires { ⌜ (comparedKind kind ≡ true) × Passes kind (now left) × Passes kind (now right) ⌝ }
+    ensures { λ r. ⌜ Listed (differences (content (table kind (now (left .entry)))) (content (table kind (now (right .entry))))) (now (out .entry)) 0 (now (out .exit)) r × (r ≤ 0x100_0000_0000) ⌝ }
+{
+    if kind == 4 {
+        return list_pairs(left, right, out, 0);
+    }
+    let f = word_at(left, 0);
+    if f != word_at(right, 0) {
+        return list_formats(kind, left, right, out, 0);
+    }
+    if f == 3 {
+        return list_covers(kind, left, right, out);
+    }
+    list_rules(kind, left, right, out)
+}
+
+// The call: what differs between two subtables of this kind, listed in the buffer, or the first of the refusals that applies. The list is gone over twice: nothing is written before its length is known.
+pub fn compare(kind: usize, left: &[u8], right: &[u8], out: &mut [u8]) -> Compared
+    ensures { λ r. ⌜ (comparedOf r (now (out .exit)) ≡ compare kind (now (left .entry)) (now (right .entry)) (now (out .entry))) × (lengthOf r < 0x100_0000_0000_0000) ⌝ }
+{
+    if let Judged::Refused(answer) = refusal(kind, left, right) {
+        return answer;
+    }
+    let mut none = [0u8; 1];
+    let size = list_all(kind, left, right, &mut none);
+    if out.len() < size {
+        return Compared::NoRoom(size);
+    }
+    let end = list_all(kind, left, right, out);
+    Compared::Listed(end)
 }
 
 // The number of an answer in document 01.
@@ -175,9 +221,17 @@ pub fn length_of(a: Compared) -> usize
 }
 
 // An answer as one number: its number times 2^56, plus its length, which can pass 32 bits.
-pub fn one_number(a: Compared) -> u64
+fn one_number(a: Compared) -> u64
     requires { ⌜ lengthOf a < 0x100_0000_0000_0000 ⌝ }
     ensures { λ r. ⌜ r ≡ numberOf a * 0x100_0000_0000_0000 + lengthOf a ⌝ }
 {
     number_of(a) as u64 * 0x100_0000_0000_0000 + length_of(a) as u64
+}
+
+// The call for other languages, on numbers and byte slices. The answer is one number: the answer's number times 2^56, plus its length.
+#[no_mangle]
+pub extern "C" fn gillcurtain_compare(kind: u64, left: &[u8], right: &[u8], out: &mut [u8]) -> u64
+    ensures { λ r. ⌜ decoded r (now (out .exit)) ≡ compare kind (now (left .entry)) (now (right .entry)) (now (out .entry)) ⌝ }
+{
+    one_number(compare(kind as usize, left, right, out))
 }
