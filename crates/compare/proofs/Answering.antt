@@ -11,7 +11,7 @@ use borrow.Author.Tests.{lt-ltb, le-ltb}
 use Rattle.meaning.specs.Words.{word, inside, flat}
 use Rattle.meaning.specs.Fault.{fault}
 use Rattle.meaning.specs.Subset.{Outcome, limit, hasDevice}
-use Rattle.lookup_checks.proofs.Near.{place-near}
+use Rattle.checks.specs.Near.{place-near}
 use Rattle.meaning.specs.Tables.{table}
 use Rattle.laws.specs.Stands.{flat-length}
 use Rattle.laws.specs.Written.{sets-front}
