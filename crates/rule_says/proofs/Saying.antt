@@ -8,11 +8,11 @@ use lib.Dec.{eqb}
 use borrow.Author.Tests.{eq-eqb, ne-eqb, not-true, not-false}
 use Rattle.meaning.specs.Words.{word, words, entries}
 use Rattle.meaning.specs.Tables.{ligature, rule}
-use Rattle.differences.specs.Content.{Says, ruleSays, oneGlyph}
+use Rattle.differences.specs.Content.{ruleSays, oneGlyph}
 use Rattle.differences.specs.Entries.{sameList, sameTwo, sameSays}
 use Rattle.rules.specs.declared.Row.{Row}
 use Rattle.rules.specs.declared.RuleParts.{RuleParts}
-use Rattle.rules.specs.Parts.{Near, IsRule}
+use Rattle.rules.specs.Parts.{IsRule}
 use Rattle.rule_rows.specs.declared.Run.{Run}
 use Rattle.rule_rows.specs.Rows.{sideOf, numberBy, Reads, numbersOf, mix, printNumbers}
 use Rattle.rule_says.specs.declared.Shape.{Shape}

@@ -1,44 +1,28 @@
-use mathlib.Core.Path.{_≡_, refl, sym, ap, _∙_}
-use mathlib.Core.List.{List, [], _∷_, _++_}
-use mathlib.Core.Logic.{⊎-elim}
-use Prim.Native.Nat.{ℕ, zero, suc, _+_, _-_, _*_, _/_, _%_, _≤_, _<_}
+use mathlib.Core.Path.{_∙_}
 use native.Mathlib.Omega.{arith}
-use lib.ListN.{length, getD, set, length-set}
-use lib.Seq.{sets, length-sets}
 use borrow.Author.Needs.{needs}
 use Rattle.rule_rows.proofs.Walking.{stands-itself, stands-for}
 use Rattle.rule_rows.proofs.number_at.Statement.{statement}
 use Rattle.rule_rows.proofs.number_at.Tie as tie
-use Rattle.rule_rows.proofs.number_at.Reads as reads
-use Rattle.rule_rows.proofs.number_at.Lts as lts
-use Rattle.cells.proofs.cell.Reads as cell-reads
-use Rattle.rule_rows.proofs.word_of.Reads as word-of-reads
 
--- src/lib.rt:33:49
 mul-word-of : tie.Need-mul-word-of
 mul-word-of c = search needs
 
--- src/lib.rt:33:42
 add-word-of : tie.Need-add-word-of
 add-word-of c = search needs
 
--- src/lib.rt:33:9
 word-of-requires : tie.Need-word-of-requires
 word-of-requires c κs = search needs
 
--- src/lib.rt:35:9
 returns : tie.Need-returns
 returns c = let a = c .before .before .before .before .before .before .before .args in let w = c .before .before .word-of in (rw (← w .ensures .0) (stands-itself (a .t .now) (a .x .base) (w .result) (c .if1 .taken)), omega (arith, w .ensures .1))
 
--- src/lib.rt:37:13
 add-cell : tie.Need-add-cell
 add-cell c = search needs
 
--- src/lib.rt:37:5
 cell-requires : tie.Need-cell-requires
 cell-requires c κs = search needs
 
--- src/lib.rt:29:1
 returns-2 : tie.Need-returns-2
 returns-2 c = let a = c .before .before .before .before .before .before .before .before .before .args in let w = c .before .before .before .before .word-of in (rw (← w .ensures .0) (c .cell .ensures .0 ∙ stands-for (a .t .now) (a .x .base) (w .result) (c .before .before .if1 .left)), c .cell .ensures .1)
 

@@ -1,18 +1,9 @@
 use borrow.Author.Needs.{needs}
-use mathlib.Core.Path.{_≡_, refl, sym, ap, _∙_}
-use mathlib.Core.List.{List, [], _∷_, _++_}
-use mathlib.Core.Logic.{⊎-elim}
-use Prim.Native.Nat.{ℕ, zero, suc, _+_, _-_, _*_, _/_, _%_, _≤_, _<_}
+use Prim.Native.Nat.{_-_}
 use native.Mathlib.Omega.{arith}
-use lib.ListN.{length, getD, set, length-set}
-use lib.Seq.{sets, length-sets}
 use Rattle.rule_rows.proofs.Walking.{Printing, printing-all, printing-turn, printing-end}
 use Rattle.rule_rows.proofs.print_row.Statement.{statement}
 use Rattle.rule_rows.proofs.print_row.Tie as tie
-use Rattle.rule_rows.proofs.print_row.Reads as reads
-use Rattle.rule_rows.proofs.print_row.Lts as lts
-use Rattle.rule_rows.proofs.mix.Reads as mix-reads
-use Rattle.rule_rows.proofs.number_at.Reads as number-at-reads
 
 abbrev Inv-loop : tie.InvT-loop
 Inv-loop left right t x n h print₀ i₀ print i = Printing left right t x n h print i
@@ -20,31 +11,24 @@ Inv-loop left right t x n h print₀ i₀ print i = Printing left right t x n h 
 abbrev μ-loop : tie.MeasureT-loop
 μ-loop left right t x n h print₀ i₀ print i = n - i
 
--- src/lib.rt:72:5
 loop-holds : tie.Need-loop-holds Inv-loop μ-loop
 loop-holds c = printing-all (omega arith)
 
--- src/lib.rt:73:13
 number-at-requires : tie.Need-number-at-requires Inv-loop μ-loop
 number-at-requires c κs = (c .before .before .before .before .before .pre .0, omega arith)
 
--- src/lib.rt:74:9
 mix-requires : tie.Need-mix-requires Inv-loop μ-loop
 mix-requires c κs = search needs
 
--- src/lib.rt:75:9
 add-i : tie.Need-add-i Inv-loop μ-loop
 add-i c = search needs
 
--- src/lib.rt:72:5
 loop-less : tie.Need-loop-less Inv-loop μ-loop
 loop-less c = search needs
 
--- src/lib.rt:72:5
 loop-again : tie.Need-loop-again Inv-loop μ-loop
 loop-again c = printing-turn (c .before .before .before .loop .inv) (c .before .before .loop-test .taken) (c .before .number-at .ensures .0) (c .mix .ensures)
 
--- src/lib.rt:66:1
 returns : tie.Need-returns Inv-loop μ-loop
 returns c = printing-end (c .before .loop .inv) (c .loop-test .left)
 

@@ -1,67 +1,42 @@
-use mathlib.Core.Path.{_≡_, refl, sym, ap, _∙_}
-use mathlib.Core.List.{List, [], _∷_, _++_}
-use mathlib.Core.Logic.{⊎-elim}
-use Prim.Native.Nat.{ℕ, zero, suc, _+_, _-_, _*_, _/_, _%_, _≤_, _<_}
 use native.Mathlib.Omega.{arith}
-use lib.ListN.{length, getD, set, length-set}
-use lib.Seq.{sets, length-sets}
 use borrow.Author.Needs.{needs}
 use Rattle.rule_says.proofs.Saying.{reads-run, print-parts}
 use Rattle.rule_says.proofs.print.Statement.{statement}
 use Rattle.rule_says.proofs.print.Tie as tie
-use Rattle.rule_says.proofs.print.Reads as reads
-use Rattle.rule_says.proofs.print.Lts as lts
-use Rattle.rule_rows.proofs.print_row.Reads as print-row-reads
-use Rattle.rule_says.proofs.forms_of.Reads as forms-of-reads
-use Rattle.rule_says.proofs.parts_of.Reads as parts-of-reads
-use Rattle.rule_says.proofs.records_of.Reads as records-of-reads
-use Rattle.rule_says.proofs.run_of.Reads as run-of-reads
 
--- src/lib.rt:114:9
 parts-of-requires : tie.Need-parts-of-requires
 parts-of-requires c κs = search needs
 
--- src/lib.rt:115:9
 forms-of-requires : tie.Need-forms-of-requires
 forms-of-requires c κs = search needs
 
--- src/lib.rt:116:9
 run-of-requires : tie.Need-run-of-requires
 run-of-requires c κs = search needs
 
--- src/lib.rt:117:9
 print-row-requires : tie.Need-print-row-requires
 print-row-requires c κs = let o = c .before .before .before .before .before .before in let p = c .before .before .parts-of in (reads-run (o .args .shape .classes) (o .args .code) 1 (p .result .back .at) (c .run-of .ensures) (omega arith) (omega (arith, p .ensures .back .close)), omega (arith, p .ensures .back .short), omega arith)
 
--- src/lib.rt:118:9
 run-of-requires-2 : tie.Need-run-of-requires-2
 run-of-requires-2 c κs = search needs
 
--- src/lib.rt:119:9
 print-row-requires-2 : tie.Need-print-row-requires-2
 print-row-requires-2 c κs = let o = c .before .before .before .before .before .before .before .before in let p = c .before .before .before .before .parts-of in (reads-run (o .args .shape .classes) (o .args .code) 3 (p .result .input .at) (c .run-of2 .ensures) (omega arith) (omega (arith, p .ensures .input .close)), omega (arith, p .ensures .input .short), omega arith)
 
--- src/lib.rt:120:9
 run-of-requires-3 : tie.Need-run-of-requires-3
 run-of-requires-3 c κs = search needs
 
--- src/lib.rt:121:9
 print-row-requires-3 : tie.Need-print-row-requires-3
 print-row-requires-3 c κs = let o = c .before .before .before .before .before .before .before .before .before .before in let p = c .before .before .before .before .before .before .parts-of in (reads-run (o .args .shape .classes) (o .args .code) 5 (p .result .ahead .at) (c .run-of3 .ensures) (omega arith) (omega (arith, p .ensures .ahead .close)), omega (arith, p .ensures .ahead .short), omega arith)
 
--- src/lib.rt:122:31
 records-of-requires : tie.Need-records-of-requires
 records-of-requires c κs = search needs
 
--- src/lib.rt:122:60
 mul-print-row : tie.Need-mul-print-row
 mul-print-row c = omega (arith, c .before .before .before .before .before .before .before .before .before .parts-of .ensures .records .short)
 
--- src/lib.rt:122:5
 print-row-requires-4 : tie.Need-print-row-requires-4
 print-row-requires-4 c κs = let o = c .before .before .before .before .before .before .before .before .before .before .before .before .before in let p = c .before .before .before .before .before .before .before .before .before .parts-of in (reads-run 0 (o .args .code) 0 (p .result .records .at) (c .before .records-of .ensures) (omega arith) (omega (arith, p .ensures .records .close)), omega (arith, p .ensures .records .short), omega arith)
 
--- src/lib.rt:110:1
 returns : tie.Need-returns
 returns c = let a = c .before .before .before .before .before .before .before .before .before .before .before .before .before .before .args in (print-parts (a .shape) (a .left .now) (a .right .now) (a .t .now) (a .code) (c .before .before .before .before .before .before .before .before .before .before .parts-of .ensures) (c .before .before .before .before .before .before .before .before .before .forms-of .ensures .0) (c .before .before .before .before .before .before .before .before .run-of .ensures) (c .before .before .before .before .before .before .before .print-row .ensures .0) (c .before .before .before .before .before .before .run-of2 .ensures) (c .before .before .before .before .before .print-row2 .ensures .0) (c .before .before .before .before .run-of3 .ensures) (c .before .before .before .print-row3 .ensures .0) (c .before .before .records-of .ensures) (c .print-row4 .ensures .0), c .print-row4 .ensures .1)
 
