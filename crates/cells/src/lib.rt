@@ -2,6 +2,7 @@
 ghost use mathlib.Core.Path.{_≡_};
 ghost use Prim.Native.Nat.{_<_};
 ghost use lib.ListN.{getD, set};
+ghost use Rattle.cells.specs.Cleared.{Cleared};
 
 // The number in cell `i`; 0 past the end.
 pub fn cell(t: &[u32], i: usize) -> usize
@@ -20,5 +21,16 @@ pub fn put_cell(t: &mut [u32], i: usize, v: usize)
 {
     if i < t.len() {
         t[i] = v as u32;
+    }
+}
+
+// The number 0 into the first `n` cells.
+pub fn clear(t: &mut [u32], n: usize)
+    ensures { λ _. ⌜ Cleared n (now (t .entry)) (now (t .exit)) ⌝ }
+{
+    let mut i = 0;
+    while i < n {
+        put_cell(t, i, 0);
+        i += 1;
     }
 }

@@ -48,18 +48,18 @@ number-few {says} {print} {num} {came} b c = step (decLt 0 (getD num c 0))
     step (yes h) = omega (arith, b .own c (λ z. omega arith) .0 .few, b .enough, filled-few num)
     step (no h) = omega arith
 
--- where no cell is filled there are no numbers yet
+-- where no cell is filled, no print has come and none is counted there are no numbers yet
 pub book-blank : {says : ℕ → Says} {print : Says → ℕ} {num came : List ℕ} → 65540 + 2 * length num ≤ length came → length num < 0x1000_0000
-    → ((i : ℕ) → getD num i 0 ≡ 0) → ((i : ℕ) → getD came i 0 ≡ 0) → Book says print num came
+    → ((i : ℕ) → getD num i 0 ≡ 0) → ((i : ℕ) → i < 65537 → getD came i 0 ≡ 0) → Book says print num came
 book-blank {says} {print} {num} {came} l s n z = record {
   size = l;
   small = s;
-  enough = omega (arith, z 65536);
+  enough = omega (arith, z 65536 (omega arith));
   firsts = record {
     apart = λ j k p. absurd (none j p);
     prints = λ k p. absurd (none k p);
     latest = λ k p. absurd (none k p);
-    chained = λ p b h. absurd (h (z p));
+    chained = λ p b h. absurd (h (z p (omega arith)));
     before = λ j k p. absurd (none j p);
     linked = λ k p. absurd (none k p);
   };
@@ -67,4 +67,4 @@ book-blank {says} {print} {num} {came} l s n z = record {
 }
   where
     none : (k : ℕ) → Is came k → ⊥
-    none k p = omega (arith, p .some, p .few, z 65536)
+    none k p = omega (arith, p .some, p .few, z 65536 (omega arith))
