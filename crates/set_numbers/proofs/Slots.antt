@@ -4,13 +4,15 @@ use mathlib.Core.Path.{_≡_, refl, sym, _∙_}
 use mathlib.Core.List.{List, [], _∷_}
 use native.Mathlib.Decide.{decLt}
 use native.Mathlib.Omega.{arith}
-use lib.ListN.{length, getD, replicate}
+use lib.ListN.{length, getD}
 use borrow.Author.Tests.{eq-eqb, ne-eqb}
 use Rattle.meaning.specs.Words.{word}
 use Rattle.differences.specs.Content.{Says}
+use Rattle.cells.specs.Cleared.{Cleared}
+use Rattle.cells.proofs.Clearing.{cleared-whole}
 use Rattle.rule_numbers.specs.Book.{Book, Numbered}
 use Rattle.rule_numbers.proofs.Telling.{numbers-tell, number-few, book-blank}
-use Rattle.set_numbers.specs.Sets.{codesFrom, codesOf, AllNumbered, SetNumbered, SideNumbered, Blank, Told}
+use Rattle.set_numbers.specs.Sets.{codesFrom, codesOf, AllNumbered, SetNumbered, SideNumbered, Cells, Told}
 
 -- the codes from the slot i on
 abbrev pub rest : List ℕ → ℕ → ℕ → ℕ → ℕ → List ℕ
@@ -140,15 +142,10 @@ module _ {A : Type 0} {says : ℕ → A} {print : A → ℕ} {num₀ came₀ : L
   pub siding-end : {s : List ℕ} {side first n last i : ℕ} {num came : List ℕ} → Siding says print s side first num₀ came₀ n last i num came → n ≤ i → SideNumbered says print s side first num₀ num came
   siding-end k h = record { book = k .book; sets = record { all = λ j l. k .before j (omega (arith, k .count)) }; stay = k .stay }
 
--- cells of 0
-pub blank-cell : (n i : ℕ) → getD {A = ℕ} (replicate n 0) i 0 ≡ 0
-blank-cell zero i = refl
-blank-cell (suc n) zero = refl
-blank-cell (suc n) (suc i) = blank-cell n i
-
 -- before the first rule
-pub book-first : {says : ℕ → Says} {print : Says → ℕ} {num came : List ℕ} → Blank num → came ≡ replicate 589828 0 → length came ≡ 589828 → Book says print num came
-book-first b e l = book-blank (omega (arith, b .size)) (omega (arith, b .size)) (b .empty) (λ i. rw e (blank-cell 589828 i))
+pub book-first : {says : ℕ → Says} {print : Says → ℕ} {num₀ num came₀ came : List ℕ} → Cells (length num₀) (length came₀) → Cleared (length num₀) num₀ num → Cleared 65537 came₀ came → length num ≡ length num₀ → length came ≡ length came₀
+    → Book says print num came
+book-first c n k e f = book-blank (omega (arith, c .codes, c .comes)) (omega (arith, c .codes)) (cleared-whole n (omega arith)) (k .blank)
 
 -- both sides, one after the other
 pub both-told : {says : ℕ → Says} {print : Says → ℕ} {l r num one came two after : List ℕ} {first : ℕ} → SideNumbered says print l 0 first num one came → SideNumbered says print r 1 first one two after → Told says l r first two

@@ -47,10 +47,10 @@ module _ {A : Type 0} (says : ℕ → A) (print : A → ℕ) where
     pub sets : SetsNumbered s side first num
     pub stay : (d : ℕ) → (getD num₀ d 0 ≡ 0 → ⊥) → getD num d 0 ≡ getD num₀ d 0
 
--- no cell of 262,144 is filled
-pub record Blank (num : List ℕ) : Type 0 where
-  pub size : length num ≡ 262144
-  pub empty : (i : ℕ) → getD num i 0 ≡ 0
+-- cells for the codes of rules, and for what has come of them
+pub record Cells (num came : ℕ) : Type 0 where
+  pub codes : num ≡ 262144
+  pub comes : 589828 ≤ came
 
 -- All rules of both sides have numbers, which are equal exactly if the rules say the same, and none is greater than there are cells.
 pub record Told (says : ℕ → Says) (l r : List ℕ) (first : ℕ) (num : List ℕ) : Type 0 where

@@ -1,4 +1,5 @@
 // Numbers for all rules of two subtables. `num` has a cell for each code, and `came` is as rule_numbers has it.
+use cells::clear;
 use rule_numbers::number;
 use rule_rows::word_of;
 use rule_says::Shape;
@@ -7,7 +8,10 @@ ghost use lib.ListN.{length};
 ghost use Rattle.rule_rows.specs.Rows.{sideOf};
 ghost use Rattle.rule_says.specs.Said.{saysBy, printSays};
 ghost use Rattle.rule_numbers.specs.Book.{Book};
-ghost use Rattle.set_numbers.specs.Sets.{Near, codesOf, SetNumbered, SideNumbered, Blank, Told};
+ghost use Rattle.set_numbers.specs.Sets.{Near, codesOf, SetNumbered, SideNumbered, Cells, Told};
+
+// The cells of `came` that are blank before the first number.
+const PRINTS_AND_COUNT: usize = 65537;
 
 // Where a set stands: in the left subtable (0) or in the right one (1), at `at`; a null one stands at 0.
 pub struct Set {
@@ -52,7 +56,7 @@ fn number_set(
     }
 }
 
-// A number for each rule of one side (0 left, 1 right), whose sets' offsets stand from `set.at` on after their count. A set that stands in several slots in a row is walked once.
+// A number for each rule of one side (0 left, 1 right), whose sets' offsets stand from `slots.at` on after their count. A set that stands in several slots in a row is walked once.
 fn number_side(
     shape: Shape,
     left: &[u8],
@@ -84,14 +88,24 @@ fn number_side(
     }
 }
 
-// Numbers for all rules of both sides, equal exactly if the rules say the same. The sets' offsets stand from `first` on after their count.
-pub fn number_all(shape: Shape, left: &[u8], right: &[u8], t: &[u32], first: usize, num: &mut [u32])
-    requires { ⌜ (2 ≤ first) × (first < 65536) × Blank (now num) ⌝ }
+// Numbers for all rules of both sides, equal exactly if the rules say the same. The sets' offsets stand from `first` on after their count. What stands in `num` and `came` before does not matter.
+pub fn number_all(
+    shape: Shape,
+    left: &[u8],
+    right: &[u8],
+    t: &[u32],
+    first: usize,
+    num: &mut [u32],
+    came: &mut [u32],
+)
+    requires { ⌜ (2 ≤ first) × (first < 65536) × Cells (length (now num)) (length (now came)) ⌝ }
     ensures { λ _. ⌜ Told (saysBy shape (now (left .entry)) (now (right .entry)) (now (t .entry))) (now (left .entry)) (now (right .entry)) first (now (num .exit)) ⌝ }
 {
-    let mut came = [0u32; 589828];
+    let n = num.len();
+    clear(num, n);
+    clear(came, PRINTS_AND_COUNT);
     let lefts = Set { side: 0, at: first };
-    number_side(shape, left, right, t, num, &mut came, lefts);
+    number_side(shape, left, right, t, num, came, lefts);
     let rights = Set { side: 1, at: first };
-    number_side(shape, left, right, t, num, &mut came, rights);
+    number_side(shape, left, right, t, num, came, rights);
 }
