@@ -1,6 +1,6 @@
 -- The ways through the list of one first glyph by numbers, and the walk over all glyphs.
 use Prim.Native.Nat.{ℕ, _+_, _≤_, _<_}
-use mathlib.Core.Path.{_≡_}
+use mathlib.Core.Path.{_≡_, refl, _∙_}
 use mathlib.Core.Option.{some}
 use mathlib.Core.List.{List, [], _∷_}
 use native.Mathlib.Omega.{arith}
@@ -14,7 +14,7 @@ use Rattle.differences.specs.Entries.{Entry, each, beside, longer, ruleEntries}
 use Rattle.listing.specs.Listed.{entryOf, Listed, listed-said, Through, through-all, through-turn, through-end}
 use Rattle.first_glyphs.specs.First.{rightOnly, atGlyph, at-right, at-left, at-both}
 use Rattle.set_numbers.specs.Sets.{codesOf}
-use Rattle.set_differences.specs.Gathered.{numbersAt, Few, Fit, Remembered}
+use Rattle.set_differences.specs.Gathered.{numbersAt, Fit, Remembered}
 
 -- One first glyph. The numbers of its rules are h i on the left and k j on the right, by its indices i and j.
 module _ (ns ms : List (ℕ × List ℕ)) (c d : List ℕ) (h k : ℕ → List ℕ) (g : ℕ) (e : beside ns g ≡ bind (indexOf c g) (λ i. some (h i))) (f : beside ms g ≡ bind (indexOf d g) (λ j. some (k j)))
@@ -32,38 +32,38 @@ module _ (ns ms : List (ℕ × List ℕ)) (c d : List ℕ) (h k : ℕ → List �
     pub glyph-both : {j : ℕ} → u ≡ At j → Listed (ruleEntries eqb g (h i) (k j)) out pos next q → Listed (atGlyph (ruleEntries eqb) ns ms g) out pos next q
     glyph-both y l = listed-said l (at-both (ruleEntries eqb) ns ms c d h k g e f (is-at (indexOf c g) x p) (is-at (indexOf d g) y w))
 
--- in cells of 0 the pair of two null sets is remembered
-remembered-first : (num l r nums : List ℕ) → ((i : ℕ) → getD nums i 0 ≡ 0) → Remembered num l r nums
+-- two null sets list nothing
+remembered-null : (num l r : List ℕ) {nums : List ℕ} → (getD nums 131072 0 ≡ 0) × (getD nums 131073 0 ≡ 0) × (getD nums 131074 0 ≡ 0) → Remembered num l r nums
 unfolding numbersAt codesOf ruleEntries longer each upFrom
-remembered-first num l r nums z = record { few = omega (arith, z 131074); bytes = rw (z 131074, z 131072, z 131073) }
+remembered-null num l r z = record { few = omega (arith, z .2); bytes = rw (z .2, z .0, z .1) }
 
 -- what the walk over all glyphs keeps, where f is listed of each
-pub record Going (f : ℕ → List Entry) (num left right out₀ : List ℕ) (pos : ℕ) (out nums heads links : List ℕ) (at g : ℕ) : Type 0 where
-  pub through : Through f 65536 0x18_0000 out₀ pos out at g
+pub record Going (f : ℕ → List Entry) (num left right out₀ nums₀ heads₀ links₀ out nums heads links : List ℕ) (at g : ℕ) : Type 0 where
+  pub through : Through f 65536 0x18_0000 out₀ 0 out at g
   pub remembered : Remembered num left right nums
-  pub nums-size : length nums ≡ 131075
-  pub heads-size : length heads ≡ 262145
-  pub links-size : length links ≡ 196608
+  pub nums-size : length nums ≡ length nums₀
+  pub heads-size : length heads ≡ length heads₀
+  pub links-size : length links ≡ length links₀
 
-module _ {f : ℕ → List Entry} {num left right out₀ : List ℕ} {pos : ℕ} where
-  pub going-none : (nums heads links : List ℕ) → ((i : ℕ) → getD nums i 0 ≡ 0) → length nums ≡ 131075 → length heads ≡ 262145 → length links ≡ 196608 → Going f num left right out₀ pos out₀ nums heads links pos 0
-  going-none nums heads links z a b c = record { through = through-all; remembered = remembered-first num left right nums z; nums-size = a; heads-size = b; links-size = c }
+module _ {f : ℕ → List Entry} {num left right out₀ nums₀ heads₀ links₀ : List ℕ} where
+  pub going-none : (getD nums₀ 131072 0 ≡ 0) × (getD nums₀ 131073 0 ≡ 0) × (getD nums₀ 131074 0 ≡ 0) → Going f num left right out₀ nums₀ heads₀ links₀ out₀ nums₀ heads₀ links₀ 0 0
+  going-none z = record { through = through-all; remembered = remembered-null num left right z; nums-size = refl; heads-size = refl; links-size = refl }
 
-  module _ {out nums heads links : List ℕ} {at g : ℕ} (k : Going f num left right out₀ pos out nums heads links at g) where
-    pub going-fit : Few num → Fit num (length nums) (length heads) (length links)
-    going-fit w = record { below = λ c. omega (arith, w .few c, k .heads-size); rows = omega (arith, k .nums-size); linked = omega (arith, k .links-size) }
+  module _ {out nums heads links : List ℕ} {at g : ℕ} (k : Going f num left right out₀ nums₀ heads₀ links₀ out nums heads links at g) where
+    pub going-fit : Fit num (length nums₀) (length heads₀) (length links₀) → Fit num (length nums) (length heads) (length links)
+    going-fit w = record { below = λ c. omega (arith, w .below c, k .heads-size); rows = omega (arith, w .rows, k .nums-size); linked = omega (arith, w .linked, k .links-size) }
 
     pub going-turn : g < 65536 → {next ns hs ls : List ℕ} {q : ℕ} → Listed (f g) out at next q × (q ≤ at + 0x18_0000) × Remembered num left right ns
-        → length ns ≡ length nums → length hs ≡ length heads → length ls ≡ length links → Going f num left right out₀ pos next ns hs ls q (g + 1)
+        → length ns ≡ length nums → length hs ≡ length heads → length ls ≡ length links → Going f num left right out₀ nums₀ heads₀ links₀ next ns hs ls q (g + 1)
     going-turn h l a b c = record {
       through = through-turn (k .through) h (l .0) (l .1);
       remembered = l .2;
-      nums-size = omega (arith, k .nums-size);
-      heads-size = omega (arith, k .heads-size);
-      links-size = omega (arith, k .links-size);
+      nums-size = a ∙ k .nums-size;
+      heads-size = b ∙ k .heads-size;
+      links-size = c ∙ k .links-size;
     }
 
-    pub going-end : 65536 ≤ g → Listed (each f (upFrom 0 65536)) out₀ pos out at × (at ≤ pos + 0x18_0000_0000)
+    pub going-end : 65536 ≤ g → Listed (each f (upFrom 0 65536)) out₀ 0 out at × (at ≤ 0x18_0000_0000)
     going-end h =
         let e = through-end (k .through) h in
         (e .0, omega (arith, e .1))

@@ -46,9 +46,12 @@ pub record PairedRows (l r links : List ℕ) : Type 0 where
   pub lefts : Partners eqb l r links
   pub rights : Partners eqb r l (drop 65536 links)
 
--- no number is over 262,144
-pub record Few (num : List ℕ) : Type 0 where
-  pub few : (c : ℕ) → getD num c 0 ≤ 262144
+-- cells that are enough for any two subtables
+pub record Scratch (num nums heads links : ℕ) : Type 0 where
+  pub codes : num ≡ 262144
+  pub rows : 131075 ≤ nums
+  pub comes : 589828 ≤ heads
+  pub linked : 458752 ≤ links
 
 -- there are cells for the rows, and for each number among the heads
 pub record Fit (num : List ℕ) (nums heads links : ℕ) : Type 0 where

@@ -15,8 +15,8 @@ use Rattle.differences.specs.Content.{Says, setHolds}
 use Rattle.differences.specs.Entries.{sameSays, beside, atKey, ruleEntries}
 use Rattle.differences.specs.Ranks.{number-entries}
 use Rattle.first_glyphs.specs.First.{onlyAt, atGlyph}
-use Rattle.set_numbers.specs.Sets.{codesFrom, codesOf, AllNumbered, Told}
-use Rattle.set_differences.specs.Gathered.{numberIn, numbersAt, Few}
+use Rattle.set_numbers.specs.Sets.{codesFrom, codesOf, AllNumbered, Cells, Told}
+use Rattle.set_differences.specs.Gathered.{numberIn, numbersAt, Scratch, Fit}
 
 module _ {A B : Type 0} (read : ℕ → A) (say : A → B) (says : ℕ → B) (s : List ℕ) (side : ℕ) (e : (p : ℕ) → says (2 * p + side) ≡ say (read p)) where
   codes-say : (base slot n : ℕ) → map say (dropNull (reaches read s base slot n)) ≡ map says (codesFrom s side base slot n)
@@ -89,6 +89,9 @@ module _ (num : List ℕ) (says : ℕ → Says) (tells : (c d : ℕ) → (getD n
       step (some i) none h k = refl
       step (some i) (some j) h k = numbered-entries g (l i) (r j) (h i refl) (k j refl)
 
--- no number is over the number of cells
-pub told-few : {says : ℕ → Says} {l r num : List ℕ} {first : ℕ} → Told says l r first num → length num ≡ 262144 → Few num
-told-few k h = record { few = λ c. omega (arith, k .few c) }
+-- Cells that are enough are so for numbers of rules, and for pairing by these.
+pub scratch-cells : {num nums heads links : ℕ} → Scratch num nums heads links → Cells num heads
+scratch-cells k = record { codes = k .codes; comes = k .comes }
+
+pub scratch-fit : {says : ℕ → Says} {l r num : List ℕ} {first nums heads links : ℕ} → Scratch (length num) nums heads links → Told says l r first num → Fit num nums heads links
+scratch-fit k t = record { below = λ c. omega (arith, t .few c, k .codes, k .comes); rows = k .rows; linked = omega (arith, k .linked) }

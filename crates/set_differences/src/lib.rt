@@ -1,6 +1,6 @@
 // What differs between two sets of rules, by the numbers of the rules: they are paired by number and listed rank by rank. `num` has the number of each code.
 // `nums` has two rows of 65,536 cells for the numbers of a left set and of a right one, and then three cells that remember the latest pair of sets: where they stand, and how many bytes their list takes.
-// `heads` and `links` are as partners has them.
+// `heads` and `links` are as partners has them. What stands in them before does not matter.
 use cells::cell;
 use cells::put_cell;
 use partners::pair;
@@ -15,6 +15,15 @@ ghost use Rattle.differences.specs.Entries.{ruleEntries};
 ghost use Rattle.listing.specs.Listed.{Listed};
 ghost use Rattle.partners.specs.Chains.{numbersFrom};
 ghost use Rattle.set_differences.specs.Gathered.{numbersAt, Gathers, Gathered, Rowed, PairedRows, Fit, Remembered, Known};
+
+// How many cells are enough for any two subtables: `num`, `nums`, `heads` and `links`. While rules get their numbers, `heads` is what rule_numbers has in `came`, and `links` are the numbers of classes as class_tables has them.
+pub const NUM: usize = 262144;
+
+pub const NUMS: usize = 131075;
+
+pub const HEADS: usize = 589828;
+
+pub const LINKS: usize = 458752;
 
 // A pair of sets: where the left one and the right one stand, the first glyph that reaches them, and the place in the buffer.
 pub struct Sets {
@@ -111,8 +120,8 @@ fn is_known(nums: &[u32], sets: Sets, room: usize) -> bool
     room <= sets.pos
 }
 
-// This pair of sets is the latest, and its list takes `len` bytes.
-fn remember(nums: &mut [u32], left: usize, right: usize, len: usize)
+// This pair of sets is the latest, and its list takes `len` bytes. Two null sets, at 0, take none.
+pub fn remember(nums: &mut [u32], left: usize, right: usize, len: usize)
     requires { ⌜ (131075 ≤ length (now nums)) × (left < 65536) × (right < 65536) × (len < 0x1_0000_0000) ⌝ }
     ensures { λ _. ⌜ (getD (now (nums .exit)) 131072 0 ≡ left) × (getD (now (nums .exit)) 131073 0 ≡ right) × (getD (now (nums .exit)) 131074 0 ≡ len) ⌝ }
 {
