@@ -1,5 +1,5 @@
 // What differs between two subtables whose rules are reached by coverage index: contexts, plain or chained, of format 1, and ligatures (kinds 1 to 3). The subtables stand at the front of their slices.
-// All rules get numbers first; then each id is asked in both coverages. `num`, `nums`, `heads` and `links` are as set_differences has them.
+// All rules get numbers first; then each id is asked in both coverages. `num`, `nums`, `heads` and `links` are as set_differences has them, lent, whatever they hold.
 use coverage_index::Covered;
 use first_glyphs::cover_index;
 use first_glyphs::list_right;
@@ -7,6 +7,7 @@ use listing::put_listed;
 use rule_says::Shape;
 use set_differences::Sets;
 use set_differences::list_set_pair;
+use set_differences::remember;
 use set_numbers::number_all;
 use wire::word_at;
 ghost use Prim.Native.Nat.{_+_, _≤_, _<_};
@@ -17,8 +18,9 @@ ghost use Rattle.meaning.specs.Tables.{table};
 ghost use Rattle.differences.specs.Content.{content};
 ghost use Rattle.differences.specs.Entries.{each, ruleEntries, differences};
 ghost use Rattle.listing.specs.Listed.{Listed};
+ghost use Rattle.listing.specs.Laid.{LaidList};
 ghost use Rattle.first_glyphs.specs.First.{atGlyph};
-ghost use Rattle.set_differences.specs.Gathered.{Few, Fit, Remembered};
+ghost use Rattle.set_differences.specs.Gathered.{Scratch, Fit, Remembered};
 ghost use Rattle.glyph_differences.specs.Slots.{numbersBy, SlotTable, ByGlyph};
 
 // A first glyph, and the place in the buffer.
@@ -56,41 +58,66 @@ fn list_glyph(
     list_set_pair(sets, left, right, num, nums, heads, links, out)
 }
 
-// What differs between two sound subtables whose rules have numbers, listed from `pos` on; the place after it.
-fn list_numbered(left: &[u8], right: &[u8], num: &[u32], out: &mut [u8], pos: usize) -> usize
-    requires { ⌜ SlotTable (now left) × SlotTable (now right) × Few (now num) × (pos < 0x800_0000_0000) ⌝ }
-    ensures { λ r. ⌜ Listed (each (atGlyph (ruleEntries eqb) (numbersBy (now (num .entry)) (now (left .entry)) 0) (numbersBy (now (num .entry)) (now (right .entry)) 1)) (upFrom 0 65536)) (now (out .entry)) pos (now (out .exit)) r × (r ≤ pos + 0x18_0000_0000) ⌝ }
+// What differs between two sound subtables whose rules have numbers, listed where there is room; the list's length.
+fn list_numbered(
+    left: &[u8],
+    right: &[u8],
+    num: &[u32],
+    nums: &mut [u32],
+    heads: &mut [u32],
+    links: &mut [u32],
+    out: &mut [u8],
+) -> usize
+    requires { ⌜ SlotTable (now left) × SlotTable (now right) × Fit (now num) (length (now nums)) (length (now heads)) (length (now links)) ⌝ }
+    ensures { λ r. ⌜ Listed (each (atGlyph (ruleEntries eqb) (numbersBy (now (num .entry)) (now (left .entry)) 0) (numbersBy (now (num .entry)) (now (right .entry)) 1)) (upFrom 0 65536)) (now (out .entry)) 0 (now (out .exit)) r × (r ≤ 0x18_0000_0000) ⌝ }
 {
-    let mut nums = [0u32; 131075];
-    let mut heads = [0u32; 262145];
-    let mut links = [0u32; 196608];
-    let mut at = pos;
+    remember(nums, 0, 0, 0);
+    let mut at = 0;
     let mut g = 0;
     while g < 65536 {
         let first = First { glyph: g, pos: at };
-        at = list_glyph(
-            first,
-            left,
-            right,
-            num,
-            &mut nums,
-            &mut heads,
-            &mut links,
-            out,
-        );
+        at = list_glyph(first, left, right, num, nums, heads, links, out);
         g += 1;
     }
     at
 }
 
-// What differs between two sound subtables of format 1 of this kind, listed from `pos` on, where there is room; the place after it.
-pub fn list_rules(kind: usize, left: &[u8], right: &[u8], out: &mut [u8], pos: usize) -> usize
-    requires { ⌜ ByGlyph kind (now left) × ByGlyph kind (now right) × (pos < 0x800_0000_0000) ⌝ }
-    ensures { λ r. ⌜ Listed (differences (content (table kind (now (left .entry)))) (content (table kind (now (right .entry))))) (now (out .entry)) pos (now (out .exit)) r × (r ≤ pos + 0x18_0000_0000) ⌝ }
+// The same: the list's length, and the list in the buffer if there is room for all of it. It is gone over twice, since nothing is written before its length is known.
+fn lay_numbered(
+    left: &[u8],
+    right: &[u8],
+    num: &[u32],
+    nums: &mut [u32],
+    heads: &mut [u32],
+    links: &mut [u32],
+    out: &mut [u8],
+) -> usize
+    requires { ⌜ SlotTable (now left) × SlotTable (now right) × Fit (now num) (length (now nums)) (length (now heads)) (length (now links)) ⌝ }
+    ensures { λ r. ⌜ LaidList (each (atGlyph (ruleEntries eqb) (numbersBy (now (num .entry)) (now (left .entry)) 0) (numbersBy (now (num .entry)) (now (right .entry)) 1)) (upFrom 0 65536)) (now (out .entry)) (now (out .exit)) r × (r ≤ 0x18_0000_0000) ⌝ }
+{
+    let mut none = [0u8; 1];
+    let size = list_numbered(left, right, num, nums, heads, links, &mut none);
+    if out.len() < size {
+        return size;
+    }
+    list_numbered(left, right, num, nums, heads, links, out)
+}
+
+// What differs between two sound subtables of format 1 of this kind: the list's length, and the list in the buffer if there is room for all of it.
+pub fn lay_rules(
+    kind: usize,
+    left: &[u8],
+    right: &[u8],
+    num: &mut [u32],
+    nums: &mut [u32],
+    heads: &mut [u32],
+    links: &mut [u32],
+    out: &mut [u8],
+) -> usize
+    requires { ⌜ ByGlyph kind (now left) × ByGlyph kind (now right) × Scratch (length (now num)) (length (now nums)) (length (now heads)) (length (now links)) ⌝ }
+    ensures { λ r. ⌜ LaidList (differences (content (table kind (now (left .entry)))) (content (table kind (now (right .entry))))) (now (out .entry)) (now (out .exit)) r × (r ≤ 0x18_0000_0000) ⌝ }
 {
     let shape = Shape { kind, classes: 0 };
-    let t = [0u32; 1];
-    let mut num = [0u32; 262144];
-    number_all(shape, left, right, &t, 6, &mut num);
-    list_numbered(left, right, &num, out, pos)
+    number_all(shape, left, right, links, 6, num, heads);
+    lay_numbered(left, right, num, nums, heads, links, out)
 }

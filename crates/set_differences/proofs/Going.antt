@@ -50,8 +50,8 @@ module _ {f : ℕ → List Entry} {num left right out₀ nums₀ heads₀ links�
   going-none z = record { through = through-all; remembered = remembered-null num left right z; nums-size = refl; heads-size = refl; links-size = refl }
 
   module _ {out nums heads links : List ℕ} {at g : ℕ} (k : Going f num left right out₀ nums₀ heads₀ links₀ out nums heads links at g) where
-    pub going-fit : Fit num (length nums₀) (length heads₀) (length links₀) → Fit num (length nums) (length heads) (length links)
-    going-fit w = record { below = λ c. omega (arith, w .below c, k .heads-size); rows = omega (arith, w .rows, k .nums-size); linked = omega (arith, w .linked, k .links-size) }
+    pub going-fit : {n : ℕ} → Fit num n (length heads₀) (length links₀) → length nums₀ ≡ n → Fit num (length nums) (length heads) (length links)
+    going-fit w e = record { below = λ c. omega (arith, w .below c, k .heads-size); rows = omega (arith, w .rows, k .nums-size); linked = omega (arith, w .linked, k .links-size) }
 
     pub going-turn : g < 65536 → {next ns hs ls : List ℕ} {q : ℕ} → Listed (f g) out at next q × (q ≤ at + 0x18_0000) × Remembered num left right ns
         → length ns ≡ length nums → length hs ≡ length heads → length ls ≡ length links → Going f num left right out₀ nums₀ heads₀ links₀ next ns hs ls q (g + 1)
