@@ -1,11 +1,11 @@
 -- Contexts by class as a whole: what is known of sound ones, and their list by numbers.
-use Prim.Native.Nat.{ℕ, _+_, _-_, _*_, _≤_, _<_}
+use Prim.Native.Nat.{ℕ, _+_, _-_, _*_, _<_}
 use mathlib.Core.Path.{_≡_, refl, sym, ap, _∙_}
 use mathlib.Core.Bool.{Bool, true, false, cond}
 use mathlib.Core.Option.{none, some}
 use mathlib.Core.List.{List, [], _∷_, map}
 use native.Mathlib.Omega.{arith}
-use lib.ListN.{length, getD}
+use lib.ListN.{getD}
 use lib.Dec.{leb, eqb}
 use borrow.Author.Tests.{leb-false}
 use Rattle.meaning.specs.Words.{word, inside, bind, upFrom}
@@ -50,10 +50,6 @@ sound-tables chained s k = tables-sound chained s (k .sound) (k .format)
 
 pub sound-class : (chained : Bool) (s : List ℕ) → ByClass chained s → ClassTable chained s
 sound-class chained s k = record { cover = class-cover chained s k; input = sound-tables chained s k .input }
-
--- there are as many cells as are asked for
-pub cells-enough : (n : ℕ) (t : List ℕ) → length t ≡ n → n ≤ length t
-cells-enough n t h = omega arith
 
 -- the rules of two contexts are told by numbers, where the classes are
 pub told-classes : (chained : Bool) {l r t num : List ℕ} {shape : Shape} {first : ℕ} → ((i : ℕ) → getD l i 0 < 256) → ((i : ℕ) → getD r i 0 < 256) → ByClass chained l → ByClass chained r → TablesNumbered chained l r t

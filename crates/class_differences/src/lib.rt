@@ -1,5 +1,5 @@
 // What differs between two contexts by class, plain or chained (format 2). The subtables stand at the front of their slices. Each covered glyph reaches the set of its class.
-// All classes get numbers first, then all rules; then each id is asked in both coverages. `num`, `nums`, `heads` and `links` are as set_differences has them.
+// All classes get numbers first, then all rules; then each id is asked in both coverages. `num`, `nums`, `heads` and `links` are as set_differences has them, lent, whatever they hold.
 use class_tables::number_tables;
 use class_tables::set_of;
 use coverage_index::Covered;
@@ -9,6 +9,7 @@ use listing::put_listed;
 use rule_says::Shape;
 use set_differences::Sets;
 use set_differences::list_set_pair;
+use set_differences::remember;
 use set_numbers::number_all;
 ghost use mathlib.Core.Path.{_≡_};
 ghost use mathlib.Core.Bool.{cond};
@@ -20,9 +21,10 @@ ghost use Rattle.meaning.specs.Tables.{table};
 ghost use Rattle.differences.specs.Content.{content};
 ghost use Rattle.differences.specs.Entries.{each, ruleEntries, differences};
 ghost use Rattle.listing.specs.Listed.{Listed};
+ghost use Rattle.listing.specs.Laid.{LaidList};
 ghost use Rattle.first_glyphs.specs.First.{atGlyph};
-ghost use Rattle.set_numbers.specs.Sets.{Blank, Told};
-ghost use Rattle.set_differences.specs.Gathered.{Few, Fit, Remembered};
+ghost use Rattle.set_numbers.specs.Sets.{Cells, Told};
+ghost use Rattle.set_differences.specs.Gathered.{Scratch, Fit, Remembered};
 ghost use Rattle.class_tables.specs.Contexts.{classSaysBy};
 ghost use Rattle.class_differences.specs.Reached.{numbersBy, ClassTable, ByClass, shapeOf, slotAt};
 
@@ -62,22 +64,22 @@ fn list_glyph(
     list_set_pair(sets, left, right, num, nums, heads, links, out)
 }
 
-// What differs between two sound contexts whose rules have numbers, listed from `pos` on; the place after it.
+// What differs between two sound contexts whose rules have numbers, listed where there is room; the list's length.
 fn list_numbered(
     chained: bool,
     left: &[u8],
     right: &[u8],
     num: &[u32],
+    nums: &mut [u32],
+    heads: &mut [u32],
+    links: &mut [u32],
     out: &mut [u8],
-    pos: usize,
 ) -> usize
-    requires { ⌜ ClassTable chained (now left) × ClassTable chained (now right) × Few (now num) × (pos < 0x800_0000_0000) ⌝ }
-    ensures { λ r. ⌜ Listed (each (atGlyph (ruleEntries eqb) (numbersBy chained (now (num .entry)) (now (left .entry)) 0) (numbersBy chained (now (num .entry)) (now (right .entry)) 1)) (upFrom 0 65536)) (now (out .entry)) pos (now (out .exit)) r × (r ≤ pos + 0x18_0000_0000) ⌝ }
+    requires { ⌜ ClassTable chained (now left) × ClassTable chained (now right) × Fit (now num) (length (now nums)) (length (now heads)) (length (now links)) ⌝ }
+    ensures { λ r. ⌜ Listed (each (atGlyph (ruleEntries eqb) (numbersBy chained (now (num .entry)) (now (left .entry)) 0) (numbersBy chained (now (num .entry)) (now (right .entry)) 1)) (upFrom 0 65536)) (now (out .entry)) 0 (now (out .exit)) r × (r ≤ 0x18_0000_0000) ⌝ }
 {
-    let mut nums = [0u32; 131075];
-    let mut heads = [0u32; 262145];
-    let mut links = [0u32; 196608];
-    let mut at = pos;
+    remember(nums, 0, 0, 0);
+    let mut at = 0;
     let mut g = 0;
     while g < 65536 {
         let first = First {
@@ -85,19 +87,32 @@ fn list_numbered(
             glyph: g,
             pos: at,
         };
-        at = list_glyph(
-            first,
-            left,
-            right,
-            num,
-            &mut nums,
-            &mut heads,
-            &mut links,
-            out,
-        );
+        at = list_glyph(first, left, right, num, nums, heads, links, out);
         g += 1;
     }
     at
+}
+
+// The same: the list's length, and the list in the buffer if there is room for all of it. It is gone over twice, since nothing is written before its length is known.
+fn lay_numbered(
+    chained: bool,
+    left: &[u8],
+    right: &[u8],
+    num: &[u32],
+    nums: &mut [u32],
+    heads: &mut [u32],
+    links: &mut [u32],
+    out: &mut [u8],
+) -> usize
+    requires { ⌜ ClassTable chained (now left) × ClassTable chained (now right) × Fit (now num) (length (now nums)) (length (now heads)) (length (now links)) ⌝ }
+    ensures { λ r. ⌜ LaidList (each (atGlyph (ruleEntries eqb) (numbersBy chained (now (num .entry)) (now (left .entry)) 0) (numbersBy chained (now (num .entry)) (now (right .entry)) 1)) (upFrom 0 65536)) (now (out .entry)) (now (out .exit)) r × (r ≤ 0x18_0000_0000) ⌝ }
+{
+    let mut none = [0u8; 1];
+    let size = list_numbered(chained, left, right, num, nums, heads, links, &mut none);
+    if out.len() < size {
+        return size;
+    }
+    list_numbered(chained, left, right, num, nums, heads, links, out)
 }
 
 // Where the sets' offsets stand.
@@ -126,24 +141,38 @@ fn shape_of(chained: bool) -> Shape
     }
 }
 
-// Numbers for all rules of two sound contexts by class, equal exactly if the rules say the same.
-fn number_rules(chained: bool, left: &[u8], right: &[u8], num: &mut [u32])
-    requires { ⌜ ByClass chained (now left) × ByClass chained (now right) × Blank (now num) ⌝ }
+// Numbers for all rules of two sound contexts by class, equal exactly if the rules say the same. `came` is as rule_numbers has it, and `t` has the numbers of the classes; what stands in them before does not matter.
+fn number_rules(
+    chained: bool,
+    left: &[u8],
+    right: &[u8],
+    num: &mut [u32],
+    came: &mut [u32],
+    t: &mut [u32],
+)
+    requires { ⌜ ByClass chained (now left) × ByClass chained (now right) × Cells (length (now num)) (length (now came)) × (458752 ≤ length (now t)) ⌝ }
     ensures { λ _. ⌜ Told (classSaysBy chained (now (left .entry)) (now (right .entry))) (now (left .entry)) (now (right .entry)) (slotAt chained) (now (num .exit)) ⌝ }
 {
-    let mut t = [0u32; 458752];
-    number_tables(chained, left, right, &mut t);
+    number_tables(chained, left, right, t);
     let shape = shape_of(chained);
     let first = first_slot(chained);
-    number_all(shape, left, right, &t, first, num);
+    number_all(shape, left, right, t, first, num, came);
 }
 
-// What differs between two sound contexts by class, plain or chained, listed from `pos` on, where there is room; the place after it.
-pub fn list_rules(chained: bool, left: &[u8], right: &[u8], out: &mut [u8], pos: usize) -> usize
-    requires { ⌜ ByClass chained (now left) × ByClass chained (now right) × (pos < 0x800_0000_0000) ⌝ }
-    ensures { λ r. ⌜ Listed (differences (content (table (cond chained 2 1) (now (left .entry)))) (content (table (cond chained 2 1) (now (right .entry))))) (now (out .entry)) pos (now (out .exit)) r × (r ≤ pos + 0x18_0000_0000) ⌝ }
+// What differs between two sound contexts by class, plain or chained: the list's length, and the list in the buffer if there is room for all of it.
+pub fn lay_rules(
+    chained: bool,
+    left: &[u8],
+    right: &[u8],
+    num: &mut [u32],
+    nums: &mut [u32],
+    heads: &mut [u32],
+    links: &mut [u32],
+    out: &mut [u8],
+) -> usize
+    requires { ⌜ ByClass chained (now left) × ByClass chained (now right) × Scratch (length (now num)) (length (now nums)) (length (now heads)) (length (now links)) ⌝ }
+    ensures { λ r. ⌜ LaidList (differences (content (table (cond chained 2 1) (now (left .entry)))) (content (table (cond chained 2 1) (now (right .entry))))) (now (out .entry)) (now (out .exit)) r × (r ≤ 0x18_0000_0000) ⌝ }
 {
-    let mut num = [0u32; 262144];
-    number_rules(chained, left, right, &mut num);
-    list_numbered(chained, left, right, &num, out, pos)
+    number_rules(chained, left, right, num, heads, links);
+    lay_numbered(chained, left, right, num, nums, heads, links, out)
 }
