@@ -1,6 +1,7 @@
 use native.Mathlib.Omega.{arith}
 use Rattle.meaning.specs.Job.{ascii}
-use Rattle.compare_file.proofs.Lines.{line-near, text-refused, text-listed}
+use Rattle.report.specs.Lengths.{line-near}
+use Rattle.compare_file.proofs.Lines.{text-refused, text-listed}
 use borrow.Author.Needs.{needs}
 use Rattle.compare_file.proofs.put_answer.Statement.{statement}
 use Rattle.compare_file.proofs.put_answer.Tie as tie
