@@ -1,6 +1,6 @@
 -- What a compare file's trailer says of its parts, and the ways through its check.
 use Prim.Native.Nat.{ℕ, _+_, _-_, _≤_, _<_}
-use mathlib.Core.Path.{_≡_, _∙_}
+use mathlib.Core.Path.{_≡_}
 use mathlib.Core.Bool.{Bool, true, false}
 use mathlib.Core.List.{List}
 use native.Mathlib.Omega.{arith}
@@ -10,43 +10,30 @@ use borrow.Author.Tests.{le-leb, lt-leb, leb-true, eq-eqb, ne-eqb}
 use Rattle.meaning.specs.Words.{word}
 use Rattle.meaning.specs.Job.{long, partAt, bytesOf}
 use Rattle.laws.specs.Runs.{both}
+use Rattle.file_parts.specs.Parts.{endsBy, ends-later}
 use Rattle.compare_file.specs.CompareFile.{fileLimit, trailer, kindIn, leftPart, rightPart, tag, before, goodFile}
-
--- x is the number of four bytes
-abbrev pub Long : List ℕ → ℕ → ℕ → Type 0
-Long f at x = (x ≡ long f at) × (x < 0x1_0000_0000)
-
-module _ (f : List ℕ) (at : ℕ) {start len : ℕ} (s : Long f at start) (l : Long f (at + 4) len) where
-  -- the test of a part
-  pub before-says : leb (start + len) (length f - 22) ≡ before f (partAt f at)
-  unfolding before partAt trailer
-  before-says = rw (s .0, l .0)
-
-  -- a part that lies before the trailer lies in the file
-  pub part-ends : before f (partAt f at) ≡ true → start + len ≤ length f
-  part-ends h = omega (arith, leb-true (start + len) (length f - 22) (before-says ∙ h))
-
-  -- its bytes
-  pub part-is : {source : List ℕ} → source ≡ bytesOf f (record { start = start; len = len }) → source ≡ bytesOf f (partAt f at)
-  unfolding partAt
-  part-is g = rw (g, s .0, l .0)
 
 -- What makes a file a compare file.
 pub record File (f : List ℕ) : Type 0 where
   pub long-enough : 22 ≤ length f
   pub short : length f ≤ 600000
-  pub left : before f (partAt f (length f - 22 + 2)) ≡ true
-  pub right : before f (partAt f (length f - 22 + 10)) ≡ true
+  pub left : endsBy (partAt f (length f - 22 + 2)) (length f) ≡ true
+  pub right : endsBy (partAt f (length f - 22 + 10)) (length f) ≡ true
 
 -- a good file is one
 pub is-file : (f : List ℕ) → goodFile f ≡ true → File f
-unfolding goodFile fileLimit leftPart rightPart trailer
+unfolding goodFile fileLimit before leftPart rightPart trailer
 is-file f h =
     let a = both (leb 22 (length f)) _ h in
     let b = both (leb (length f) 600000) _ (a .1) in
     let c = both (eqb (long f (length f - 22 + 18)) tag) _ (b .1) in
     let d = both (before f (leftPart f)) (before f (rightPart f)) (c .1) in
-    record { long-enough = leb-true 22 (length f) (a .0); short = leb-true (length f) 600000 (b .0); left = d .0; right = d .1 }
+    record {
+      long-enough = leb-true 22 (length f) (a .0);
+      short = leb-true (length f) 600000 (b .0);
+      left = ends-later (leftPart f) (omega arith) (d .0);
+      right = ends-later (rightPart f) (omega arith) (d .1);
+    }
 
 -- its kind and its parts
 pub kind-is : (f : List ℕ) {k : ℕ} → (k ≡ word f (length f - 22)) × (k < 65536) → (k ≡ kindIn f) × (k < 65536)
@@ -78,10 +65,10 @@ module _ (f : List ℕ) where
       no-tag c = rw (le-leb 22 (length f) a, le-leb (length f) 600000 b, ← g, ne-eqb t 0x4C53_4331 c)
 
       module _ (c : t ≡ 0x4C53_4331) where
-        pub no-left : before f (partAt f (length f - 22 + 2)) ≡ false → false ≡ goodFile f
-        unfolding goodFile fileLimit trailer tag leftPart
+        pub no-left : endsBy (partAt f (length f - 22 + 2)) (length f - 22) ≡ false → false ≡ goodFile f
+        unfolding goodFile fileLimit trailer before tag leftPart
         no-left d = rw (le-leb 22 (length f) a, le-leb (length f) 600000 b, ← g, eq-eqb t 0x4C53_4331 c, d)
 
-        pub all-but-right : before f (partAt f (length f - 22 + 2)) ≡ true → {r : Bool} → r ≡ before f (partAt f (length f - 22 + 10)) → r ≡ goodFile f
-        unfolding goodFile fileLimit trailer tag leftPart rightPart
+        pub all-but-right : endsBy (partAt f (length f - 22 + 2)) (length f - 22) ≡ true → {r : Bool} → r ≡ endsBy (partAt f (length f - 22 + 10)) (length f - 22) → r ≡ goodFile f
+        unfolding goodFile fileLimit trailer before tag leftPart rightPart
         all-but-right d k = rw (le-leb 22 (length f) a, le-leb (length f) 600000 b, ← g, eq-eqb t 0x4C53_4331 c, d) k

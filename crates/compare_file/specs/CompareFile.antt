@@ -7,6 +7,7 @@ use lib.ListN.{length}
 use lib.Dec.{leb, eqb}
 use Rattle.meaning.specs.Words.{word}
 use Rattle.meaning.specs.Job.{Part, long, partAt, ascii, hexLines}
+use Rattle.file_parts.specs.Parts.{endsBy}
 use Rattle.report.specs.Text.{lineText}
 
 -- the most bytes of a compare file
@@ -37,7 +38,7 @@ tag-is = refl
 
 -- a part lies wholly before the trailer; an empty one may start at it
 unfoldable pub before : List ℕ → Part → Bool
-before f p = leb (p .start + p .len) (trailer f)
+before f p = endsBy p (trailer f)
 
 -- a file of 22 bytes to the limit, which ends in the tag and whose two subtables lie wholly before the trailer
 unfoldable pub goodFile : List ℕ → Bool

@@ -1,6 +1,7 @@
 // Compare files: two subtables anywhere, and a trailer that says their kind and points back to them. And the text that is printed for one.
+use file_parts::ends_by;
+use file_parts::part_at;
 use lookup_list::long_at;
-use lookup_list::part;
 use report::put_line;
 use report::put_lines;
 use wire::word_at;
@@ -8,9 +9,9 @@ ghost use mathlib.Core.Path.{_≡_};
 ghost use mathlib.Core.Bool.{true};
 ghost use Prim.Native.Nat.{_≤_, _<_};
 ghost use lib.ListN.{length};
-ghost use Rattle.meaning.specs.Job.{partAt, bytesOf};
+ghost use Rattle.meaning.specs.Job.{bytesOf};
 ghost use Rattle.report.specs.Text.{Put};
-ghost use Rattle.compare_file.specs.CompareFile.{before, goodFile, kindIn, leftPart, rightPart, printed};
+ghost use Rattle.compare_file.specs.CompareFile.{goodFile, kindIn, leftPart, rightPart, printed};
 
 // The most bytes of a compare file.
 pub const FILE_LIMIT: usize = 600000;
@@ -20,14 +21,6 @@ const TRAILER: usize = 22;
 
 // The four bytes `LSC1`, as one number.
 const TAG: usize = 0x4C53_4331;
-
-// Whether the part whose start and length stand at `at` lies wholly before the trailer.
-fn is_before(file: &[u8], at: usize) -> bool
-    requires { ⌜ (22 ≤ length (now file)) × (at < 0x10_0000) ⌝ }
-    ensures { λ r. ⌜ r ≡ before (now (file .entry)) (partAt (now (file .entry)) at) ⌝ }
-{
-    long_at(file, at) + long_at(file, at + 4) <= file.len() - TRAILER
-}
 
 // Whether the file is a compare file: of 22 bytes to the limit, it ends in the tag, and both subtables lie wholly before the trailer.
 pub fn good_file(file: &[u8]) -> bool
@@ -43,18 +36,10 @@ pub fn good_file(file: &[u8]) -> bool
     if long_at(file, at + 18) != TAG {
         return false;
     }
-    if !is_before(file, at + 2) {
+    if !ends_by(file, at + 2, at) {
         return false;
     }
-    is_before(file, at + 10)
-}
-
-// The part whose start and length stand at `at`, as a part of the lent file.
-fn part_at(file: &[u8], at: usize) -> &[u8]
-    requires { ⌜ (at < 0x10_0000) × (before (now file) (partAt (now file) at) ≡ true) ⌝ }
-    ensures { λ r. ⌜ now r ≡ bytesOf (now (file .entry)) (partAt (now (file .entry)) at) ⌝ }
-{
-    part(file, long_at(file, at), long_at(file, at + 4))
+    ends_by(file, at + 10, at)
 }
 
 // The kind that a compare file says.

@@ -23,7 +23,7 @@ returns-4 c =
     let t = c .before .before in
     let b = t .before .before in
     let a = b .before in
-    no-left (a .before .before .args .file .now) (a .if1 .left) (b .if2 .left) (t .before .long-at .ensures .0) (t .if3 .left) (refused (c .before .is-before .ensures) (c .if4 .taken))
+    no-left (a .before .before .args .file .now) (a .if1 .left) (b .if2 .left) (t .before .long-at .ensures .0) (t .if3 .left) (refused (c .before .ends-by .ensures) (c .if4 .taken))
 
 returns-5 : tie.Need-returns-5
 returns-5 c =
@@ -31,7 +31,7 @@ returns-5 c =
     let t = d .before .before in
     let b = t .before .before in
     let a = b .before in
-    all-but-right (a .before .before .args .file .now) (a .if1 .left) (b .if2 .left) (t .before .long-at .ensures .0) (t .if3 .left) (passed (d .before .is-before .ensures) (d .if4 .left)) (c .is-before2 .ensures)
+    all-but-right (a .before .before .args .file .now) (a .if1 .left) (b .if2 .left) (t .before .long-at .ensures .0) (t .if3 .left) (passed (d .before .ends-by .ensures) (d .if4 .left)) (c .ends-by2 .ensures)
 
 pub good-file-spec : {M : Type 1} → statement M
 good-file-spec =

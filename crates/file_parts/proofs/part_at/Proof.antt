@@ -1,8 +1,7 @@
--- `replay_job::part_at` meets its contract: a part that lies before the trailer lies in the file. Assumes nothing.
+use Rattle.file_parts.proofs.Trailers.{part-ends, part-is}
 use borrow.Author.Needs.{needs}
-use Rattle.replay_job.proofs.Files.{part-ends, part-is}
-use Rattle.replay_job.proofs.part_at.Statement.{statement}
-use Rattle.replay_job.proofs.part_at.Tie as tie
+use Rattle.file_parts.proofs.part_at.Statement.{statement}
+use Rattle.file_parts.proofs.part_at.Tie as tie
 
 part-requires : tie.Need-part-requires
 part-requires c κs =
