@@ -79,8 +79,8 @@ fn put_value(
     put_listed(out, pos, 6, i, g, second, a, b)
 }
 
-// The values that differ between the pair records at `p` on the left and at `q` on the right, listed from `pos` on; the place after them.
-fn list_values(
+// The values that differ between the pair records at `p` on the left and at `q` on the right, listed from `pos` on, field by field; the place after them.
+fn list_fields(
     left: &[u8],
     p: usize,
     right: &[u8],
@@ -102,6 +102,61 @@ fn list_values(
         i += 1;
     }
     at
+}
+
+// Whether the `n` words from `p` on the left on are those from `q` on the right on.
+fn same_words(left: &[u8], p: usize, right: &[u8], q: usize, n: usize) -> bool
+    requires { ⌜ (p < 0x2_0000_0000) × (q < 0x2_0000_0000) × (n ≤ 8) ⌝ }
+    ensures { λ r. ⌜ (r ≡ true → words (now (left .entry)) p n ≡ words (now (right .entry)) q n) ⌝ }
+{
+    let mut i = 0;
+    while i < n {
+        if word_at(left, p + 2 * i) != word_at(right, q + 2 * i) {
+            return false;
+        }
+        i += 1;
+    }
+    true
+}
+
+// Whether the pair records at `p` on the left and at `q` on the right say the same in the same words: both tables have the same value formats, and the records the same values behind each other.
+fn alike(left: &[u8], p: usize, right: &[u8], q: usize) -> bool
+    requires { ⌜ (p < 0x1_0000_0000) × (q < 0x1_0000_0000) ⌝ }
+    ensures { λ r. ⌜ (r ≡ true → valuesAt (now (left .entry)) p ≡ valuesAt (now (right .entry)) q) ⌝ }
+{
+    let f = word_at(left, 4);
+    let h = word_at(left, 6);
+    if f != word_at(right, 4) {
+        return false;
+    }
+    if h != word_at(right, 6) {
+        return false;
+    }
+    let n = field_count(f);
+    if !same_words(left, p + 2, right, q + 2, n) {
+        return false;
+    }
+    same_words(left, p + 2 + 2 * n, right, q + 2 + 2 * n, field_count(h))
+}
+
+// The same list. Most pairs stand in both tables with the same words, which one look settles.
+fn list_values(
+    left: &[u8],
+    p: usize,
+    right: &[u8],
+    q: usize,
+    g: usize,
+    second: usize,
+    out: &mut [u8],
+    pos: usize,
+) -> usize
+    requires { ⌜ (p < 0x1_0000_0000) × (q < 0x1_0000_0000) × (pos < 0x4000_0000_0000) ⌝ }
+    ensures { λ r. ⌜ Listed (each (atField g second (valuesAt (now (left .entry)) p) (valuesAt (now (right .entry)) q)) (upFrom 0 8)) (now (out .entry)) pos (now (out .exit)) r × (r ≤ pos + 96) ⌝ }
+{
+    if alike(left, p, right, q) {
+        return pos;
+    }
+    list_fields(left, p, right, q, g, second, out, pos)
 }
 
 // How many bytes a pair record of this table takes.
