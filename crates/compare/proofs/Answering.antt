@@ -18,7 +18,8 @@ use Rattle.laws.specs.Written.{sets-front}
 use Rattle.differences.specs.Content.{content}
 use Rattle.differences.specs.Entries.{Entry, differences}
 use Rattle.differences.specs.Compare.{entryWords, comparedKind, comparedFormat, Refusal, malformed, tableRefusal, orElse, refusal, listBytes, listInto, answerTo, compare}
-use Rattle.listing.specs.Listed as listing
+use Rattle.listing.specs.Listed.{words-length}
+use Rattle.listing.specs.Laid.{LaidList}
 use Rattle.compare.specs.Answers.{numberOf, lengthOf, comparedOf, decoded, refusalOf}
 use Rattle.compare.specs.declared.Compared.{Compared}
 use Rattle.compare.specs.declared.Compared.the-variants.{Listed, BadKind, LongSource, BadFormat, Malformed, Device, NoRoom}
@@ -47,7 +48,7 @@ number-most (NoRoom n) = omega arith
 
 -- the list's length in bytes
 list-length : (es : List Entry) → length (flat (entryWords es)) ≡ 12 * length es
-list-length es = omega (arith, flat-length (entryWords es), listing.words-length es)
+list-length es = omega (arith, flat-length (entryWords es), words-length es)
 
 module _ (kind : ℕ) (l r out : List ℕ) where
   -- a refusal is the call's answer
@@ -55,25 +56,19 @@ module _ (kind : ℕ) (l r out : List ℕ) where
   unfolding compare answerTo
   call-refused a h = rw (← h)
 
-  module _ (h : none ≡ refusal kind l r) {before after : List ℕ} {n : ℕ} (k : listing.Listed (differences (content (table kind l)) (content (table kind r))) before 0 after n) where
-    abbrev bytes : List ℕ
-    bytes = flat (entryWords (differences (content (table kind l)) (content (table kind r))))
-
-    size : n ≡ length bytes
-    size = omega (arith, k .place, list-length (differences (content (table kind l)) (content (table kind r))))
+  module _ (h : none ≡ refusal kind l r) {after : List ℕ} {n : ℕ} (k : LaidList (differences (content (table kind l)) (content (table kind r))) out after n) where
+    size : n ≡ length (flat (entryWords (differences (content (table kind l)) (content (table kind r)))))
+    size = omega (arith, k .size, list-length (differences (content (table kind l)) (content (table kind r))))
 
     -- a list that the buffer is too short for
-    call-short : length out < n → comparedOf (NoRoom n) out ≡ compare kind l r out
+    call-short : length out < n → comparedOf (NoRoom n) after ≡ compare kind l r out
     unfolding compare answerTo listBytes listInto
-    call-short w = rw (← h, ← size, lt-ltb (length out) n w)
+    call-short w = rw (k .short w, ← h, ← size, lt-ltb (length out) n w)
 
-  -- a list that is laid
-  call-listed : none ≡ refusal kind l r → {after : List ℕ} {n : ℕ} → listing.Listed (differences (content (table kind l)) (content (table kind r))) out 0 after n → n ≤ length out
-      → comparedOf (Listed n) after ≡ compare kind l r out
-  unfolding compare answerTo listBytes listInto
-  call-listed h {after} {n} k w =
-      let s = size h k in
-      rw (← h, k .bytes, sets-front out (flat (entryWords (differences (content (table kind l)) (content (table kind r))))) (omega (arith, s)), ← s, le-ltb (length out) n w)
+    -- a list that is laid
+    call-listed : n ≤ length out → comparedOf (Listed n) after ≡ compare kind l r out
+    unfolding compare answerTo listBytes listInto
+    call-listed w = rw (← h, k .bytes w, sets-front out (flat (entryWords (differences (content (table kind l)) (content (table kind r))))) (omega (arith, size)), ← size, le-ltb (length out) n w)
 
 -- The length of a refusal is a place, which is not far.
 near-malformed : (o : Option ℕ) (q : Option Refusal) → Option·getD o 0 ≤ 131070 → Near q → Near (malformed o q)
@@ -116,13 +111,12 @@ module _ (kind : ℕ) (l r out : List ℕ) (x : Judged) (e : refusalOf x ≡ ref
     pub answer-sound : (comparedKind kind ≡ true) × Passes kind l × Passes kind r
     answer-sound = call-passes kind l r none-refuses
 
-    pub answer-short : {before after : List ℕ} {n : ℕ} → listing.Listed (differences (content (table kind l)) (content (table kind r))) before 0 after n × (n ≤ 0x100_0000_0000) → length out < n
-        → (comparedOf (NoRoom n) out ≡ compare kind l r out) × (n < 0x100_0000_0000_0000)
-    answer-short k h = (call-short kind l r out none-refuses (k .0) h, omega arith)
+    module _ {after : List ℕ} {n : ℕ} (k : LaidList (differences (content (table kind l)) (content (table kind r))) out after n × (n ≤ 0x100_0000_0000)) (same : length after ≡ length out) where
+      pub answer-short : length after < n → (comparedOf (NoRoom n) after ≡ compare kind l r out) × (n < 0x100_0000_0000_0000)
+      answer-short h = (call-short kind l r out none-refuses (k .0) (omega arith), omega arith)
 
-    pub answer-listed : {before during after : List ℕ} {n m : ℕ} → listing.Listed (differences (content (table kind l)) (content (table kind r))) before 0 during n × (n ≤ 0x100_0000_0000) → n ≤ length out
-        → listing.Listed (differences (content (table kind l)) (content (table kind r))) out 0 after m × (m ≤ 0x100_0000_0000) → (comparedOf (Listed m) after ≡ compare kind l r out) × (m < 0x100_0000_0000_0000)
-    answer-listed k h g = (call-listed kind l r out none-refuses (g .0) (omega (arith, k .0 .place, g .0 .place)), omega arith)
+      pub answer-listed : n ≤ length after → (comparedOf (Listed n) after ≡ compare kind l r out) × (n < 0x100_0000_0000_0000)
+      answer-listed h = (call-listed kind l r out none-refuses (k .0) (omega arith), omega arith)
 
 -- an answer as one number
 pub code-says : (a : Compared) {n : ℕ} {after : List ℕ} {o : Outcome} → (comparedOf a after ≡ o) × (lengthOf a < 0x100_0000_0000_0000) → n ≡ numberOf a * 0x100_0000_0000_0000 + lengthOf a → decoded n after ≡ o

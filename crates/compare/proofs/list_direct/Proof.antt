@@ -2,10 +2,10 @@ use mathlib.Core.Path.{_≡_, sym, _∙_}
 use Prim.Native.Nat.{_<_}
 use native.Mathlib.Omega.{arith}
 use Rattle.meaning.specs.Words.{word}
-use Rattle.compare.proofs.Listing.{sound-as, listed-as, kind-range, one-format, differ-contexts, three-contexts}
+use Rattle.compare.proofs.Listing.{sound-as, listed-as, kind-range, one-format, differ-contexts, three-contexts, three-left}
 use borrow.Author.Needs.{needs}
-use Rattle.compare.proofs.list_all.Statement.{statement}
-use Rattle.compare.proofs.list_all.Tie as tie
+use Rattle.compare.proofs.list_direct.Statement.{statement}
+use Rattle.compare.proofs.list_direct.Tie as tie
 
 list-pairs-requires : tie.Need-list-pairs-requires
 list-pairs-requires c κs =
@@ -40,32 +40,18 @@ list-formats-requires c κs =
 
 list-covers-requires : tie.Need-list-covers-requires
 list-covers-requires c κs =
-    let t = c .before in
-    let i = t .before in
+    let i = c .before in
     let h = i .before in
     let f = h .before in
     let o = f .before .before .before .before .before in
-    let l = sym (f .word-at .ensures .0) ∙ t .if3 .taken in
-    let r = sym (h .word-at2 .ensures .0) ∙ sym (i .if2 .left) ∙ t .if3 .taken in
-    (o .pre .1, o .pre .2, kind-range (o .args .kind) (o .pre .0) .0, three-contexts (o .args .kind) (word (o .args .left .now) 0) (o .pre .1 .format) l, l, r)
+    let l = word (o .args .left .now) 0 in
+    let r = word (o .args .right .now) 0 in
+    let e : l ≡ r = sym (f .word-at .ensures .0) ∙ i .if2 .left ∙ h .word-at2 .ensures .0 in
+    let t = three-left (o .args .kind) l r (o .pre .3) (f .before .if1 .left) e in
+    (o .pre .1, o .pre .2, kind-range (o .args .kind) (o .pre .0) .0, three-contexts (o .args .kind) l (o .pre .1 .format) t, t, sym e ∙ t)
 
-list-rules-requires : tie.Need-list-rules-requires
-list-rules-requires c κs =
-    let t = c .before in
-    let i = t .before in
-    let h = i .before in
-    let f = h .before in
-    let o = f .before .before .before .before .before in (
-      o .pre .1,
-      o .pre .2,
-      kind-range (o .args .kind) (o .pre .0) .0,
-      omega (arith, kind-range (o .args .kind) (o .pre .0) .1, f .before .if1 .left),
-      sym (f .word-at .ensures .0) ∙ i .if2 .left ∙ h .word-at2 .ensures .0,
-      λ e. t .if3 .left (f .word-at .ensures .0 ∙ e),
-    )
-
-pub list-all-spec : {M : Type 1} → statement M
-list-all-spec =
+pub list-direct-spec : {M : Type 1} → statement M
+list-direct-spec =
     tie.close
     (tie.spec
     list-pairs-requires
@@ -77,8 +63,5 @@ list-all-spec =
     (λ c. search needs)
     (λ c. search needs)
     list-covers-requires
-    (λ c. search needs)
-    (λ c. search needs)
-    list-rules-requires
     (λ c. search needs)
     (λ c. search needs))
