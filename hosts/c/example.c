@@ -1,6 +1,7 @@
 /* Cuts the first worked example, P1, and says in words what came back: a
  * context by glyph with three rules, of which the maps leave two. Then replays
- * three recorded runs over one lookup, after asking what that may cost. */
+ * three recorded runs over one lookup, after asking what that may cost. Last,
+ * lists what differs between P1 and what is kept of it. */
 #include <stdio.h>
 #include <stdlib.h>
 #include "gillcurtain.h"
@@ -92,6 +93,26 @@ static int replay (void)
   return gillcurtain_replay_number (result) == GILLCURTAIN_REPLAYED;
 }
 
+/* Lists what differs between P1 and the small subtable, with lent scratch. */
+static int differ (const uint8_t *kept, size_t kept_len)
+{
+  uint8_t listed[16 * GILLCURTAIN_DIFFERENCE];
+  void *scratch = malloc (GILLCURTAIN_COMPARE_SCRATCH);
+  if (!scratch) return 0;
+  uint64_t result = gillcurtain_compare_with (GILLCURTAIN_CONTEXT, source, sizeof source, kept, kept_len,
+                                              scratch, GILLCURTAIN_COMPARE_SCRATCH, listed, sizeof listed);
+  free (scratch);
+  if (gillcurtain_compare_number (result) != GILLCURTAIN_KEPT) return 0;
+  size_t n = gillcurtain_compare_length (result) / GILLCURTAIN_DIFFERENCE;
+  printf ("compare: answer %u, %zu differences\n", gillcurtain_compare_number (result), n);
+  for (size_t i = 0; i < n; i++)
+  {
+    struct gillcurtain_difference d = gillcurtain_difference_at (listed, i);
+    printf ("  sort %u, side %u, glyph %u, rank %u\n", d.sort, d.side, d.first, d.rank);
+  }
+  return gillcurtain_compare (GILLCURTAIN_CONTEXT, source, sizeof source, source, sizeof source, NULL, 0) == 0;
+}
+
 int main (void)
 {
   uint8_t out[sizeof source];
@@ -105,5 +126,5 @@ int main (void)
   result = cut_with_scratch (out, sizeof out);
   if (gillcurtain_number (result) != GILLCURTAIN_KEPT) return 1;
   print (out, gillcurtain_length (result));
-  return replay () ? 0 : 1;
+  return replay () && differ (out, gillcurtain_length (result)) ? 0 : 1;
 }

@@ -182,6 +182,98 @@ static inline uint64_t gillcurtain_tallied (const uint8_t *tally, unsigned which
 /* The number of steps. */
 static inline uint64_t gillcurtain_stepped (const uint8_t *steps) { return gillcurtain_tallied (steps, 0); }
 
+/* What differs between two subtables: an entry of the list, six words of two
+ * bytes each, big-endian. What does not apply is 0. */
+struct gillcurtain_difference {
+  uint16_t sort;                /* gillcurtain_sort */
+  uint16_t side;                /* 0 left or moved, 1 right; of a value its field, 0 to 7 */
+  uint16_t first;               /* the first glyph */
+  uint16_t rank;                /* the rule's rank in its set, from 0, of a moved one the left; or the second glyph */
+  uint16_t left, right;         /* formats, ranks of a moved rule, or values, which are signed */
+};
+
+enum gillcurtain_sort {
+  GILLCURTAIN_DIFFERENT_FORMAT = 1,
+  GILLCURTAIN_ONE_GLYPH = 2,    /* covered in one only */
+  GILLCURTAIN_ONE_RULE = 3,     /* a rule or a ligature in one only */
+  GILLCURTAIN_MOVED_RULE = 4,
+  GILLCURTAIN_ONE_PAIR = 5,
+  GILLCURTAIN_OTHER_VALUE = 6   /* fields 0 to 3 are the first record's 0x0001 to 0x0008, 4 to 7 the second's */
+};
+
+/* The bytes of an entry. */
+#define GILLCURTAIN_DIFFERENCE 12u
+
+/* The scratch that is enough for any comparison: so many cells of 32 bits in
+ * four parts, and all of them in one piece. */
+#define GILLCURTAIN_COMPARE_NUM 262144u
+#define GILLCURTAIN_COMPARE_NUMS 131075u
+#define GILLCURTAIN_COMPARE_HEADS 589828u
+#define GILLCURTAIN_COMPARE_LINKS 458752u
+#define GILLCURTAIN_COMPARE_CELLS (GILLCURTAIN_COMPARE_NUM + GILLCURTAIN_COMPARE_NUMS \
+                                   + GILLCURTAIN_COMPARE_HEADS + GILLCURTAIN_COMPARE_LINKS)
+#define GILLCURTAIN_COMPARE_SCRATCH (4u * GILLCURTAIN_COMPARE_CELLS)
+
+/* The stack, in bytes, that a comparison may use at most with scratch of its
+ * own: 6 MiB. With GILLCURTAIN_COMPARE_SCRATCH bytes of lent scratch it is
+ * GILLCURTAIN_LITTLE_STACK. */
+#define GILLCURTAIN_COMPARE_STACK (6u << 20)
+
+/* Compares two subtables of this kind, 1 to 4 (of pairs format 1 alone), and
+ * lists what differs in `out`, which overlaps none of the others, in the order
+ * of first glyph, rank, side. The list is empty exactly if both say the same.
+ * The answers are those of a cut: 0 with the length of the list; 1; then 4, 5,
+ * 6 with its place, and 7 of the left subtable, then those of the right one;
+ * then 10 with the length needed, where nothing is written. The result is the
+ * answer times 2^56, plus the length, which can pass 32 bits. */
+uint64_t gillcurtain_compare (uint64_t kind,
+                              const uint8_t *left, size_t left_len,
+                              const uint8_t *right, size_t right_len,
+                              uint8_t *out, size_t out_len);
+
+/* The same with lent scratch in its four parts, of any lengths and whatever
+ * they hold. Where one is too short, the call makes scratch of its own. */
+uint64_t gillcurtain_compare_in (uint64_t kind,
+                                 const uint8_t *left, size_t left_len,
+                                 const uint8_t *right, size_t right_len,
+                                 uint32_t *num, size_t num_len,
+                                 uint32_t *nums, size_t nums_len,
+                                 uint32_t *heads, size_t heads_len,
+                                 uint32_t *links, size_t links_len,
+                                 uint8_t *out, size_t out_len);
+
+/* The same with one piece of scratch, of any length; it is used if it begins
+ * where a cell may, and has GILLCURTAIN_COMPARE_SCRATCH bytes or more. */
+static inline uint64_t gillcurtain_compare_with (uint64_t kind,
+                                                 const uint8_t *left, size_t left_len,
+                                                 const uint8_t *right, size_t right_len,
+                                                 void *scratch, size_t scratch_len,
+                                                 uint8_t *out, size_t out_len)
+{
+  if (scratch_len < GILLCURTAIN_COMPARE_SCRATCH || (uintptr_t) scratch % 4u)
+    return gillcurtain_compare (kind, left, left_len, right, right_len, out, out_len);
+  uint32_t *num = (uint32_t *) scratch;
+  uint32_t *nums = num + GILLCURTAIN_COMPARE_NUM;
+  uint32_t *heads = nums + GILLCURTAIN_COMPARE_NUMS;
+  uint32_t *links = heads + GILLCURTAIN_COMPARE_HEADS;
+  return gillcurtain_compare_in (kind, left, left_len, right, right_len, num, GILLCURTAIN_COMPARE_NUM,
+                                 nums, GILLCURTAIN_COMPARE_NUMS, heads, GILLCURTAIN_COMPARE_HEADS,
+                                 links, GILLCURTAIN_COMPARE_LINKS, out, out_len);
+}
+
+static inline unsigned gillcurtain_compare_number (uint64_t result) { return (unsigned) (result >> 56); }
+static inline uint64_t gillcurtain_compare_length (uint64_t result) { return result & 0xFFFFFFFFFFFFFFu; }
+
+/* The i-th entry of a list, from 0. */
+static inline struct gillcurtain_difference gillcurtain_difference_at (const uint8_t *list, size_t i)
+{
+  uint16_t w[6];
+  for (unsigned k = 0; k < 6; k++)
+    w[k] = (uint16_t) (list[GILLCURTAIN_DIFFERENCE * i + 2 * k] << 8 | list[GILLCURTAIN_DIFFERENCE * i + 2 * k + 1]);
+  struct gillcurtain_difference d = { w[0], w[1], w[2], w[3], w[4], w[5] };
+  return d;
+}
+
 static inline unsigned gillcurtain_number (uint64_t result) { return (unsigned) (result >> 32); }
 static inline size_t gillcurtain_length (uint64_t result) { return (size_t) (result & 0xFFFFFFFFu); }
 

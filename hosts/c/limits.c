@@ -3,9 +3,9 @@
  * Each part in turn is empty and its pointer null. Then tables of each kind,
  * among them a chained context by class whose classes share their rules, are
  * cut under the longest map, with scratch of the call's own, with lent scratch
- * and with too little of it. Each call runs on as much stack as the header
- * says, above pages that nobody may touch, which was filled before; the most
- * that was used of it is printed. */
+ * and with too little of it, and compared with themselves. Each call runs on as
+ * much stack as the header says, above pages that nobody may touch, which was
+ * filled before; the most that was used of it is printed. */
 #define _GNU_SOURCE
 #include <pthread.h>
 #include <stdio.h>
@@ -38,11 +38,21 @@ static uint8_t glyphs[4 * GLYPHS];
 
 static int faults;
 
+static void expect_answer (const char *what, unsigned given, size_t given_length, unsigned number, size_t length)
+{
+  if (given == number && given_length == length) return;
+  printf ("%s: answer %u, length %zu\n", what, given, given_length);
+  faults++;
+}
+
 static void expect (const char *what, uint64_t result, unsigned number, size_t length)
 {
-  if (gillcurtain_number (result) == number && gillcurtain_length (result) == length) return;
-  printf ("%s: answer %u, length %zu\n", what, gillcurtain_number (result), gillcurtain_length (result));
-  faults++;
+  expect_answer (what, gillcurtain_number (result), gillcurtain_length (result), number, length);
+}
+
+static void expect_compared (const char *what, uint64_t result, unsigned number, size_t length)
+{
+  expect_answer (what, gillcurtain_compare_number (result), gillcurtain_compare_length (result), number, length);
 }
 
 static void word (uint8_t *at, unsigned w) { at[0] = w >> 8; at[1] = w & 255; }
@@ -70,6 +80,10 @@ static void empty_parts (void)
           GILLCURTAIN_KEPT, KEPT - RECORD);
   expect ("no room", gillcurtain_subset (GILLCURTAIN_CHAINED, source, sizeof source, glyphs, 8, lookup, 4, NULL, 0),
           GILLCURTAIN_NO_ROOM, KEPT);
+  expect_compared ("no left", gillcurtain_compare (GILLCURTAIN_CHAINED, NULL, 0, source, sizeof source, out, KEPT),
+                   GILLCURTAIN_MALFORMED, 0);
+  expect_compared ("no list", gillcurtain_compare (GILLCURTAIN_CHAINED, source, sizeof source, source, sizeof source, NULL, 0),
+                   GILLCURTAIN_KEPT, 0);
 }
 
 /* Tables that say little, for calls that go deep since the map is long. */
@@ -82,30 +96,44 @@ static const uint8_t cells[] = {
 };
 static const uint8_t singles[] = { 0, 1, 0, 6, 0, 0, 0, 1, 0, 1, 0, 1 };
 
-static const struct { const char *name; unsigned kind; const uint8_t *at; size_t len, kept; } deep[] = {
-  { "chained by class", GILLCURTAIN_CHAINED, shared, sizeof shared, KEPT },
-  { "by glyph", GILLCURTAIN_CONTEXT, by_glyph, sizeof by_glyph, sizeof by_glyph },
-  { "by cover", GILLCURTAIN_CONTEXT, by_cover, sizeof by_cover, sizeof by_cover },
-  { "ligatures", GILLCURTAIN_LIGATURE, ligatures, sizeof ligatures, sizeof ligatures },
-  { "pairs", GILLCURTAIN_PAIR, pairs, sizeof pairs, sizeof pairs },
-  { "pairs by class", GILLCURTAIN_PAIR, cells, sizeof cells, sizeof cells },
-  { "singles", GILLCURTAIN_SINGLE, singles, sizeof singles, sizeof singles }
+/* With each the length of what is kept, and the answer where it is compared with itself. */
+static const struct { const char *name; unsigned kind; const uint8_t *at; size_t len, kept; unsigned compared; } deep[] = {
+  { "chained by class", GILLCURTAIN_CHAINED, shared, sizeof shared, KEPT, GILLCURTAIN_KEPT },
+  { "by glyph", GILLCURTAIN_CONTEXT, by_glyph, sizeof by_glyph, sizeof by_glyph, GILLCURTAIN_KEPT },
+  { "by cover", GILLCURTAIN_CONTEXT, by_cover, sizeof by_cover, sizeof by_cover, GILLCURTAIN_KEPT },
+  { "ligatures", GILLCURTAIN_LIGATURE, ligatures, sizeof ligatures, sizeof ligatures, GILLCURTAIN_KEPT },
+  { "pairs", GILLCURTAIN_PAIR, pairs, sizeof pairs, sizeof pairs, GILLCURTAIN_KEPT },
+  { "pairs by class", GILLCURTAIN_PAIR, cells, sizeof cells, sizeof cells, GILLCURTAIN_BAD_FORMAT },
+  { "singles", GILLCURTAIN_SINGLE, singles, sizeof singles, sizeof singles, GILLCURTAIN_BAD_KIND }
 };
 enum { DEEP = sizeof deep / sizeof *deep };
 
 /* A way of calling: with so much lent scratch, or none of it, and on so much stack. */
-struct way { const char *name; uint8_t *scratch; size_t scratch_len, most; };
+struct way {
+  const char *name;
+  void (*call) (const struct way *way, unsigned which, uint8_t *out);
+  uint8_t *scratch;
+  size_t scratch_len, most;
+};
 
 /* A call on a stack that begins at `stack`, and what it used of it. */
 struct run { const struct way *way; unsigned which; uint8_t *stack; size_t used; };
 
-static uint64_t call (const struct way *way, unsigned which, uint8_t *out)
+static void cut (const struct way *way, unsigned which, uint8_t *out)
 {
-  if (!way->scratch)
-    return gillcurtain_subset (deep[which].kind, deep[which].at, deep[which].len, glyphs, sizeof glyphs,
-                               lookups, sizeof lookups, out, KEPT);
-  return gillcurtain_subset_with (deep[which].kind, deep[which].at, deep[which].len, glyphs, sizeof glyphs,
-                                  lookups, sizeof lookups, way->scratch, way->scratch_len, out, KEPT);
+  uint64_t result = way->scratch
+    ? gillcurtain_subset_with (deep[which].kind, deep[which].at, deep[which].len, glyphs, sizeof glyphs,
+                               lookups, sizeof lookups, way->scratch, way->scratch_len, out, KEPT)
+    : gillcurtain_subset (deep[which].kind, deep[which].at, deep[which].len, glyphs, sizeof glyphs,
+                          lookups, sizeof lookups, out, KEPT);
+  expect (deep[which].name, result, GILLCURTAIN_KEPT, deep[which].kept);
+}
+
+static void compare (const struct way *way, unsigned which, uint8_t *out)
+{
+  uint64_t result = gillcurtain_compare_with (deep[which].kind, deep[which].at, deep[which].len, deep[which].at,
+                                              deep[which].len, way->scratch, way->scratch_len, out, KEPT);
+  expect_compared (deep[which].name, result, deep[which].compared, 0);
 }
 
 /* The call on what is left of the stack here, cut down to what it may use and the rest of a page. */
@@ -117,7 +145,7 @@ static void *on_stack (void *given)
   size_t below = (size_t) (here - run->stack - run->way->most) / PAGE * PAGE;
   uint8_t *low = run->stack + below;
   if (mprotect (run->stack, below, PROT_NONE)) { perror ("mprotect"); faults++; return NULL; }
-  expect (deep[run->which].name, call (run->way, run->which, out), GILLCURTAIN_KEPT, deep[run->which].kept);
+  run->way->call (run->way, run->which, out);
   while (*low == FILL) low++;
   run->used = (size_t) (here - low);
   return NULL;
@@ -156,10 +184,15 @@ static int holds (const struct way *way)
 int main (void)
 {
   static uint8_t scratch[GILLCURTAIN_SCRATCH + 4];
+  static uint32_t compare_scratch[GILLCURTAIN_COMPARE_CELLS];
+  uint8_t *lent = (uint8_t *) compare_scratch;
   const struct way ways[] = {
-    { "own scratch", NULL, 0, GILLCURTAIN_STACK },
-    { "lent scratch", scratch, sizeof scratch, GILLCURTAIN_LITTLE_STACK },
-    { "too little scratch", scratch, 64, GILLCURTAIN_STACK }
+    { "own scratch", cut, NULL, 0, GILLCURTAIN_STACK },
+    { "lent scratch", cut, scratch, sizeof scratch, GILLCURTAIN_LITTLE_STACK },
+    { "too little scratch", cut, scratch, 64, GILLCURTAIN_STACK },
+    { "compared, own scratch", compare, NULL, 0, GILLCURTAIN_COMPARE_STACK },
+    { "compared, lent scratch", compare, lent, sizeof compare_scratch, GILLCURTAIN_LITTLE_STACK },
+    { "compared, too little scratch", compare, lent, sizeof compare_scratch - 4, GILLCURTAIN_COMPARE_STACK }
   };
   int good = 1;
   for (unsigned i = 0; i < GLYPHS; i++)

@@ -8,7 +8,7 @@ fn main() {
         Some(folder) => PathBuf::from(folder),
         None => PathBuf::from(env::var_os("CARGO_MANIFEST_DIR").expect("cargo sets it")).join("../../lib"),
     };
-    for name in ["libgillcurtain.a", "libgillcurtain_replay.a"] {
+    for name in ["libgillcurtain.a", "libgillcurtain_replay.a", "libgillcurtain_compare.a"] {
         let library = folder.join(name);
         if !library.is_file() {
             panic!("{} is not there; set GILLCURTAIN_LIB_DIR to its folder", library.display());

@@ -1,8 +1,9 @@
 //! Cuts the first worked example, P1, and says in words what came back: a context by glyph with
 //! three rules, of which the maps leave two. Then replays three recorded runs over one lookup, after
-//! asking what that may cost.
+//! asking what that may cost. Last, lists what differs between P1 and what is kept of it.
 
-use gillcurtain::{replay, replay_cost, subset, Answer, Subsetter, CONTEXT};
+use gillcurtain::{compare, differences, replay, replay_cost, subset};
+use gillcurtain::{Answer, Compared, Comparer, Subsetter, CONTEXT};
 
 const SOURCE: [u16; 28] = [
     1, 48, 2, 10, 36, // format 1, coverage, two sets
@@ -87,4 +88,13 @@ fn main() {
         "replay: answer {}, {} runs, {} agree, the first that does not is run {}",
         told.number, told.runs, told.agreements, told.first
     );
+    let (source, mut list) = (bytes(&SOURCE), [0; 192]);
+    let Compared::Listed(length) = Comparer::new().compare(CONTEXT, &source, &room[..n], &mut list) else {
+        std::process::exit(1);
+    };
+    println!("compare: answer 0, {} differences", length / 12);
+    for d in differences(&list[..length as usize]) {
+        println!("  sort {}, side {}, glyph {}, rank {}", d.sort, d.side, d.first, d.rank);
+    }
+    assert_eq!(compare(CONTEXT, &source, &source, &mut []), Compared::Listed(0));
 }

@@ -4,6 +4,8 @@
 //! the system for nothing, keeps nothing between calls and takes no lock. A [`Subsetter`] does the
 //! same with scratch that it owns: somewhat faster, and with little stack. [`replay`] replays
 //! recorded runs over a list of lookups, and [`replay_cost`] says before what that may cost.
+//! [`compare`] lists what differs between two subtables, and a [`Comparer`] does so with scratch that
+//! it owns.
 
 use std::fmt;
 
@@ -100,6 +102,37 @@ extern "C" {
         buffer_len: usize,
         steps: *mut u8,
         steps_len: usize,
+    ) -> u64;
+}
+
+#[link(name = "gillcurtain_compare", kind = "static")]
+extern "C" {
+    fn gillcurtain_compare(
+        kind: u64,
+        left: *const u8,
+        left_len: usize,
+        right: *const u8,
+        right_len: usize,
+        out: *mut u8,
+        out_len: usize,
+    ) -> u64;
+
+    fn gillcurtain_compare_in(
+        kind: u64,
+        left: *const u8,
+        left_len: usize,
+        right: *const u8,
+        right_len: usize,
+        num: *mut u32,
+        num_len: usize,
+        nums: *mut u32,
+        nums_len: usize,
+        heads: *mut u32,
+        heads_len: usize,
+        links: *mut u32,
+        links_len: usize,
+        out: *mut u8,
+        out_len: usize,
     ) -> u64;
 }
 
@@ -274,6 +307,147 @@ impl Subsetter {
 impl Default for Subsetter {
     fn default() -> Subsetter {
         Subsetter::new()
+    }
+}
+
+/// What comes of a comparison. Where several refusals apply, the first of them in this order is
+/// given; those of the left subtable come before those of the right one.
+#[derive(Clone, Copy, Debug, PartialEq, Eq)]
+pub enum Compared {
+    /// The list has so many bytes, 12 for each difference, and stands at the front of the buffer.
+    Listed(u64),
+    /// Kinds 1 to 4 are compared.
+    BadKind,
+    LongSource,
+    /// Of pairs only format 1 is compared.
+    BadFormat,
+    /// As in [`Answer::Malformed`].
+    Malformed(u64),
+    Device,
+    /// The buffer is too short; so many bytes are needed. Nothing was written.
+    NoRoom(u64),
+}
+
+/// A difference between two subtables. What does not apply is 0.
+#[derive(Clone, Copy, Debug, PartialEq, Eq)]
+pub struct Difference {
+    /// 1 the format, 2 a glyph covered in one only, 3 a rule or ligature in one only, 4 a rule that
+    /// moved, 5 a pair in one only, 6 a value of a pair.
+    pub sort: u16,
+    /// 0 left or moved, 1 right; of a value its field, 0 to 7.
+    pub side: u16,
+    /// The first glyph.
+    pub first: u16,
+    /// The rank of the rule in its set, from 0, of a moved one the left; or the second glyph.
+    pub rank: u16,
+    /// Formats, ranks of a moved rule, or values, which are signed.
+    pub left: u16,
+    pub right: u16,
+}
+
+/// The differences that a list says, in its order: first glyph, rank, side.
+pub fn differences(list: &[u8]) -> impl Iterator<Item = Difference> + '_ {
+    list.chunks_exact(12).map(|entry| {
+        let word = |i: usize| u16::from_be_bytes([entry[2 * i], entry[2 * i + 1]]);
+        Difference {
+            sort: word(0),
+            side: word(1),
+            first: word(2),
+            rank: word(3),
+            left: word(4),
+            right: word(5),
+        }
+    })
+}
+
+/// The stack, in bytes, that [`compare`] may use at most. A thread that Rust starts has 2 MiB: use a
+/// [`Comparer`] there.
+pub const COMPARE_STACK: usize = 6 << 20;
+
+/// Compares two subtables of this kind, and lists what differs in `out`; the list is empty exactly
+/// if both say the same. A refusal writes nothing.
+pub fn compare(kind: u64, left: &[u8], right: &[u8], out: &mut [u8]) -> Compared {
+    // SAFETY: as in `subset`.
+    let result = unsafe {
+        gillcurtain_compare(
+            kind,
+            left.as_ptr(),
+            left.len(),
+            right.as_ptr(),
+            right.len(),
+            out.as_mut_ptr(),
+            out.len(),
+        )
+    };
+    compared(result)
+}
+
+/// Scratch for any number of comparisons, one after the other, 5.5 MiB; a comparison with it uses at
+/// most [`LITTLE_STACK`] bytes of stack. A thread needs a `Comparer` of its own.
+#[derive(Clone, Debug)]
+pub struct Comparer {
+    num: Vec<u32>,
+    nums: Vec<u32>,
+    heads: Vec<u32>,
+    links: Vec<u32>,
+}
+
+impl Comparer {
+    /// With scratch that is enough for any two subtables.
+    pub fn new() -> Comparer {
+        Comparer {
+            num: vec![0; 262_144],
+            nums: vec![0; 131_075],
+            heads: vec![0; 589_828],
+            links: vec![0; 458_752],
+        }
+    }
+
+    /// What [`compare`] does.
+    pub fn compare(&mut self, kind: u64, left: &[u8], right: &[u8], out: &mut [u8]) -> Compared {
+        // SAFETY: as in `subset`; the scratch is this one's own, and nothing is asked of its lengths
+        // or of what it holds.
+        let result = unsafe {
+            gillcurtain_compare_in(
+                kind,
+                left.as_ptr(),
+                left.len(),
+                right.as_ptr(),
+                right.len(),
+                self.num.as_mut_ptr(),
+                self.num.len(),
+                self.nums.as_mut_ptr(),
+                self.nums.len(),
+                self.heads.as_mut_ptr(),
+                self.heads.len(),
+                self.links.as_mut_ptr(),
+                self.links.len(),
+                out.as_mut_ptr(),
+                out.len(),
+            )
+        };
+        compared(result)
+    }
+}
+
+impl Default for Comparer {
+    fn default() -> Comparer {
+        Comparer::new()
+    }
+}
+
+/// What a comparison's result says: its number, times 2^56, plus its length.
+fn compared(result: u64) -> Compared {
+    let length = result & 0xFF_FFFF_FFFF_FFFF;
+    match result >> 56 {
+        0 => Compared::Listed(length),
+        1 => Compared::BadKind,
+        4 => Compared::LongSource,
+        5 => Compared::BadFormat,
+        6 => Compared::Malformed(length),
+        7 => Compared::Device,
+        10 => Compared::NoRoom(length),
+        _ => unreachable!("the call gives the numbers 0, 1, 4 to 7 and 10"),
     }
 }
 

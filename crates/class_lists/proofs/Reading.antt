@@ -8,14 +8,15 @@ use native.Mathlib.Omega.{arith}
 use lib.ListN.{getD, List·getD-eq-default}
 use lib.Dec.{leb}
 use Rattle.meaning.specs.Words.{word, words, triples, find}
-use Rattle.meaning.specs.Parts.{rangesAscend, rangeClasses, classOf}
+use Rattle.meaning.specs.Parts.{rangesAscend, rangeClasses, classOf, listed, classIn}
 use Rattle.laws.specs.Runs.{both}
 use Rattle.laws.specs.Left.{words-length, words-at, triples-left, triples-all, triples-none}
 use Rattle.laws.specs.ClassesLeft.{array-low, array-at, ranges-rest, range-after, range-in, range-before}
 use Rattle.halving.specs.Rising as halving
 use Rattle.halving.specs.Columns.{ranges-least, end-place}
-use Rattle.class_lists.specs.Tables.{arrayAt}
-use Rattle.class_lists.specs.Stretches.{Ranges, Passed, Reached, Stretched}
+use Rattle.class_lists.specs.declared.Stretch.{Stretch}
+use Rattle.class_lists.specs.Tables.{tableAt, NullOrSound, arrayAt, null-table, by-array, by-ranges}
+use Rattle.class_lists.specs.Stretches.{Ranges, Passed, Reached, Stretched, Begins, Holding}
 
 -- the class of a glyph in the array of the table at `at`: before it, past it, and in it
 module _ (s : List ℕ) (at : ℕ) {first x : ℕ} (f : first ≡ word s (at + 2)) where
@@ -117,6 +118,7 @@ module _ {s : List ℕ} {at n x r : ℕ} (h : Ranges s at n) (k : Reached s at n
   pub reached-none : x < 65536 → n ≤ r → Stretched s at n x (record { last = 65535; class = 0; next = r })
   reached-none w l = record {
     holds = omega arith;
+    low = omega arith;
     same = λ y g m. walking-end (walk y g) l;
     small = omega arith;
     within = k .within;
@@ -124,23 +126,25 @@ module _ {s : List ℕ} {at n x r : ℕ} (h : Ranges s at n) (k : Reached s at n
   }
 
   module _ {first : ℕ} (l : r < n) (f : first ≡ word s (at + 6 * r)) where
-    pub reached-gap : x < first → Stretched s at n x (record { last = first - 1; class = 0; next = r })
-    reached-gap g = record {
+    pub reached-gap : first < 65536 → x < first → Stretched s at n x (record { last = first - 1; class = 0; next = r })
+    reached-gap w g = record {
       holds = omega arith;
+      low = omega arith;
       same = λ y a m. walking-before (walk y a) l refl f (omega arith);
       small = omega arith;
       within = k .within;
       passed = λ y m. later y (omega arith);
     }
 
-    pub reached-in : {last c : ℕ} → first ≤ x → last ≡ word s (at + 6 * r + 2) → (c ≡ word s (at + 6 * r + 4)) × (c < 65536)
+    pub reached-in : {last c : ℕ} → first ≤ x → (last ≡ word s (at + 6 * r + 2)) × (last < 65536) → (c ≡ word s (at + 6 * r + 4)) × (c < 65536)
         → Stretched s at n x (record { last = last; class = c; next = r + 1 })
     reached-in g e c = record {
-      holds = omega (arith, k .ends l);
-      same = λ y a m. c .0 ∙ walking-in (walk y a) l e f m (omega arith);
+      holds = omega (arith, k .ends l, e .0);
+      low = e .1;
+      same = λ y a m. c .0 ∙ walking-in (walk y a) l (e .0) f m (omega arith);
       small = c .1;
       within = omega arith;
-      passed = λ y m i q. let d : i ≡ r = omega arith in rw (d, ← e) m;
+      passed = λ y m i q. let d : i ≡ r = omega arith in rw (d, ← e .0) m;
     }
 
 -- what the search answers, where the range before the `from`-th ends before the glyph
@@ -154,3 +158,46 @@ range-reached {s} {at} {n} {from} {x} {r} p h = record {
     step : (k : ℕ) → k + 1 ≡ r → Dec (k < from) → word s (at + 6 * k + 2) < x
     step k e (yes l) = p k (omega (arith, h .least))
     step k e (no l) = omega (arith, end-place s at k, h .below k (omega arith) (omega arith))
+
+-- The ways through the stretch of a class table by its offset.
+
+-- each search may begin with the first range
+pub begins-first : (s : List ℕ) (at x : ℕ) → Begins s at x 0
+begins-first s at x = record { begins = λ z f. (omega arith, λ k e. absurd (omega arith)) }
+
+pub holding-null : (s : List ℕ) {at x : ℕ} → x < 65536 → at ≡ 0 → Holding s at x (record { last = 65535; class = 0; next = 0 }) × (x ≤ 65535)
+unfolding classIn listed classOf find
+holding-null s {at} {x} w h = (
+  record {
+    low = omega arith;
+    same = λ y a m. rw (null-table s h);
+    small = omega arith;
+    later = λ y m. begins-first s at y;
+  },
+  omega arith,
+)
+
+module _ {s : List ℕ} {at x : ℕ} (k : NullOrSound s at) (z : at ≡ 0 → ⊥) {format : ℕ} (f : format ≡ word s at) where
+  pub holding-array : {c : ℕ} → x < 65536 → format ≡ 1 → (c ≡ classOf (arrayAt s at) x) × (c < 65536) → Holding s at x (record { last = x; class = c; next = 0 }) × (x ≤ x)
+  unfolding classIn
+  holding-array {c} w e h = (
+    record {
+      low = w;
+      same = λ y a m. let q : y ≡ x = omega arith in rw (q, by-array z k f e) (h .0);
+      small = h .1;
+      later = λ y m. begins-first s at y;
+    },
+    omega arith,
+  )
+
+  pub holding-ranges : {n : ℕ} {r : Stretch} → (format ≡ 1 → ⊥) → n ≡ word s (at + 2) → Stretched s (at + 4) n x r → Holding s at x r × (x ≤ r .last)
+  unfolding classIn
+  holding-ranges e g h = (
+    record {
+      low = h .low;
+      same = λ y a m. rw (by-ranges z k f g e) (h .same y a m);
+      small = h .small;
+      later = λ y m. record { begins = λ p q. (omega (arith, h .within), h .passed y m) };
+    },
+    h .holds,
+  )

@@ -5,7 +5,8 @@ use mathlib.Core.Bool.{true}
 use mathlib.Core.List.{List}
 use lib.ListN.{length}
 use Rattle.meaning.specs.Words.{word, triples}
-use Rattle.meaning.specs.Parts.{rangesAscend, rangeClasses, classOf}
+use Rattle.meaning.specs.Parts.{rangesAscend, rangeClasses, classOf, classIn}
+use Rattle.class_lists.specs.Tables.{tableAt}
 use Rattle.class_lists.specs.declared.Stretch.{Stretch}
 
 -- the n class ranges from `at` on lie inside the source and ascend
@@ -26,7 +27,21 @@ pub record Reached (s : List ℕ) (at n x r : ℕ) : Type 0 where
 -- the glyphs from x to the last of the stretch r hold its class, and the ranges before its next end before each later glyph
 pub record Stretched (s : List ℕ) (at n x : ℕ) (r : Stretch) : Type 0 where
   pub holds : x ≤ r .last
+  pub low : r .last < 65536
   pub same : (y : ℕ) → x ≤ y → y ≤ r .last → r .class ≡ classOf (rangeClasses (triples s at n)) y
   pub small : r .class < 65536
   pub within : r .next ≤ n
   pub passed : (y : ℕ) → r .last < y → Passed s at y (r .next)
+
+-- The same of a class table by its offset, which may be null.
+
+-- the search for the glyph x may begin with the range r, if the table has ranges: the range before it ends before x
+pub record Begins (s : List ℕ) (at x r : ℕ) : Type 0 where
+  pub begins : (at ≡ 0 → ⊥) → (word s at ≡ 1 → ⊥) → (r ≤ word s (at + 2)) × Passed s (at + 4) x r
+
+-- the glyphs from x to the last of the stretch r, if there are any, hold its class, and the search for a later one may begin with its next range
+pub record Holding (s : List ℕ) (at x : ℕ) (r : Stretch) : Type 0 where
+  pub low : r .last < 65536
+  pub same : (y : ℕ) → x ≤ y → y ≤ r .last → r .class ≡ classIn (tableAt s at) y
+  pub small : r .class < 65536
+  pub later : (y : ℕ) → r .last < y → Begins s at y (r .next)

@@ -9,7 +9,7 @@ ghost use Rattle.meaning.specs.Words.{triples, ascends, keys};
 ghost use Rattle.meaning.specs.Parts.{rangeClasses, classOf, classIn};
 ghost use Rattle.meaning.specs.Maps.{mapEntries};
 ghost use Rattle.class_lists.specs.Tables.{tableAt, classesAt, NullOrSound, arrayAt, ArrayInside};
-ghost use Rattle.class_lists.specs.Stretches.{Ranges, Passed, Reached, Stretched};
+ghost use Rattle.class_lists.specs.Stretches.{Ranges, Passed, Reached, Stretched, Begins, Holding};
 ghost use Rattle.class_lists.specs.Listed.{Filled, Listed};
 
 // The class of a glyph in the class array of the table at `at`: class 0 before the array and past it.
@@ -56,10 +56,10 @@ fn list_array(src: &[u8], at: usize, glyphs: &[u8], t: &mut [u32], list: usize) 
 }
 
 // Glyphs up to `last` that hold one class. The search for a later glyph begins with the class range `next`.
-struct Stretch {
-    last: usize,
-    class: usize,
-    next: usize,
+pub struct Stretch {
+    pub last: usize,
+    pub class: usize,
+    pub next: usize,
 }
 
 // The first of the `n` class ranges from `at` on that ends at the glyph or later; `n` if none does. Those before `from` end before it.
@@ -99,19 +99,35 @@ fn stretch_from(src: &[u8], at: usize, n: usize, from: usize, glyph: usize) -> S
     }
 }
 
+// The stretch that begins with the glyph, by the class table at `at`; those of its class ranges before `from` end before the glyph. With a null table, at 0, all hold class 0.
+pub fn stretch_at(src: &[u8], at: usize, from: usize, glyph: usize) -> Stretch
+    requires { ⌜ NullOrSound (now src) at × Begins (now src) at glyph from × (glyph < 65536) ⌝ }
+    ensures { λ r. ⌜ Holding (now (src .entry)) at glyph r × (glyph ≤ r .last) ⌝ }
+{
+    if at == 0 {
+        return Stretch {
+            last: 65535,
+            class: 0,
+            next: 0,
+        };
+    }
+    if word_inside(src, at) == 1 {
+        return Stretch {
+            last: glyph,
+            class: array_class(src, at, glyph),
+            next: 0,
+        };
+    }
+    let n = word_inside(src, at + 2);
+    stretch_from(src, at + 4, n, from, glyph)
+}
+
 // The class of a glyph in the class table at `at`; with a null table, at 0, it is class 0.
 pub fn class_of(src: &[u8], at: usize, glyph: usize) -> usize
     requires { ⌜ NullOrSound (now src) at × (glyph < 65536) ⌝ }
     ensures { λ r. ⌜ (r ≡ classIn (tableAt (now (src .entry)) at) glyph) × (r < 65536) ⌝ }
 {
-    if at == 0 {
-        return 0;
-    }
-    if word_inside(src, at) == 1 {
-        return array_class(src, at, glyph);
-    }
-    let n = word_inside(src, at + 2);
-    let found = stretch_from(src, at + 4, n, 0, glyph);
+    let found = stretch_at(src, at, 0, glyph);
     found.class
 }
 

@@ -24,11 +24,15 @@ cleared n = replicate n 0
 pub cleared-length : (n : ℕ) → length (cleared n) ≡ n
 cleared-length n = length-replicate n 0
 
+-- for any number, so that no scratch is written out
+cleared-enough : (n : ℕ) {k : ℕ} → k ≤ n → k ≤ length (cleared n)
+cleared-enough n h = rw (cleared-length n) h
+
 -- scratch that is enough, by the format
 module _ (kind : ℕ) (s : List ℕ) where
   pub all-cells : cellsFor kind s ≤ length (cleared classCells)
   unfolding cellsFor
-  all-cells = rw (cleared-length classCells) (step (byClasses kind s))
+  all-cells = cleared-enough classCells (step (byClasses kind s))
     where
       step : (b : Bool) → cond b classCells otherCells ≤ classCells
       step true = omega arith
@@ -36,14 +40,10 @@ module _ (kind : ℕ) (s : List ℕ) where
 
   pub other-cells : byClasses kind s ≡ false → cellsFor kind s ≤ length (cleared otherCells)
   unfolding cellsFor
-  other-cells e = rw (e, cleared-length otherCells) (omega arith)
-
--- for any number, so that no scratch is written out
-cleared-enough : (n : ℕ) → n ≤ length (cleared n)
-cleared-enough n = rw (cleared-length n) (omega arith)
+  other-cells e = cleared-enough otherCells (rw e (omega arith))
 
 pub all-bytes : enoughBytes ≤ length (cleared enoughBytes)
-all-bytes = cleared-enough enoughBytes
+all-bytes = cleared-enough enoughBytes (omega arith)
 
 -- what became of it
 pub became : (few short : Type 0) (r : Tried) (before after : List ℕ) (made : Outcome) {laid : Laid} → Tries few short r before after made → r ≡ Became laid → outcomeOf laid after ≡ made

@@ -11,45 +11,33 @@ use Rattle.meaning.specs.Job.{long, partAt, bytesOf}
 use Rattle.laws.specs.Runs.{both}
 use Rattle.replaying.specs.Replay.{Replayed, refusing, replay}
 use Rattle.replaying.specs.Cost.{replayCost}
+use Rattle.file_parts.specs.Parts.{endsBy, ends-later}
 use Rattle.replay_job.specs.ReplayFile.{fileLimit, trailer, listPart, bufferPart, tracePart, tag, before, goodFile, replayFile, asksCost, fileSteps}
-
--- x is the number of four bytes
-abbrev pub Long : List ℕ → ℕ → ℕ → Type 0
-Long f at x = (x ≡ long f at) × (x < 0x1_0000_0000)
-
-module _ (f : List ℕ) (at : ℕ) {start len : ℕ} (s : Long f at start) (l : Long f (at + 4) len) where
-  -- the test of a part
-  pub before-says : leb (start + len) (length f - 28) ≡ before f (partAt f at)
-  unfolding before partAt trailer
-  before-says = rw (s .0, l .0)
-
-  -- a part that lies before the trailer lies in the file
-  pub part-ends : before f (partAt f at) ≡ true → start + len ≤ length f
-  part-ends h = omega (arith, leb-true (start + len) (length f - 28) (before-says ∙ h))
-
-  -- its bytes
-  pub part-is : {source : List ℕ} → source ≡ bytesOf f (record { start = start; len = len }) → source ≡ bytesOf f (partAt f at)
-  unfolding partAt
-  part-is g = rw (g, s .0, l .0)
 
 -- What makes a file a replay file.
 pub record File (f : List ℕ) : Type 0 where
   pub long-enough : 28 ≤ length f
   pub short : length f ≤ 500000
-  pub list : before f (partAt f (length f - 28)) ≡ true
-  pub buffer : before f (partAt f (length f - 28 + 8)) ≡ true
-  pub trace : before f (partAt f (length f - 28 + 16)) ≡ true
+  pub list : endsBy (partAt f (length f - 28)) (length f) ≡ true
+  pub buffer : endsBy (partAt f (length f - 28 + 8)) (length f) ≡ true
+  pub trace : endsBy (partAt f (length f - 28 + 16)) (length f) ≡ true
 
 -- a good file is one
 pub is-file : (f : List ℕ) → goodFile f ≡ true → File f
-unfolding goodFile fileLimit listPart bufferPart tracePart trailer
+unfolding goodFile fileLimit before listPart bufferPart tracePart trailer
 is-file f h =
     let a = both (leb 28 (length f)) _ h in
     let b = both (leb (length f) 500000) _ (a .1) in
     let c = both (eqb (long f (length f - 28 + 24)) tag) _ (b .1) in
     let d = both (before f (listPart f)) _ (c .1) in
     let e = both (before f (bufferPart f)) (before f (tracePart f)) (d .1) in
-    record { long-enough = leb-true 28 (length f) (a .0); short = leb-true (length f) 500000 (b .0); list = d .0; buffer = e .0; trace = e .1 }
+    record {
+      long-enough = leb-true 28 (length f) (a .0);
+      short = leb-true (length f) 500000 (b .0);
+      list = ends-later (listPart f) (omega arith) (d .0);
+      buffer = ends-later (bufferPart f) (omega arith) (e .0);
+      trace = ends-later (tracePart f) (omega arith) (e .1);
+    }
 
 -- Each way through the check of a file, where the tests before it are passed.
 module _ (f : List ℕ) where
@@ -68,17 +56,17 @@ module _ (f : List ℕ) where
       no-tag c = rw (le-leb 28 (length f) a, le-leb (length f) 500000 b, ← g, ne-eqb t 0x4C53_5231 c)
 
       module _ (c : t ≡ 0x4C53_5231) where
-        pub no-list : before f (partAt f (length f - 28)) ≡ false → false ≡ goodFile f
-        unfolding goodFile fileLimit trailer tag listPart
+        pub no-list : endsBy (partAt f (length f - 28)) (length f - 28) ≡ false → false ≡ goodFile f
+        unfolding goodFile fileLimit trailer before tag listPart
         no-list d = rw (le-leb 28 (length f) a, le-leb (length f) 500000 b, ← g, eq-eqb t 0x4C53_5231 c, d)
 
-        module _ (d : before f (partAt f (length f - 28)) ≡ true) where
-          pub no-buffer : before f (partAt f (length f - 28 + 8)) ≡ false → false ≡ goodFile f
-          unfolding goodFile fileLimit trailer tag listPart bufferPart
+        module _ (d : endsBy (partAt f (length f - 28)) (length f - 28) ≡ true) where
+          pub no-buffer : endsBy (partAt f (length f - 28 + 8)) (length f - 28) ≡ false → false ≡ goodFile f
+          unfolding goodFile fileLimit trailer before tag listPart bufferPart
           no-buffer e = rw (le-leb 28 (length f) a, le-leb (length f) 500000 b, ← g, eq-eqb t 0x4C53_5231 c, d, e)
 
-          pub all-but-trace : before f (partAt f (length f - 28 + 8)) ≡ true → {r : Bool} → r ≡ before f (partAt f (length f - 28 + 16)) → r ≡ goodFile f
-          unfolding goodFile fileLimit trailer tag listPart bufferPart tracePart
+          pub all-but-trace : endsBy (partAt f (length f - 28 + 8)) (length f - 28) ≡ true → {r : Bool} → r ≡ endsBy (partAt f (length f - 28 + 16)) (length f - 28) → r ≡ goodFile f
+          unfolding goodFile fileLimit trailer before tag listPart bufferPart tracePart
           all-but-trace e k = rw (le-leb 28 (length f) a, le-leb (length f) 500000 b, ← g, eq-eqb t 0x4C53_5231 c, d, e) k
 
   -- The replay of a file that is faulty, and of one that is not.

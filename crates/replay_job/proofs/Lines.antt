@@ -9,18 +9,9 @@ use lib.Seq.{length-take-le}
 use Rattle.meaning.specs.Job.{ascii}
 use Rattle.replaying.specs.Replay.{Replayed}
 use Rattle.report.specs.Text.{Put, lineText}
-use Rattle.report.specs.Lengths.{decimal-length}
+use Rattle.report.specs.Lengths.{line-length}
 use Rattle.report.proofs.Writing.{left-all, left-put, left-end, put-length}
 use Rattle.replay_job.specs.ReplayFile.{replayFile, printed, asksCost, fileSteps, costText, program}
-
--- how long a line is
-line-length : (word : List ℕ) (n : ℕ) → length (lineText word n) ≤ length word + 21
-unfolding lineText
-line-length word n = simp length-append (omega (arith, decimal-length n))
-
--- a line ends near its start
-pub line-near : {text next : List ℕ} {at r : ℕ} (word : List ℕ) (n : ℕ) → Put text at (lineText word n) next r → r ≤ at + length word + 21
-line-near word n k = omega (arith, k .place, line-length word n)
 
 -- the five lines of an answer
 pub lines-whole : (a : Replayed) {text one two three four five : List ℕ} {p q r s k : ℕ} → Put text 0 (lineText (ascii "answer ") (a .number)) one p

@@ -9,6 +9,7 @@ use Rattle.meaning.specs.Words.{word}
 use Rattle.meaning.specs.Job.{Part, long, partAt, bytesOf, ascii}
 use Rattle.replaying.specs.Replay.{Replayed, refusing, replay}
 use Rattle.replaying.specs.Cost.{replayCost}
+use Rattle.file_parts.specs.Parts.{endsBy}
 use Rattle.report.specs.Text.{lineText}
 
 -- the most bytes of a replay file
@@ -39,7 +40,7 @@ tag-is = refl
 
 -- a part lies wholly before the trailer; an empty one may start at it
 unfoldable pub before : List ℕ → Part → Bool
-before f p = leb (p .start + p .len) (trailer f)
+before f p = endsBy p (trailer f)
 
 -- a file of 28 bytes to the limit, which ends in the tag and whose three parts lie wholly before the trailer
 unfoldable pub goodFile : List ℕ → Bool

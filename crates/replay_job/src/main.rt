@@ -1,8 +1,9 @@
 // The program: reads a replay file from standard input, whose last 28 bytes point back to a list, a buffer and a trace, and prints the answer and the tally of the replay; where the trace is empty, also what the list may cost.
+use file_parts::ends_by;
+use file_parts::part_at;
 use input::Input;
 use input::read_input;
 use lookup_list::long_at;
-use lookup_list::part;
 use replay::Replayed;
 use replay::refusing;
 use replay::replay_all;
@@ -12,10 +13,9 @@ ghost use mathlib.Core.Path.{_≡_};
 ghost use mathlib.Core.Bool.{true};
 ghost use Prim.Native.Nat.{_≤_, _<_};
 ghost use lib.ListN.{length};
-ghost use Rattle.meaning.specs.Job.{partAt, bytesOf};
 ghost use Rattle.replay.specs.Counting.{replayedOf};
 ghost use Rattle.report.specs.Text.{Put};
-ghost use Rattle.replay_job.specs.ReplayFile.{before, goodFile, replayFile, printed, asksCost, fileSteps, costText, program};
+ghost use Rattle.replay_job.specs.ReplayFile.{goodFile, replayFile, printed, asksCost, fileSteps, costText, program};
 
 // The most bytes of a replay file.
 const FILE_LIMIT: usize = 500000;
@@ -32,14 +32,6 @@ const TAG: usize = 0x4C53_5231;
 // Room for the longest text.
 const TEXT: usize = 192;
 
-// Whether the part whose start and length stand at `at` lies wholly before the trailer.
-fn is_before(file: &[u8], at: usize) -> bool
-    requires { ⌜ (28 ≤ length (now file)) × (at < 0x10_0000) ⌝ }
-    ensures { λ r. ⌜ r ≡ before (now (file .entry)) (partAt (now (file .entry)) at) ⌝ }
-{
-    long_at(file, at) + long_at(file, at + 4) <= file.len() - TRAILER
-}
-
 // Whether the file is a replay file: of 28 bytes to the limit, it ends in the tag, and its three parts lie wholly before the trailer.
 fn good_file(file: &[u8]) -> bool
     ensures { λ r. ⌜ r ≡ goodFile (now (file .entry)) ⌝ }
@@ -54,21 +46,13 @@ fn good_file(file: &[u8]) -> bool
     if long_at(file, at + 24) != TAG {
         return false;
     }
-    if !is_before(file, at) {
+    if !ends_by(file, at, at) {
         return false;
     }
-    if !is_before(file, at + 8) {
+    if !ends_by(file, at + 8, at) {
         return false;
     }
-    is_before(file, at + 16)
-}
-
-// The part whose start and length stand at `at`, as a part of the lent file.
-fn part_at(file: &[u8], at: usize) -> &[u8]
-    requires { ⌜ (at < 0x10_0000) × (before (now file) (partAt (now file) at) ≡ true) ⌝ }
-    ensures { λ r. ⌜ now r ≡ bytesOf (now (file .entry)) (partAt (now (file .entry)) at) ⌝ }
-{
-    part(file, long_at(file, at), long_at(file, at + 4))
+    ends_by(file, at + 16, at)
 }
 
 // The replay of a file, or that it is faulty, which is tested first.

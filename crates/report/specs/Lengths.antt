@@ -8,6 +8,7 @@ use lib.ListN.{length, take, length-append, length-take}
 use lib.Dec.{ltb, eqb}
 use Rattle.meaning.specs.Subset.{Outcome, left}
 use Rattle.meaning.specs.Job.{ascii, digits, decimal, newline, hexLines, printed}
+use Rattle.report.specs.Text.{Put, lineText}
 
 -- digits are as many as the places at most
 places : (k n : ℕ) (more : List ℕ) → length (digits k n more) ≤ k + length more
@@ -23,6 +24,15 @@ places (suc k) n more = step (ltb n 10) (places k (n / 10) ((48 + n % 10) ∷ mo
 pub decimal-length : (n : ℕ) → length (decimal n) ≤ 20
 unfolding decimal
 decimal-length n = omega (arith, places 20 n [])
+
+-- how long a line is
+pub line-length : (word : List ℕ) (n : ℕ) → length (lineText word n) ≤ length word + 21
+unfolding lineText
+line-length word n = simp length-append (omega (arith, decimal-length n))
+
+-- a line ends near its start
+pub line-near : {text next : List ℕ} {at r : ℕ} (word : List ℕ) (n : ℕ) → Put text at (lineText word n) next r → r ≤ at + length word + 21
+line-near word n k = omega (arith, k .place, line-length word n)
 
 -- how long the lines are: two digits a byte, and a newline for each 16 of them
 pub lines-length : (room : ℕ) (bs : List ℕ) → room ≤ 16 → 16 * length (hexLines room bs) + room ≤ 33 * length bs + 32

@@ -82,7 +82,7 @@ fn put_hex(text: &mut [u8], at: usize, b: usize) -> usize
 }
 
 // The bytes in hex from `at` on, 16 a line; `room` is how many more the line takes. Each line ends in a newline, the last one too.
-fn put_lines(text: &mut [u8], at: usize, bytes: &[u8]) -> usize
+pub fn put_lines(text: &mut [u8], at: usize, bytes: &[u8]) -> usize
     requires { ⌜ (at < 65536) × (length (now bytes) ≤ 262144) ⌝ }
     ensures { λ r. ⌜ Put (now (text .entry)) at (hexLines 16 (now (bytes .entry))) (now (text .exit)) r ⌝ }
 {

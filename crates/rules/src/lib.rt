@@ -28,7 +28,7 @@ pub struct RuleParts {
 }
 
 // How many glyphs a count leaves after the first: a count of 0 or 1 leaves none.
-fn after_first(count: usize) -> usize
+pub fn after_first(count: usize) -> usize
     ensures { λ r. ⌜ r ≡ count - 1 ⌝ }
 {
     if count == 0 {

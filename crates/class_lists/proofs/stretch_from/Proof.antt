@@ -12,14 +12,14 @@ returns-2 : tie.Need-returns-2
 returns-2 c =
     let w = c .before in
     let r = w .before .before in
-    reached-gap (r .before .before .pre .0) (r .reach .ensures) (w .before .if1 .left) (w .word-inside .ensures .0) (c .if2 .taken)
+    reached-gap (r .before .before .pre .0) (r .reach .ensures) (w .before .if1 .left) (w .word-inside .ensures .0) (w .word-inside .ensures .1) (c .if2 .taken)
 
 returns-3 : tie.Need-returns-3
 returns-3 c =
     let z = c .before in
     let w = z .before .before in
     let r = w .before .before in
-    reached-in (r .before .before .pre .0) (r .reach .ensures) (w .before .if1 .left) (w .word-inside .ensures .0) (z .before .if2 .left) (z .word-inside2 .ensures .0) (c .word-inside3 .ensures)
+    reached-in (r .before .before .pre .0) (r .reach .ensures) (w .before .if1 .left) (w .word-inside .ensures .0) (z .before .if2 .left) (z .word-inside2 .ensures) (c .word-inside3 .ensures)
 
 pub stretch-from-spec : {M : Type 1} → statement M
 stretch-from-spec =

@@ -24,7 +24,7 @@ returns-4 c =
     let t = c .before .before in
     let b = t .before .before in
     let a = b .before in
-    no-list (a .before .before .args .file .now) (a .if1 .left) (b .if2 .left) (t .before .long-at .ensures .0) (t .if3 .left) (refused (c .before .is-before .ensures) (c .if4 .taken))
+    no-list (a .before .before .args .file .now) (a .if1 .left) (b .if2 .left) (t .before .long-at .ensures .0) (t .if3 .left) (refused (c .before .ends-by .ensures) (c .if4 .taken))
 
 returns-5 : tie.Need-returns-5
 returns-5 c =
@@ -32,8 +32,8 @@ returns-5 c =
     let t = d .before .before in
     let b = t .before .before in
     let a = b .before in
-    no-buffer (a .before .before .args .file .now) (a .if1 .left) (b .if2 .left) (t .before .long-at .ensures .0) (t .if3 .left) (passed (d .before .is-before .ensures) (d .if4 .left))
-    (refused (c .before .is-before2 .ensures) (c .if5 .taken))
+    no-buffer (a .before .before .args .file .now) (a .if1 .left) (b .if2 .left) (t .before .long-at .ensures .0) (t .if3 .left) (passed (d .before .ends-by .ensures) (d .if4 .left))
+    (refused (c .before .ends-by2 .ensures) (c .if5 .taken))
 
 returns-6 : tie.Need-returns-6
 returns-6 c =
@@ -42,8 +42,8 @@ returns-6 c =
     let t = d .before .before in
     let b = t .before .before in
     let a = b .before in
-    all-but-trace (a .before .before .args .file .now) (a .if1 .left) (b .if2 .left) (t .before .long-at .ensures .0) (t .if3 .left) (passed (d .before .is-before .ensures) (d .if4 .left))
-    (passed (e .before .is-before2 .ensures) (e .if5 .left)) (c .is-before3 .ensures)
+    all-but-trace (a .before .before .args .file .now) (a .if1 .left) (b .if2 .left) (t .before .long-at .ensures .0) (t .if3 .left) (passed (d .before .ends-by .ensures) (d .if4 .left))
+    (passed (e .before .ends-by2 .ensures) (e .if5 .left)) (c .ends-by3 .ensures)
 
 pub good-file-spec : {M : Type 1} → statement M
 good-file-spec =

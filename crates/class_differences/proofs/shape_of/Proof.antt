@@ -1,0 +1,11 @@
+use Rattle.class_differences.proofs.shape_of.Statement.{statement}
+use Rattle.class_differences.proofs.shape_of.Tie as tie
+
+returns : tie.Need-returns
+returns c = rw (c .if1 .taken)
+
+returns-2 : tie.Need-returns-2
+returns-2 c = rw (c .if1 .left)
+
+pub shape-of-spec : {M : Type 1} → statement M
+shape-of-spec = tie.close (tie.spec returns returns-2)

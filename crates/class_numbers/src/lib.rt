@@ -1,0 +1,127 @@
+// Numbers for the classes of two class tables, equal exactly if the same ids hold the classes: a class of the one is so compared with a class of the other in one step.
+// Both tables are walked by stretches of ids that hold one class, so that a walk costs their ranges, not the 65,536 ids.
+use cells::cell;
+use cells::put_cell;
+use class_lists::Stretch;
+use class_lists::stretch_at;
+ghost use mathlib.Core.Path.{_≡_};
+ghost use mathlib.Core.Bool.{cond};
+ghost use Prim.Native.Nat.{_+_, _≤_, _<_};
+ghost use lib.ListN.{length};
+ghost use lib.Dec.{ltb};
+ghost use Rattle.meaning.specs.Parts.{classIn};
+ghost use Rattle.class_lists.specs.Tables.{tableAt, NullOrSound};
+ghost use Rattle.class_lists.specs.Stretches.{Holding};
+ghost use Rattle.class_lists.specs.Elsewhere.{Elsewhere};
+ghost use Rattle.class_numbers.specs.Numbered.{Cleared, firstPut, Lowest, lowestIn, compared, Marked, ClassesNumbered};
+
+// No class has an id yet: 0 in the 65,536 cells from `base` on.
+fn clear(t: &mut [u32], base: usize)
+    requires { ⌜ base + 65536 ≤ length (now t) ⌝ }
+    ensures { λ _. ⌜ Cleared 65536 (now (t .entry)) (now (t .exit)) base ⌝ }
+{
+    let mut c = 0;
+    while c < 65536 {
+        t[base + c] = 0;
+        c += 1;
+    }
+}
+
+// The number `v` into the cell `i`, if the cell has none yet.
+fn put_first(t: &mut [u32], i: usize, v: usize)
+    requires { ⌜ v < 0x1_0000_0000 ⌝ }
+    ensures { λ _. ⌜ now (t .exit) ≡ firstPut (now (t .entry)) i v ⌝ }
+{
+    if cell(t, i) == 0 {
+        put_cell(t, i, v);
+    }
+}
+
+// The lowest id of each class of the class table at `at`, plus 1, in the 65,536 cells from `base` on; 0 for a class that no id holds.
+fn put_lowest(src: &[u8], at: usize, t: &mut [u32], base: usize)
+    requires { ⌜ NullOrSound (now src) at × (base + 65536 ≤ length (now t)) ⌝ }
+    ensures { λ _. ⌜ Lowest (classIn (tableAt (now (src .entry)) at)) 65536 (now (t .entry)) (now (t .exit)) base ⌝ }
+{
+    clear(t, base);
+    let mut next = 0;
+    let mut g = 0;
+    while g < 65536 {
+        let s = stretch_at(src, at, next, g);
+        put_first(t, base + s.class, g + 1);
+        next = s.next;
+        g = s.last + 1;
+    }
+}
+
+// The stretch that holds the glyph: the last one, if it reaches so far, or else the one that begins with the glyph.
+fn onward(src: &[u8], at: usize, last: Stretch, glyph: usize) -> Stretch
+    requires { ⌜ NullOrSound (now src) at × Holding (now src) at glyph last × (glyph < 65536) ⌝ }
+    ensures { λ r. ⌜ Holding (now (src .entry)) at glyph r × (glyph ≤ r .last) ⌝ }
+{
+    if glyph <= last.last {
+        return last;
+    }
+    stretch_at(src, at, last.next, glyph)
+}
+
+// The lowest id of a class, plus 1, by its cell: a class that strays has 65,536 or 131,072 more.
+fn lowest_in(v: usize) -> usize
+    requires { ⌜ v < 0x1_0000_0000 ⌝ }
+    ensures { λ r. ⌜ (r ≡ lowestIn v) × (r ≤ 65536) ⌝ }
+{
+    if v <= 65536 {
+        return v;
+    }
+    (v - 1) % 65536 + 1
+}
+
+// The left class `c` and the right class `d`, which one id holds: both stray if their lowest ids differ.
+fn compare_lowest(t: &mut [u32], base: usize, c: usize, d: usize)
+    requires { ⌜ (base + 131072 ≤ length (now t)) × (c < 65536) × (d < 65536) ⌝ }
+    ensures { λ _. ⌜ now (t .exit) ≡ compared (now (t .entry)) (base + c) (base + 65536 + d) ⌝ }
+{
+    let i = base + c;
+    let j = base + 65536 + d;
+    let l = lowest_in(cell(t, i));
+    let r = lowest_in(cell(t, j));
+    if l != r {
+        put_cell(t, i, l + 65536);
+        put_cell(t, j, r + 131072);
+    }
+}
+
+// The lower of two.
+fn lower(a: usize, b: usize) -> usize
+    ensures { λ r. ⌜ r ≡ cond (ltb a b) a b ⌝ }
+{
+    if a < b {
+        return a;
+    }
+    b
+}
+
+// From the lowest ids of the classes to their numbers: a class strays if one of its ids has, in the other table, a class with another lowest id.
+fn mark_strays(left: &[u8], at: usize, right: &[u8], to: usize, t: &mut [u32], base: usize)
+    requires { ⌜ NullOrSound (now left) at × NullOrSound (now right) to × (base + 131072 ≤ length (now t)) × Marked (classIn (tableAt (now left) at)) (classIn (tableAt (now right) to)) 65536 0 (now t) base ⌝ }
+    ensures { λ _. ⌜ Marked (classIn (tableAt (now (left .entry)) at)) (classIn (tableAt (now (right .entry)) to)) 65536 65536 (now (t .exit)) base × Elsewhere base (base + 131072) (now (t .entry)) (now (t .exit)) ⌝ }
+{
+    let mut l = stretch_at(left, at, 0, 0);
+    let mut r = stretch_at(right, to, 0, 0);
+    let mut g = 0;
+    while g < 65536 {
+        l = onward(left, at, l, g);
+        r = onward(right, to, r, g);
+        compare_lowest(t, base, l.class, r.class);
+        g = lower(l.last, r.last) + 1;
+    }
+}
+
+// The numbers of the classes of the left class table at `at` and of the right one at `to`: those of the left classes in the 65,536 cells from `base` on, those of the right ones in the next 65,536. With a null table, at 0, each id holds class 0.
+pub fn number_classes(left: &[u8], at: usize, right: &[u8], to: usize, t: &mut [u32], base: usize)
+    requires { ⌜ NullOrSound (now left) at × NullOrSound (now right) to × (base + 131072 ≤ length (now t)) ⌝ }
+    ensures { λ _. ⌜ ClassesNumbered (tableAt (now (left .entry)) at) (tableAt (now (right .entry)) to) (now (t .exit)) base × Elsewhere base (base + 131072) (now (t .entry)) (now (t .exit)) ⌝ }
+{
+    put_lowest(left, at, t, base);
+    put_lowest(right, to, t, base + 65536);
+    mark_strays(left, at, right, to, t, base);
+}

@@ -1,0 +1,4 @@
+pub mod Values
+pub mod Merging
+pub mod Glyphs
+pub mod Fields

@@ -1,0 +1,3 @@
+pub mod Gathering
+pub mod Pairs
+pub mod Going
