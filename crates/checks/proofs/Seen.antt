@@ -1,4 +1,4 @@
--- Marks at the places of parts whose faults were counted: none at first, and one more. And those of rules that were found sound.
+-- Marks at the places of parts whose faults were counted: none at first, and one more.
 use Prim.Native.Nat.{ℕ, _+_, _*_, _<_}
 use mathlib.Core.Path.{_≡_, refl, sym, ap, _∙_}
 use mathlib.Core.Bool.{Bool, true, false, cond}
@@ -18,10 +18,7 @@ use Rattle.wire.specs.Fault.{faultOf, placeOf, place-fault}
 use Rattle.wire.specs.Reached.{Lowest, lowest-part}
 use Rattle.wire.specs.declared.Fault.{Fault}
 use Rattle.wire.specs.declared.Fault.the-variants.{At, Sound}
-use Rattle.gsubgpos.specs.FoundSound.{FoundSound}
-use Rattle.checks.specs.Seen.{Seen, SoundRules}
-use Rattle.checks.specs.declared.Part.{Part}
-use Rattle.checks.specs.declared.Part.the-variants.{Rules, ChainedRules}
+use Rattle.checks.specs.Seen.{Seen}
 
 -- the lower of a place and itself, and of two places in either order
 lowest-same : (a : Option ℕ) → lowest a a ≡ a
@@ -88,21 +85,3 @@ pub reached-once : {faultAt : ℕ → Option ℕ} {s : List ℕ} {slot n : ℕ} 
     → {r : Fault} → r ≡ faultOf (lowest (placeOf low) (faultAt off)) → Lowest faultAt s 0 slot n r (i + 1)
 reached-once {faultAt} {low = low} {off = off} k h e z g =
     lowest-part k h e z {a = faultOf (faultAt off)} (ap (λ (x : ℕ). faultOf (faultAt x)) (sym (zero-add off))) (g ∙ ap (λ (x : Option ℕ). faultOf (lowest (placeOf low) x)) (sym (place-fault (faultAt off))))
-
--- Marks of rules that were found sound, by the sort of the parts.
-module _ {part : Part} {s rules : List ℕ} where
-  pub plain-rules : part ≡ Rules → FoundSound false s rules → SoundRules part s rules
-  plain-rules e h = record { plain = λ z. h; chained = λ z. absurd (apart (sym e ∙ z)) }
-    where
-      apart : Rules ≡ ChainedRules → ⊥
-      apart z = let w : _≡_ {A = ℕ} 0 1 = cc in omega arith
-
-  pub chained-rules : part ≡ ChainedRules → FoundSound true s rules → SoundRules part s rules
-  chained-rules e h = record { plain = λ z. absurd (apart (sym e ∙ z)); chained = λ z. h }
-    where
-      apart : ChainedRules ≡ Rules → ⊥
-      apart z = let w : _≡_ {A = ℕ} 0 1 = cc in omega arith
-
--- zeros mark no rule
-pub none-sound : {part : Part} {s : List ℕ} (n : ℕ) → SoundRules part s (replicate n 0)
-none-sound n = record { plain = λ e. record { sound = λ p m. absurd (m (zeros-read n p)) }; chained = λ e. record { sound = λ p m. absurd (m (zeros-read n p)) } }

@@ -13,7 +13,7 @@ use Rattle.meaning.specs.Parts.{coverage}
 use Rattle.meaning.specs.Tables.{Table, reaches, ruleSet, pairTable, classContext, coverContext, context, single, table}
 use Rattle.meaning.specs.Records.{indexesBelow, setsWithin, recordsWithin}
 use Rattle.laws.specs.SoundGood.{reaches-length}
-use Rattle.gsubgpos.specs.Within.{Marked}
+use Rattle.gsubgpos.specs.Marks.{Marked}
 
 -- what is read of zeros
 pub zeros-read : (n j : ℕ) → _≡_ {A = ℕ} (getD (replicate n 0) j 0) 0
@@ -23,9 +23,9 @@ zeros-read n j = step (decLt j n)
     step (yes l) = getD-replicate n j 0 0 l
     step (no l) = List·getD-eq-default (replicate n 0) 0 (omega (arith, length-replicate {A = ℕ} n 0))
 
--- zeros mark no rule
-pub none-marked : {chained : Bool} {s : List ℕ} (n : ℕ) → Marked chained s (replicate n 0)
-none-marked n = record { good = λ p m. absurd (m (zeros-read n p)) }
+-- zeros mark no place
+pub none-marked : {A : Type 0} {f : ℕ → A} {v : A} (n : ℕ) → Marked f v (replicate n 0)
+none-marked n = record { known = λ p m. absurd (m (zeros-read n p)) }
 
 -- format 3: one rule, whose records follow its coverages
 module _ (s : List ℕ) {t : Bool} where

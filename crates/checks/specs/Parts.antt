@@ -1,12 +1,14 @@
 -- The fault of a part, by its sort.
 use Prim.Native.Nat.{ℕ}
 use mathlib.Core.Bool.{Bool, true, false, cond, _&&_}
-use mathlib.Core.Option.{Option}
+use mathlib.Core.Option.{Option, none}
 use mathlib.Core.List.{List}
 use Rattle.meaning.specs.Words.{word}
 use Rattle.meaning.specs.Tables.{fieldCount}
 use Rattle.meaning.specs.Fault.{lowest, partFault, faultThrough, coverageFault, classesFault, ruleFault, ligatureFault, setFault, pairSetFault, enough, headerFault, goodFormats}
 use Rattle.class_counts.specs.Header.{goodHeader}
+use Rattle.gsubgpos.specs.Members.{memberFault}
+use Rattle.gsubgpos.specs.declared.Member.the-variants.{Rule, ChainedRule, Ligature}
 use Rattle.checks.specs.declared.Part.{Part}
 use Rattle.checks.specs.declared.Part.the-variants.{Coverage, Classes, Rules, ChainedRules, Ligatures, Pairs}
 
@@ -18,6 +20,15 @@ faultOfPart Rules s = setFault (ruleFault false s) s
 faultOfPart ChainedRules s = setFault (ruleFault true s) s
 faultOfPart Ligatures s = setFault (ligatureFault s) s
 faultOfPart Pairs s = pairSetFault (fieldCount (word s 4)) (fieldCount (word s 6)) s
+
+-- the fault of the member at a place of a part that has members; in the others there is none
+abbrev pub memberOfPart : Part → List ℕ → ℕ → Option ℕ
+memberOfPart Coverage s at = none
+memberOfPart Classes s at = none
+memberOfPart Rules s at = memberFault Rule s at
+memberOfPart ChainedRules s at = memberFault ChainedRule s at
+memberOfPart Ligatures s at = memberFault Ligature s at
+memberOfPart Pairs s at = none
 
 -- the fault of a context by its format, of a ligature table and of a pair table by its format, once the first two bytes stand
 abbrev pub byGlyphFault : Bool → List ℕ → Option ℕ

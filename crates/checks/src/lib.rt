@@ -1,6 +1,7 @@
 // Malformed, over the whole source: the header of each kind and format, and through its offsets every part, retained or not. And records that point past their rule, and a format that the kind has not.
 use class_counts::good_formats;
 use class_counts::good_header;
+use gsubgpos::Member;
 use rules::indexes_below;
 use view::header;
 use view::subtable_place;
@@ -13,6 +14,7 @@ use wire::put_byte;
 use wire::word_at;
 ghost use mathlib.Core.Path.{_≡_};
 ghost use mathlib.Core.Bool.{true, false, _&&_, not};
+ghost use mathlib.Core.Option.{none};
 ghost use Prim.Native.Nat.{_+_, _*_, _≤_, _<_};
 ghost use Rattle.meaning.specs.Words.{word, words, inside};
 ghost use Rattle.meaning.specs.Tables.{ruleSet, reaches, classContext, coverContext, context, table};
@@ -21,11 +23,12 @@ ghost use Rattle.meaning.specs.Records.{setsWithin, recordsWithin};
 ghost use Rattle.meaning.specs.Fault.{lowest, faultThrough, headerFault, coversFault, contextFault, pairFault, fault, enough};
 ghost use Rattle.wire.specs.Fault.{faultOf, placeOf};
 ghost use Rattle.wire.specs.declared.Fault.the-variants.{Sound};
-ghost use Rattle.checks.specs.Seen.{Seen, SoundRules};
+ghost use Rattle.gsubgpos.specs.Marks.{Marked};
+ghost use Rattle.checks.specs.Seen.{Seen};
 ghost use Rattle.checks.specs.Crowded.{membersAt, crowds};
-ghost use Rattle.checks.specs.Parts.{faultOfPart, byGlyphFault, byClassFault, ligaturesFault, pairFields, glyphPairsFault, classPairsFault};
+ghost use Rattle.checks.specs.Parts.{faultOfPart, memberOfPart, byGlyphFault, byClassFault, ligaturesFault, pairFields, glyphPairsFault, classPairsFault};
 
-// The places that one offset leads to, and those that two lead to, where rules start: a mark for each says what was visited.
+// The places that one offset leads to, and those that two lead to, where rules and ligatures start: a mark for each says what was visited.
 const PLACES: usize = 65536;
 
 pub const RULE_PLACES: usize = 131072;
@@ -76,17 +79,17 @@ pub enum Part {
     Pairs,
 }
 
-// The lowest fault of the part at `at`, and of what it reaches. The value formats of pairs stand in the header. `rules` has marks of rules that were found sound.
-fn check_part(part: Part, src: &[u8], at: usize, rules: &mut [u8]) -> Fault
-    requires { ⌜ (at < 65536) × SoundRules part (now src) (now rules) ⌝ }
-    ensures { λ r. ⌜ (r ≡ faultOf (faultOfPart part (now (src .entry)) at)) × SoundRules part (now (src .entry)) (now (rules .exit)) ⌝ }
+// The lowest fault of the part at `at`, and of what it reaches. The value formats of pairs stand in the header. `sound` has marks of its members that were found sound.
+fn check_part(part: Part, src: &[u8], at: usize, sound: &mut [u8]) -> Fault
+    requires { ⌜ (at < 65536) × Marked (memberOfPart part (now src)) none (now sound) ⌝ }
+    ensures { λ r. ⌜ (r ≡ faultOf (faultOfPart part (now (src .entry)) at)) × Marked (memberOfPart part (now (src .entry))) none (now (sound .exit)) ⌝ }
 {
     match part {
         Part::Coverage => coverage::check(src, at),
         Part::Classes => classes::check(src, at),
-        Part::Rules => gsubgpos::check_set(false, src, at, rules),
-        Part::ChainedRules => gsubgpos::check_set(true, src, at, rules),
-        Part::Ligatures => ligature_subst::check_set(src, at),
+        Part::Rules => gsubgpos::check_set(Member::Rule, src, at, sound),
+        Part::ChainedRules => gsubgpos::check_set(Member::ChainedRule, src, at, sound),
+        Part::Ligatures => gsubgpos::check_set(Member::Ligature, src, at, sound),
         Part::Pairs => pair_pos::check_set(src, at, word_at(src, 4), word_at(src, 6)),
     }
 }
@@ -99,10 +102,10 @@ fn check_once(
     at: usize,
     low: Fault,
     marks: &mut [u8],
-    rules: &mut [u8],
+    sound: &mut [u8],
 ) -> Fault
-    requires { ⌜ (at < 65536) × Seen (faultOfPart part (now src)) low (now marks) × SoundRules part (now src) (now rules) ⌝ }
-    ensures { λ r. ⌜ (r ≡ faultOf (lowest (placeOf low) (faultOfPart part (now (src .entry)) at))) × Seen (faultOfPart part (now (src .entry))) r (now (marks .exit)) × SoundRules part (now (src .entry)) (now (rules .exit)) ⌝ }
+    requires { ⌜ (at < 65536) × Seen (faultOfPart part (now src)) low (now marks) × Marked (memberOfPart part (now src)) none (now sound) ⌝ }
+    ensures { λ r. ⌜ (r ≡ faultOf (lowest (placeOf low) (faultOfPart part (now (src .entry)) at))) × Seen (faultOfPart part (now (src .entry))) r (now (marks .exit)) × Marked (memberOfPart part (now (src .entry))) none (now (sound .exit)) ⌝ }
 {
     if byte(marks, at) != 0 {
         return low;
@@ -110,21 +113,21 @@ fn check_once(
     if found_before(low, at) {
         return low;
     }
-    let found = check_part(part, src, at, rules);
+    let found = check_part(part, src, at, sound);
     put_byte(marks, at, 1);
     lowest(low, found)
 }
 
-// The lowest fault among the parts that `n` offsets from `slot` on reach; a null offset reaches none. Where `marks` and `rules`, which have no mark yet, have a place for each that an offset can lead to, a part is checked once, however many offsets reach it.
+// The lowest fault among the parts that `n` offsets from `slot` on reach; a null offset reaches none. Where `marks` and `sound`, which have no mark yet, have a place for each that an offset can lead to, a part is checked once, however many offsets reach it.
 fn check_each(
     part: Part,
     src: &[u8],
     slot: usize,
     n: usize,
     marks: &mut [u8],
-    rules: &mut [u8],
+    sound: &mut [u8],
 ) -> Fault
-    requires { ⌜ (slot + 2 * n < 0x1_0000_0000_0000) × Seen (faultOfPart part (now src)) Sound (now marks) × SoundRules part (now src) (now rules) ⌝ }
+    requires { ⌜ (slot + 2 * n < 0x1_0000_0000_0000) × Seen (faultOfPart part (now src)) Sound (now marks) × Marked (memberOfPart part (now src)) none (now sound) ⌝ }
     ensures { λ r. ⌜ r ≡ faultOf (faultThrough (faultOfPart part (now (src .entry))) (now (src .entry)) 0 slot n) ⌝ }
 {
     let mut low = Fault::Sound;
@@ -135,7 +138,7 @@ fn check_each(
         if off == 0 {
             continue;
         }
-        low = check_once(part, src, off, low, marks, rules);
+        low = check_once(part, src, off, low, marks, sound);
     }
     low
 }
@@ -149,8 +152,8 @@ fn check_shared(part: Part, src: &[u8], slot: usize, n: usize, rounds: usize) ->
         return check_shared(part, src, slot, n, rounds - 1);
     }
     let mut marks = [0u8; PLACES];
-    let mut rules = [0u8; RULE_PLACES];
-    check_each(part, src, slot, n, &mut marks, &mut rules)
+    let mut sound = [0u8; RULE_PLACES];
+    check_each(part, src, slot, n, &mut marks, &mut sound)
 }
 
 // The same of any offsets. Marks are made only where there are many, since clearing them takes longer than most tables do.
@@ -162,8 +165,8 @@ fn check_through(part: Part, src: &[u8], slot: usize, n: usize) -> Fault
         return check_shared(part, src, slot, n, slot % 2);
     }
     let mut no_marks = [0u8; 1];
-    let mut no_rules = [0u8; 1];
-    check_each(part, src, slot, n, &mut no_marks, &mut no_rules)
+    let mut none_sound = [0u8; 1];
+    check_each(part, src, slot, n, &mut no_marks, &mut none_sound)
 }
 
 // Whether there is a set for each covered glyph, where there are `n` sets; not judged where the coverage is null or faulty.

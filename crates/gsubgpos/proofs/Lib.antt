@@ -1,2 +1,3 @@
-pub mod FoundSound
+pub mod Marks
+pub mod Members
 pub mod Within

@@ -4,23 +4,15 @@ use mathlib.Core.Path.{_≡_, refl, sym, _∙_}
 use mathlib.Core.Bool.{Bool, true, false, cond}
 use mathlib.Core.List.{List}
 use native.Mathlib.Nat.{zero-add}
-use lib.ListN.{length, getD, set}
-use lib.Seq.{getD-set-other}
+use lib.ListN.{length}
 use lib.Dec.{eqb}
-use borrow.Author.Tests.{eq-eqb, ne-eqb, eqb-true, eqb-false}
+use borrow.Author.Tests.{eq-eqb, ne-eqb}
 use Rattle.meaning.specs.Words.{word, every}
 use Rattle.meaning.specs.Tables.{rule, ruleSet, reaches, dropNull}
 use Rattle.meaning.specs.Records.{ruleWithin, setsWithin}
 use Rattle.laws.specs.EachLeft.{passes, allPass, Each, each-all, each-next, each-fails, each-end}
-use Rattle.gsubgpos.specs.Within.{Marked}
-
--- a rule that is good gets a mark
-pub marked-more : {chained : Bool} {s marks next : List ℕ} (at : ℕ) → Marked chained s marks → ruleWithin (rule chained s at) ≡ true → next ≡ set marks at 1 → Marked chained s next
-marked-more {chained} {s} {marks} {next} at k h e = record { good = λ p m. step p (eqb p at) refl (λ z. m (rw e z)) }
-  where
-    step : (p : ℕ) (b : Bool) → eqb p at ≡ b → (getD (set marks at 1) p 0 ≡ 0 → ⊥) → ruleWithin (rule chained s p) ≡ true
-    step p true q m = rw (eqb-true p at q) h
-    step p false q m = k .good p (λ z. m (getD-set-other marks at p 1 0 (eqb-false p at q) ∙ z))
+use Rattle.gsubgpos.specs.Marks.{Marked}
+use Rattle.gsubgpos.specs.Members.{goodRule}
 
 -- what an offset to a rule reaches, from what was read
 module _ (chained : Bool) (s : List ℕ) (base slot : ℕ) {off : ℕ} (e : off ≡ word s slot) where
@@ -42,7 +34,7 @@ module _ (s : List ℕ) (set : ℕ) where
 pub record InSets (chained : Bool) (s : List ℕ) (slot n : ℕ) (marks₀ marks : List ℕ) (within : Bool) (i : ℕ) : Type 0 where
   pub good : within ≡ true
   pub each : Each (every ruleWithin) (ruleSet chained s) s 0 slot n i
-  pub marked : Marked chained s marks
+  pub marked : Marked (goodRule chained s) true marks
   pub long : length marks ≡ length marks₀
 
 pub record InRules (chained : Bool) (s : List ℕ) (slot n : ℕ) (marks₀ marks : List ℕ) (within : Bool) (i set rules k : ℕ) : Type 0 where
@@ -55,7 +47,7 @@ pub record InRules (chained : Bool) (s : List ℕ) (slot n : ℕ) (marks₀ mark
   pub each : Each ruleWithin (rule chained s) s set (set + 2) rules k
 
 module _ {chained : Bool} {s : List ℕ} {slot n : ℕ} {marks₀ : List ℕ} where
-  pub sets-start : Marked chained s marks₀ → InSets chained s slot n marks₀ marks₀ true 0
+  pub sets-start : Marked (goodRule chained s) true marks₀ → InSets chained s slot n marks₀ marks₀ true 0
   sets-start m = record { good = refl; each = each-all; marked = m; long = refl }
 
   pub sets-end : {marks : List ℕ} {within : Bool} {i : ℕ} → InSets chained s slot n marks₀ marks within i → n ≤ i → within ≡ setsWithin (reaches (ruleSet chained s) s 0 slot n)
@@ -78,7 +70,7 @@ module _ {chained : Bool} {s : List ℕ} {slot n : ℕ} {marks₀ : List ℕ} wh
         step false = refl
 
     module _ {marks : List ℕ} {k : ℕ} (c : InRules chained s slot n marks₀ marks within i set rules k) where
-      pub rules-next : k < rules → {b : Bool} {next : List ℕ} → (b ≡ passes ruleWithin (rule chained s) s set (set + 2 + 2 * k)) × Marked chained s next → b ≡ true → length next ≡ length marks
+      pub rules-next : k < rules → {b : Bool} {next : List ℕ} → (b ≡ passes ruleWithin (rule chained s) s set (set + 2 + 2 * k)) × Marked (goodRule chained s) true next → b ≡ true → length next ≡ length marks
           → InRules chained s slot n marks₀ next within i set rules (k + 1)
       rules-next h e t l = record {
         sets = record { good = c .sets .good; each = c .sets .each; marked = e .1; long = l ∙ c .sets .long };

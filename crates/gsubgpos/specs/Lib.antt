@@ -1,2 +1,2 @@
-pub mod FoundSound
-pub mod Within
+pub mod Marks
+pub mod Members

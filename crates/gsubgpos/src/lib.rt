@@ -1,4 +1,5 @@
-// Sets of rules of contexts, plain and chained: checked. The work: the check looks once at the counts of each rule.
+// Sets of rules of contexts, plain and chained, and of ligatures: checked. The work: the check looks once at the counts of each member.
+use ligature_subst::check_ligature;
 use rules::check_rule;
 use rules::rule_within;
 use wire::Fault;
@@ -8,60 +9,74 @@ use wire::inside;
 use wire::lowest;
 use wire::put_byte;
 use wire::word_at;
+use wire::word_inside;
 ghost use mathlib.Core.Path.{_≡_};
-ghost use mathlib.Core.Bool.{cond};
-ghost use Prim.Native.Nat.{_+_, _*_, _<_};
+ghost use mathlib.Core.Bool.{true, cond};
+ghost use mathlib.Core.Option.{none};
+ghost use Prim.Native.Nat.{_+_, _*_, _≤_, _<_};
+ghost use lib.ListN.{length};
 ghost use lib.Dec.{eqb};
 ghost use Rattle.meaning.specs.Words.{word};
 ghost use Rattle.meaning.specs.Tables.{rule, ruleSet, reaches};
-ghost use Rattle.meaning.specs.Fault.{ruleFault, faultThrough, setFault};
+ghost use Rattle.meaning.specs.Fault.{faultThrough, setFault};
 ghost use Rattle.meaning.specs.Records.{ruleWithin, setsWithin};
 ghost use Rattle.laws.specs.EachLeft.{passes};
 ghost use Rattle.wire.specs.Fault.{faultOf};
-ghost use Rattle.gsubgpos.specs.FoundSound.{FoundSound};
-ghost use Rattle.gsubgpos.specs.Within.{Marked};
+ghost use Rattle.gsubgpos.specs.Marks.{Marked};
+ghost use Rattle.gsubgpos.specs.Members.{memberFault, goodRule};
 
-// The fault of the rule at `at`. A rule whose place has a mark was found sound before; one that is gets a mark, where `marks` has room for it.
-fn check_once(chained: bool, src: &[u8], at: usize, marks: &mut [u8]) -> Fault
-    requires { ⌜ (at < 0x100_0000_0000) × FoundSound chained (now src) (now marks) ⌝ }
-    ensures { λ r. ⌜ (r ≡ faultOf (ruleFault chained (now (src .entry)) at)) × FoundSound chained (now (src .entry)) (now (marks .exit)) ⌝ }
-{
-    if byte(marks, at) != 0 {
-        return Fault::Sound;
-    }
-    if let Fault::At(place) = check_rule(chained, src, at) {
-        return Fault::At(place);
-    }
-    put_byte(marks, at, 1);
-    Fault::Sound
+// The sorts of members that a set has.
+pub enum Member {
+    Rule,
+    ChainedRule,
+    Ligature,
 }
 
-// The lowest fault among the rules that the `n` offsets of the set at `at` reach.
-fn check_rules(chained: bool, src: &[u8], at: usize, n: usize, marks: &mut [u8]) -> Fault
-    requires { ⌜ (at < 0x80_0000_0000) × (n < 65536) × FoundSound chained (now src) (now marks) ⌝ }
-    ensures { λ r. ⌜ (r ≡ faultOf (faultThrough (ruleFault chained (now (src .entry))) (now (src .entry)) at (at + 2) n)) × FoundSound chained (now (src .entry)) (now (marks .exit)) ⌝ }
+// The fault of the member at `at`, by its sort.
+fn check_member(member: Member, src: &[u8], at: usize) -> Fault
+    requires { ⌜ at < 0x100_0000_0000 ⌝ }
+    ensures { λ r. ⌜ r ≡ faultOf (memberFault member (now (src .entry)) at) ⌝ }
+{
+    match member {
+        Member::Rule => check_rule(false, src, at),
+        Member::ChainedRule => check_rule(true, src, at),
+        Member::Ligature => check_ligature(src, at),
+    }
+}
+
+// The lowest fault among the members that the `n` offsets of the set at `at` reach, which lie inside. A member whose place has a mark was found sound before: nothing of it is read, since sets that overlap reach a member again and again. One that is sound gets a mark, where `marks` has room for it.
+fn check_members(member: Member, src: &[u8], at: usize, n: usize, marks: &mut [u8]) -> Fault
+    requires { ⌜ (at < 0x80_0000_0000) × (n < 65536) × (at + 2 + 2 * n ≤ length (now src)) × Marked (memberFault member (now src)) none (now marks) ⌝ }
+    ensures { λ r. ⌜ (r ≡ faultOf (faultThrough (memberFault member (now (src .entry))) (now (src .entry)) at (at + 2) n)) × Marked (memberFault member (now (src .entry))) none (now (marks .exit)) ⌝ }
 {
     let mut low = Fault::Sound;
     let mut i = 0;
     while i < n {
-        let offset = word_at(src, at + 2 + 2 * i);
+        let offset = word_inside(src, at + 2 + 2 * i);
         i += 1;
         if offset == 0 {
+            continue;
+        }
+        if byte(marks, at + offset) != 0 {
             continue;
         }
         if found_before(low, at + offset) {
             continue;
         }
-        low = lowest(low, check_once(chained, src, at + offset, marks));
+        let Fault::At(place) = check_member(member, src, at + offset) else {
+            put_byte(marks, at + offset, 1);
+            continue;
+        };
+        low = lowest(low, Fault::At(place));
     }
     low
 }
 
-// The fault of the set of rules at `at`: its own place if its count or its offsets do not lie inside the source, else the lowest among its rules.
-// `marks` has a mark at no place but those of rules that are sound; where it has a place for each rule each is checked once, however many sets share it.
-pub fn check_set(chained: bool, src: &[u8], at: usize, marks: &mut [u8]) -> Fault
-    requires { ⌜ (at < 0x80_0000_0000) × FoundSound chained (now src) (now marks) ⌝ }
-    ensures { λ r. ⌜ (r ≡ faultOf (setFault (ruleFault chained (now (src .entry))) (now (src .entry)) at)) × FoundSound chained (now (src .entry)) (now (marks .exit)) ⌝ }
+// The fault of the set at `at`: its own place if its count or its offsets do not lie inside the source, else the lowest among its members.
+// `marks` has a mark at no place but those of members that are sound; where it has a place for each member each is checked once, however many sets share it.
+pub fn check_set(member: Member, src: &[u8], at: usize, marks: &mut [u8]) -> Fault
+    requires { ⌜ (at < 0x80_0000_0000) × Marked (memberFault member (now src)) none (now marks) ⌝ }
+    ensures { λ r. ⌜ (r ≡ faultOf (setFault (memberFault member (now (src .entry))) (now (src .entry)) at)) × Marked (memberFault member (now (src .entry))) none (now (marks .exit)) ⌝ }
 {
     if !inside(src, at, 2) {
         return Fault::At(at);
@@ -70,7 +85,7 @@ pub fn check_set(chained: bool, src: &[u8], at: usize, marks: &mut [u8]) -> Faul
     if !inside(src, at + 2, 2 * n) {
         return Fault::At(at);
     }
-    check_rules(chained, src, at, n, marks)
+    check_members(member, src, at, n, marks)
 }
 
 // How many offsets to rules the set at `set` has; where the set's offset is null there is none.
@@ -85,8 +100,8 @@ fn rules_in(src: &[u8], set: usize) -> usize
 
 // Whether no record of the rule at `at` points past it. A rule whose place has a mark was asked before; one that is good gets a mark, where `marks` has room for it.
 fn within_once(chained: bool, src: &[u8], at: usize, marks: &mut [u8]) -> bool
-    requires { ⌜ (at < 0x100_0000_0000) × Marked chained (now src) (now marks) ⌝ }
-    ensures { λ r. ⌜ (r ≡ ruleWithin (rule chained (now (src .entry)) at)) × Marked chained (now (src .entry)) (now (marks .exit)) ⌝ }
+    requires { ⌜ (at < 0x100_0000_0000) × Marked (goodRule chained (now src)) true (now marks) ⌝ }
+    ensures { λ r. ⌜ (r ≡ ruleWithin (rule chained (now (src .entry)) at)) × Marked (goodRule chained (now (src .entry))) true (now (marks .exit)) ⌝ }
 {
     if byte(marks, at) != 0 {
         return true;
@@ -100,8 +115,8 @@ fn within_once(chained: bool, src: &[u8], at: usize, marks: &mut [u8]) -> bool
 
 // The same of the rule that the offset at `slot` reaches from `base`; a null offset reaches none.
 fn reached_within(chained: bool, src: &[u8], base: usize, slot: usize, marks: &mut [u8]) -> bool
-    requires { ⌜ (base < 65536) × Marked chained (now src) (now marks) ⌝ }
-    ensures { λ r. ⌜ (r ≡ passes ruleWithin (rule chained (now (src .entry))) (now (src .entry)) base slot) × Marked chained (now (src .entry)) (now (marks .exit)) ⌝ }
+    requires { ⌜ (base < 65536) × Marked (goodRule chained (now src)) true (now marks) ⌝ }
+    ensures { λ r. ⌜ (r ≡ passes ruleWithin (rule chained (now (src .entry))) (now (src .entry)) base slot) × Marked (goodRule chained (now (src .entry))) true (now (marks .exit)) ⌝ }
 {
     let offset = word_at(src, slot);
     if offset == 0 {
@@ -113,7 +128,7 @@ fn reached_within(chained: bool, src: &[u8], base: usize, slot: usize, marks: &m
 // Whether no record of the rules of `n` sets, whose offsets stand from `slot` on, points past its rule: both loops are left at the first that does.
 // `marks` has a mark at no place but those of rules that are good; where it is as long as the source each rule is asked once, however many sets share it.
 pub fn sets_within(chained: bool, src: &[u8], slot: usize, n: usize, marks: &mut [u8]) -> bool
-    requires { ⌜ (slot < 65536) × (n < 65536) × Marked chained (now src) (now marks) ⌝ }
+    requires { ⌜ (slot < 65536) × (n < 65536) × Marked (goodRule chained (now src)) true (now marks) ⌝ }
     ensures { λ r. ⌜ r ≡ setsWithin (reaches (ruleSet chained (now (src .entry))) (now (src .entry)) 0 slot n) ⌝ }
 {
     let mut within = true;

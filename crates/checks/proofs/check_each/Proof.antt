@@ -3,19 +3,21 @@ use mathlib.Core.Path.{_≡_, refl}
 use Prim.Native.Nat.{_-_}
 use lib.ListN.{length}
 use borrow.Author.Needs.{needs}
+use mathlib.Core.Option.{none}
+use Rattle.gsubgpos.specs.Marks.{Marked}
 use Rattle.wire.specs.Reached.{Lowest, lowest-all, lowest-null, lowest-end, still-long}
-use Rattle.checks.specs.Parts.{faultOfPart}
-use Rattle.checks.specs.Seen.{Seen, SoundRules}
+use Rattle.checks.specs.Parts.{faultOfPart, memberOfPart}
+use Rattle.checks.specs.Seen.{Seen}
 use Rattle.checks.proofs.Seen.{reached-once}
 use Rattle.checks.proofs.check_each.Statement.{statement}
 use Rattle.checks.proofs.check_each.Tie as tie
 
 abbrev Inv-loop : tie.InvT-loop
-Inv-loop part src slot n marks₀ rules₀ low₀ i₀ marks rules low i =
-    Lowest (faultOfPart part src) src 0 slot n low i × Seen (faultOfPart part src) low marks × SoundRules part src rules × (length marks ≡ length marks₀) × (length rules ≡ length rules₀)
+Inv-loop part src slot n marks₀ sound₀ low₀ i₀ marks sound low i =
+    Lowest (faultOfPart part src) src 0 slot n low i × Seen (faultOfPart part src) low marks × Marked (memberOfPart part src) none sound × (length marks ≡ length marks₀) × (length sound ≡ length sound₀)
 
 abbrev μ-loop : tie.MeasureT-loop
-μ-loop part src slot n marks₀ rules₀ low₀ i₀ marks rules low i = n - i
+μ-loop part src slot n marks₀ sound₀ low₀ i₀ marks sound low i = n - i
 
 loop-holds : tie.Need-loop-holds Inv-loop μ-loop
 loop-holds c =

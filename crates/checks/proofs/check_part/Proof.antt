@@ -1,13 +1,14 @@
 -- `checks::check_part` meets its contract: each sort's own check answers. Assumes nothing.
 use Prim.Native.Nat.{ℕ}
-use mathlib.Core.Path.{_≡_, sym, ap, _∙_}
+use mathlib.Core.Path.{_≡_, sym, ap, subst, _∙_}
+use mathlib.Core.Option.{none}
 use mathlib.Core.List.{List}
 use native.Mathlib.Omega.{arith}
 use borrow.Author.Needs.{needs}
 use Rattle.wire.specs.Fault.{faultOf}
-use Rattle.checks.specs.Parts.{faultOfPart}
+use Rattle.gsubgpos.specs.Marks.{Marked}
+use Rattle.checks.specs.Parts.{faultOfPart, memberOfPart}
 use Rattle.checks.specs.declared.Part.{Part}
-use Rattle.checks.proofs.Seen.{plain-rules, chained-rules}
 use Rattle.checks.proofs.check_part.Statement.{statement}
 use Rattle.checks.proofs.check_part.Tie as tie
 
@@ -15,15 +16,24 @@ use Rattle.checks.proofs.check_part.Tie as tie
 by-sort : (s : List ℕ) (at : ℕ) {a b : Part} → a ≡ b → faultOf (faultOfPart b s at) ≡ faultOf (faultOfPart a s at)
 by-sort s at e = ap (λ (p : Part). faultOf (faultOfPart p s at)) (sym e)
 
+-- the marks of its members
+marks-by-sort : (s : List ℕ) {marks : List ℕ} {a b : Part} → a ≡ b → Marked (memberOfPart a s) none marks → Marked (memberOfPart b s) none marks
+marks-by-sort s {marks} e h = subst (λ (p : Part). Marked (memberOfPart p s) none marks) e h
+
 check-set-requires : tie.Need-check-set-requires
 check-set-requires c κs =
     let a = c .before .before .before .before .before in
-    (omega (arith, a .pre .0), a .pre .1 .plain (c .before .enum-told3 .given .1))
+    (omega (arith, a .pre .0), marks-by-sort (a .args .src .now) (c .before .enum-told3 .given .1) (a .pre .1))
 
 check-set-requires-2 : tie.Need-check-set-requires-2
 check-set-requires-2 c κs =
     let a = c .before .before .before .before .before in
-    (omega (arith, a .pre .0), a .pre .1 .chained (c .before .enum-told4 .given .1))
+    (omega (arith, a .pre .0), marks-by-sort (a .args .src .now) (c .before .enum-told4 .given .1) (a .pre .1))
+
+check-set-requires-3 : tie.Need-check-set-requires-3
+check-set-requires-3 c κs =
+    let a = c .before .before .before .before .before in
+    (omega (arith, a .pre .0), marks-by-sort (a .args .src .now) (c .before .enum-told5 .given .1) (a .pre .1))
 
 returns : tie.Need-returns
 returns c =
@@ -40,19 +50,21 @@ returns-3 c =
     let k = c .before .before in
     let e = k .before .before in
     let a = e .before .before .before .before .args in
-    (k .check-set .ensures .0 ∙ by-sort (a .src .now) (a .at) (e .enum-told3 .given .1), plain-rules (e .enum-told3 .given .1) (k .check-set .ensures .1))
+    (k .check-set .ensures .0 ∙ by-sort (a .src .now) (a .at) (e .enum-told3 .given .1), marks-by-sort (a .src .now) (sym (e .enum-told3 .given .1)) (k .check-set .ensures .1))
 
 returns-4 : tie.Need-returns-4
 returns-4 c =
     let k = c .before .before in
     let e = k .before .before in
     let a = e .before .before .before .before .args in
-    (k .check-set2 .ensures .0 ∙ by-sort (a .src .now) (a .at) (e .enum-told4 .given .1), chained-rules (e .enum-told4 .given .1) (k .check-set2 .ensures .1))
+    (k .check-set2 .ensures .0 ∙ by-sort (a .src .now) (a .at) (e .enum-told4 .given .1), marks-by-sort (a .src .now) (sym (e .enum-told4 .given .1)) (k .check-set2 .ensures .1))
 
 returns-5 : tie.Need-returns-5
 returns-5 c =
-    let a = c .before .before .before .before .before in
-    (c .check-set3 .ensures ∙ by-sort (a .args .src .now) (a .args .at) (c .before .enum-told5 .given .1), a .pre .1)
+    let k = c .before .before in
+    let e = k .before .before in
+    let a = e .before .before .before .before .args in
+    (k .check-set3 .ensures .0 ∙ by-sort (a .src .now) (a .at) (e .enum-told5 .given .1), marks-by-sort (a .src .now) (sym (e .enum-told5 .given .1)) (k .check-set3 .ensures .1))
 
 returns-6 : tie.Need-returns-6
 returns-6 c =
@@ -73,7 +85,7 @@ check-part-spec =
     (λ c. search needs)
     check-set-requires-2
     (λ c. search needs)
-    (λ c κs. search needs)
+    check-set-requires-3
     (λ c. search needs)
     (λ c κs. search needs)
     (λ c κs. search needs)
@@ -84,5 +96,6 @@ check-part-spec =
     returns-3
     (λ c. search needs)
     returns-4
+    (λ c. search needs)
     returns-5
     returns-6)

@@ -2,14 +2,14 @@
 use mathlib.Core.Path.{sym, _∙_}
 use borrow.Author.Needs.{needs}
 use Rattle.wire.specs.Reached.{refused, passed}
-use Rattle.gsubgpos.proofs.Within.{marked-more}
+use Rattle.gsubgpos.proofs.Marks.{marked-more}
 use Rattle.gsubgpos.proofs.within_once.Statement.{statement}
 use Rattle.gsubgpos.proofs.within_once.Tie as tie
 
 returns : tie.Need-returns
 returns c =
     let a = c .before .before .before .before .before in
-    (sym (a .pre .1 .good (a .args .at) (λ z. c .if1 .taken (c .before .byte .ensures .0 ∙ z))), a .pre .1)
+    (sym (a .pre .1 .known (a .args .at) (λ z. c .if1 .taken (c .before .byte .ensures .0 ∙ z))), a .pre .1)
 
 returns-2 : tie.Need-returns-2
 returns-2 c =
