@@ -6,11 +6,13 @@
  * with its length, and nanoseconds of processor time a call (the fastest batch
  * counts), with scratch of its own and with lent scratch. Buffer and scratch
  * are lent anew for each call and not cleared. A file may be longer than a
- * label job: the calls have no limit but that of the source.
+ * label job: the calls have no limit but that of the source. Its glyph map is of
+ * pairs or of runs, as its tag says.
  *
  * Compiled with WITH_HARFBUZZ, and linked with HarfBuzz's own cut of a subtable
  * behind the functions of hbx.h, it times that too, batch by batch in turn, and
- * prints nanoseconds of it and how many times as long the calls take. */
+ * prints nanoseconds of it and how many times as long the calls take. HarfBuzz
+ * gets a map of runs spelled out in pairs, which is not timed. */
 #include <stdio.h>
 #include <stdlib.h>
 #include <string.h>
@@ -20,14 +22,14 @@
 #include "hbx.h"
 #endif
 
-enum { TRAILER = 30, ROOM = 262144 };
+enum { TRAILER = 30, ROOM = 262144, GLYPHS = 65536 };
 
-/* A job's parts, and what each way of cutting needs beside them. */
+/* A job's parts, its glyph map in pairs, and what each way of cutting needs beside them. */
 struct part { const uint8_t *at; size_t len; };
 struct job
 {
-  unsigned kind;
-  struct part source, glyphs, lookups;
+  unsigned kind, form;
+  struct part source, glyphs, lookups, pairs;
   uint8_t *out, *scratch;
 #ifdef WITH_HARFBUZZ
   hbx_t *harfbuzz;
@@ -46,14 +48,15 @@ struct way
 
 static uint64_t cut_plain (const struct job *j)
 {
-  return gillcurtain_subset (j->kind, j->source.at, j->source.len, j->glyphs.at, j->glyphs.len,
-                             j->lookups.at, j->lookups.len, j->out, ROOM);
+  return gillcurtain_subset (j->kind, j->form, GILLCURTAIN_PLAIN, j->source.at, j->source.len,
+                             j->glyphs.at, j->glyphs.len, j->lookups.at, j->lookups.len, j->out, ROOM);
 }
 
 static uint64_t cut_lent (const struct job *j)
 {
-  return gillcurtain_subset_with (j->kind, j->source.at, j->source.len, j->glyphs.at, j->glyphs.len,
-                                  j->lookups.at, j->lookups.len, j->scratch, GILLCURTAIN_SCRATCH, j->out, ROOM);
+  return gillcurtain_subset_with (j->kind, j->form, GILLCURTAIN_PLAIN, j->source.at, j->source.len,
+                                  j->glyphs.at, j->glyphs.len, j->lookups.at, j->lookups.len,
+                                  j->scratch, GILLCURTAIN_SCRATCH, j->out, ROOM);
 }
 
 #ifdef WITH_HARFBUZZ
@@ -61,7 +64,7 @@ static uint64_t cut_lent (const struct job *j)
 static uint64_t cut_harfbuzz (const struct job *j)
 {
   unsigned length;
-  hbx_maps (j->harfbuzz, j->glyphs.at, j->glyphs.len, j->lookups.at, j->lookups.len);
+  hbx_maps (j->harfbuzz, j->pairs.at, j->pairs.len, j->lookups.at, j->lookups.len);
   return hbx_subset (j->harfbuzz, j->kind, j->source.at, j->source.len, 1, j->out, ROOM, &length);
 }
 #endif
@@ -74,7 +77,8 @@ static double now (void)
   return t.tv_sec * 1e9 + t.tv_nsec;
 }
 
-static size_t u32 (const uint8_t *p) { return (size_t) p[0] << 24 | p[1] << 16 | p[2] << 8 | p[3]; }
+static unsigned u16 (const uint8_t *p) { return p[0] << 8 | p[1]; }
+static size_t u32 (const uint8_t *p) { return (size_t) u16 (p) << 16 | u16 (p + 2); }
 
 /* The part of the file that a field of the trailer names; whether it lies inside. */
 static int part_at (const uint8_t *file, size_t len, const uint8_t *field, struct part *part)
@@ -105,12 +109,36 @@ static uint8_t *read_file (const char *name, size_t *len)
   return bytes;
 }
 
+/* The form that a file's tag stands for; 0 if it has none. */
+static unsigned form_of (const uint8_t *file, size_t len)
+{
+  if (len < TRAILER) return 0;
+  if (!memcmp (file + len - 4, "LSJ1", 4)) return GILLCURTAIN_PAIRS;
+  return memcmp (file + len - 4, "LSJ2", 4) ? 0 : GILLCURTAIN_RUNS;
+}
+
+/* The runs of a map spelled out, as far as there is room for a good map. */
+static struct part spelled_out (struct part runs)
+{
+  static uint8_t pairs[GILLCURTAIN_PAIRS * GLYPHS];
+  struct part out = { pairs, 0 };
+  for (const uint8_t *run = runs.at; runs.at + runs.len - run >= GILLCURTAIN_RUNS; run += GILLCURTAIN_RUNS)
+    for (unsigned i = 0; i < u16 (run + 4) && out.len < sizeof pairs; i++, out.len += GILLCURTAIN_PAIRS)
+    {
+      uint8_t *pair = pairs + out.len;
+      unsigned old = u16 (run) + i, new = u16 (run + 2) + i;
+      pair[0] = old >> 8, pair[1] = old, pair[2] = new >> 8, pair[3] = new;
+    }
+  return out;
+}
+
 /* The job that a file holds; whether it is one. */
 static int read_job (const uint8_t *file, size_t len, struct job *j)
 {
-  if (len < TRAILER || memcmp (file + len - 4, "LSJ1", 4)) return 0;
+  j->form = form_of (file, len);
+  if (!j->form) return 0;
   const uint8_t *t = file + len - TRAILER;
-  j->kind = t[0] << 8 | t[1];
+  j->kind = u16 (t);
   return part_at (file, len - TRAILER, t + 2, &j->source) && part_at (file, len - TRAILER, t + 10, &j->glyphs)
          && part_at (file, len - TRAILER, t + 18, &j->lookups);
 }
@@ -162,12 +190,13 @@ int main (int argc, char **argv)
     size_t len;
     uint8_t *file = read_file (argv[a], &len);
     if (!read_job (file, len, &job)) { printf ("%s\tfaulty\n", name); free (file); continue; }
+    job.pairs = job.form == GILLCURTAIN_RUNS ? spelled_out (job.glyphs) : job.glyphs;
 #ifdef WITH_HARFBUZZ
     job.harfbuzz = hbx_new (1);
 #endif
     time_job (ways, n, &job, atof (argv[1]) * 1e6);
     if (ways[0].result != ways[1].result) { printf ("%s\tthe two calls differ\n", name); return 1; }
-    printf ("%s\t%u\t%zu\t%zu\t%u\t%zu", name, job.kind, job.source.len, job.glyphs.len / 4,
+    printf ("%s\t%u\t%zu\t%zu\t%u\t%zu", name, job.kind, job.source.len, job.pairs.len / GILLCURTAIN_PAIRS,
             gillcurtain_number (ways[0].result), gillcurtain_length (ways[0].result));
     for (unsigned w = 0; w < n; w++) printf ("\t%.0f", ways[w].best);
     for (unsigned w = 0; w < 2 && 2 < n; w++) printf ("\t%.2f", ways[w].best / ways[2].best);

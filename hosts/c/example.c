@@ -1,7 +1,8 @@
 /* Cuts the first worked example, P1, and says in words what came back: a
- * context by glyph with three rules, of which the maps leave two. Then replays
- * three recorded runs over one lookup, after asking what that may cost. Last,
- * lists what differs between P1 and what is kept of it. */
+ * context by glyph with three rules, of which the maps leave two. Cuts it again
+ * with the glyph map as runs, and a context that covers a long run of glyphs.
+ * Then replays three recorded runs over one lookup, after asking what that may
+ * cost. Last, lists what differs between P1 and what is kept of it. */
 #include <stdio.h>
 #include <stdlib.h>
 #include "gillcurtain.h"
@@ -16,11 +17,14 @@ static const uint8_t source[] = {
   0, 1, 0, 2, 0, 3, 0, 5                        /* the coverage: 3 5 */
 };
 static const uint8_t glyphs[] = { 0, 3, 0, 1, 0, 5, 0, 2, 0, 9, 0, 3 };  /* 3:1 5:2 9:3 */
+static const uint8_t runs[] = { 0, 3, 0, 1, 0, 1, 0, 5, 0, 2, 0, 1, 0, 9, 0, 3, 0, 1 };  /* the same, a glyph a run */
 static const uint8_t lookups[] = { 0, 4, 0, 0, 0, 7, 0, 2 };             /* 4:0 7:2 */
 
 static const char *const meaning[] = {
   [GILLCURTAIN_KEPT] = "kept",
   [GILLCURTAIN_BAD_KIND] = "the kind is none of 1 to 5",
+  [GILLCURTAIN_BAD_FORM] = "the glyph map is neither of pairs nor of runs",
+  [GILLCURTAIN_BAD_LAYOUT] = "the layout is not the plain one",
   [GILLCURTAIN_BAD_GLYPHS] = "the glyph map is not good",
   [GILLCURTAIN_BAD_LOOKUPS] = "the lookup map is not good",
   [GILLCURTAIN_LONG_SOURCE] = "the source is over 262,144 bytes",
@@ -47,9 +51,18 @@ static void say (size_t length, size_t room, const char *how, uint64_t result)
 /* Cuts the first so many bytes of P1 into so many bytes of `out`. */
 static uint64_t cut (size_t length, uint8_t *out, size_t room)
 {
-  uint64_t result = gillcurtain_subset (GILLCURTAIN_CONTEXT, source, length, glyphs, sizeof glyphs,
-                                        lookups, sizeof lookups, out, room);
+  uint64_t result = gillcurtain_subset (GILLCURTAIN_CONTEXT, GILLCURTAIN_PAIRS, GILLCURTAIN_PLAIN, source, length,
+                                        glyphs, sizeof glyphs, lookups, sizeof lookups, out, room);
   say (length, room, "", result);
+  return result;
+}
+
+/* Cuts P1 with the glyph map as runs. */
+static uint64_t cut_by_runs (uint8_t *out, size_t room)
+{
+  uint64_t result = gillcurtain_subset (GILLCURTAIN_CONTEXT, GILLCURTAIN_RUNS, GILLCURTAIN_PLAIN, source, sizeof source,
+                                        runs, sizeof runs, lookups, sizeof lookups, out, room);
+  say (sizeof source, room, " with the map as runs", result);
   return result;
 }
 
@@ -58,8 +71,9 @@ static uint64_t cut_with_scratch (uint8_t *out, size_t room)
 {
   void *scratch = malloc (GILLCURTAIN_SCRATCH);
   if (!scratch) return 0;
-  uint64_t result = gillcurtain_subset_with (GILLCURTAIN_CONTEXT, source, sizeof source, glyphs, sizeof glyphs,
-                                             lookups, sizeof lookups, scratch, GILLCURTAIN_SCRATCH, out, room);
+  uint64_t result = gillcurtain_subset_with (GILLCURTAIN_CONTEXT, GILLCURTAIN_PAIRS, GILLCURTAIN_PLAIN,
+                                             source, sizeof source, glyphs, sizeof glyphs, lookups, sizeof lookups,
+                                             scratch, GILLCURTAIN_SCRATCH, out, room);
   say (sizeof source, room, " with lent scratch", result);
   free (scratch);
   return result;
@@ -68,6 +82,21 @@ static uint64_t cut_with_scratch (uint8_t *out, size_t room)
 static void print (const uint8_t *bytes, size_t n)
 {
   for (size_t i = 0; i < n; i++) printf ("%02x%s", bytes[i], i % 16 == 15 || i + 1 == n ? "\n" : "");
+}
+
+/* Glyphs 1000 to 1999 become 0 to 999: one run. Of the covered glyphs 990 to 1009 ten are retained. */
+static const uint8_t wide[] = { 0, 3, 0, 1, 0, 0, 0, 8, 0, 2, 0, 1, 3, 222, 3, 241, 0, 0 };
+static const uint8_t thousand[] = { 3, 232, 0, 0, 3, 232 };
+
+static int cut_wide (uint8_t *out, size_t room)
+{
+  uint64_t result = gillcurtain_subset (GILLCURTAIN_CONTEXT, GILLCURTAIN_RUNS, GILLCURTAIN_PLAIN, wide, sizeof wide,
+                                        thousand, sizeof thousand, NULL, 0, out, room);
+  unsigned number = gillcurtain_number (result);
+  printf ("a run of 1000 glyphs, in %zu bytes: answer %u, %s\n", sizeof thousand, number, meaning[number]);
+  if (number != GILLCURTAIN_KEPT) return 0;
+  print (out, gillcurtain_length (result));
+  return 1;
 }
 
 /* One lookup, kind 5, which puts glyph 6 for glyph 5; of the three runs the last was not recorded so. */
@@ -126,5 +155,9 @@ int main (void)
   result = cut_with_scratch (out, sizeof out);
   if (gillcurtain_number (result) != GILLCURTAIN_KEPT) return 1;
   print (out, gillcurtain_length (result));
-  return replay () && differ (out, gillcurtain_length (result)) ? 0 : 1;
+  result = cut_by_runs (out, sizeof out);
+  if (gillcurtain_number (result) != GILLCURTAIN_KEPT) return 1;
+  print (out, gillcurtain_length (result));
+  uint8_t small[sizeof wide];
+  return cut_wide (small, sizeof small) && replay () && differ (out, gillcurtain_length (result)) ? 0 : 1;
 }

@@ -43,7 +43,18 @@ enum gillcurtain_kind {
   GILLCURTAIN_SINGLE = 5        /* single substitution */
 };
 
-/* The answers. Where several apply, the first of 1 to 7, 12, 8, 9, 10 is given, in that order. */
+/* The forms of a glyph map, by the bytes of an entry. */
+enum gillcurtain_form {
+  GILLCURTAIN_PAIRS = 4,        /* the old number and the new one */
+  GILLCURTAIN_RUNS = 6          /* first old number, first new number and count: so many pairs in step */
+};
+
+/* The layouts of what is kept. */
+enum gillcurtain_layout {
+  GILLCURTAIN_PLAIN = 0         /* no part is shared */
+};
+
+/* The answers. Where several apply, the first of 1, 13, 14, 2 to 7, 12, 8, 9, 10 is given, in that order. */
 enum gillcurtain_answer {
   GILLCURTAIN_KEPT = 0,         /* the length is that of the small subtable */
   GILLCURTAIN_BAD_KIND = 1,
@@ -56,7 +67,9 @@ enum gillcurtain_answer {
   GILLCURTAIN_NOTHING = 8,      /* nothing survives */
   GILLCURTAIN_TOO_BIG = 9,      /* it would be over 262,144 bytes, or an offset or a count over 65,535 */
   GILLCURTAIN_NO_ROOM = 10,     /* `out` is too short; the length is what is needed */
-  GILLCURTAIN_PAST_RULE = 12    /* a record's sequence index is not below its rule's input count */
+  GILLCURTAIN_PAST_RULE = 12,   /* a record's sequence index is not below its rule's input count */
+  GILLCURTAIN_BAD_FORM = 13,    /* no form of a glyph map has this mark */
+  GILLCURTAIN_BAD_LAYOUT = 14   /* no layout has this mark */
 };
 
 /* The stack, in bytes, that a call may use at most: 3.5 MiB. hosts/c/limits.c
@@ -72,12 +85,16 @@ enum gillcurtain_answer {
 #define GILLCURTAIN_AREA 655360u
 #define GILLCURTAIN_SCRATCH (4u * GILLCURTAIN_CELLS + GILLCURTAIN_AREA)
 
-/* Cuts `source`, a subtable of this kind. `glyphs` and `lookups` are maps:
- * entries of four bytes, the old number and the new one, both big-endian, with
- * the old numbers ascending, and in `glyphs` the new ones too.
- * The small subtable is written to the front of `out`; bytes after it keep
- * what they held, and a refusal writes nothing.
- * The result is the answer times 2^32, plus the length, which is 0 with every
+/* Cuts `source`, a subtable of this kind. `glyphs` and `lookups` are maps, of
+ * numbers of two bytes, big-endian. An entry of `lookups` has four bytes, the
+ * old number and the new one, with the old numbers ascending. `glyphs` is of the
+ * same pairs, or of runs, as `form` says, and in it the new numbers ascend too.
+ * A run has a count other than 0, goes to 65,535 at most in both columns, and
+ * starts in both after the run before it has ended; all 65,536 glyphs take two.
+ * A map gives the same bytes in either form.
+ * The small subtable is written to the front of `out`, in this layout; bytes
+ * after it keep what they held, and a refusal writes nothing.
+ * The result is the answer times 2^56, plus the length, which is 0 with every
  * refusal but two: with GILLCURTAIN_NO_ROOM it is what is needed, and with
  * GILLCURTAIN_MALFORMED it is the place of the fault, in bytes from the
  * source's start. Parts are the header (place 0), sets, rules, ligatures, pair
@@ -85,16 +102,19 @@ enum gillcurtain_answer {
  * parts that are faulty by their own bytes. It lies past the source's end, at
  * most at 131,070, where an offset points outside. `tools/job show --kind K
  * SOURCE` names the part and says what is wrong with it. */
-uint64_t gillcurtain_subset (uint64_t kind,
+uint64_t gillcurtain_subset (uint64_t kind, uint64_t form, uint64_t layout,
                              const uint8_t *source, size_t source_len,
                              const uint8_t *glyphs, size_t glyphs_len,
                              const uint8_t *lookups, size_t lookups_len,
                              uint8_t *out, size_t out_len);
 
+static inline unsigned gillcurtain_number (uint64_t result) { return (unsigned) (result >> 56); }
+static inline size_t gillcurtain_length (uint64_t result) { return (size_t) (result & 0xFFFFFFFFFFFFFFu); }
+
 /* The same with lent scratch in its two parts, of any lengths and whatever they
  * hold. A call for which they are too short makes scratch of its own on the
  * stack, as gillcurtain_subset does. What they hold afterwards says nothing. */
-uint64_t gillcurtain_subset_in (uint64_t kind,
+uint64_t gillcurtain_subset_in (uint64_t kind, uint64_t form, uint64_t layout,
                                 const uint8_t *source, size_t source_len,
                                 const uint8_t *glyphs, size_t glyphs_len,
                                 const uint8_t *lookups, size_t lookups_len,
@@ -105,7 +125,7 @@ uint64_t gillcurtain_subset_in (uint64_t kind,
 /* The same with one piece of scratch, of any length and alignment. Of a piece
  * that is shorter than GILLCURTAIN_SCRATCH half is area, as long as that is no
  * more than GILLCURTAIN_AREA. */
-static inline uint64_t gillcurtain_subset_with (uint64_t kind,
+static inline uint64_t gillcurtain_subset_with (uint64_t kind, uint64_t form, uint64_t layout,
                                                 const uint8_t *source, size_t source_len,
                                                 const uint8_t *glyphs, size_t glyphs_len,
                                                 const uint8_t *lookups, size_t lookups_len,
@@ -118,7 +138,7 @@ static inline uint64_t gillcurtain_subset_with (uint64_t kind,
   size_t area_len = left / 2 < GILLCURTAIN_AREA ? left / 2 : GILLCURTAIN_AREA;
   size_t cells_len = (left - area_len) / 4;
   uint8_t *start = (uint8_t *) scratch + skipped;
-  return gillcurtain_subset_in (kind, source, source_len, glyphs, glyphs_len, lookups, lookups_len,
+  return gillcurtain_subset_in (kind, form, layout, source, source_len, glyphs, glyphs_len, lookups, lookups_len,
                                 (uint32_t *) (void *) start, cells_len, start + 4 * cells_len, area_len, out, out_len);
 }
 
@@ -168,8 +188,8 @@ uint64_t gillcurtain_replay_cost (const uint8_t *list, size_t list_len,
                                   const uint8_t *buffer, size_t buffer_len,
                                   uint8_t *steps, size_t steps_len);
 
-static inline unsigned gillcurtain_replay_number (uint64_t result) { return (unsigned) (result >> 56); }
-static inline uint64_t gillcurtain_replay_place (uint64_t result) { return result & 0xFFFFFFFFFFFFFFu; }
+static inline unsigned gillcurtain_replay_number (uint64_t result) { return gillcurtain_number (result); }
+static inline uint64_t gillcurtain_replay_place (uint64_t result) { return gillcurtain_length (result); }
 
 /* A number of a tally: 0 runs, 1 agreements, 2 the first run that disagrees. */
 static inline uint64_t gillcurtain_tallied (const uint8_t *tally, unsigned which)
@@ -261,8 +281,8 @@ static inline uint64_t gillcurtain_compare_with (uint64_t kind,
                                  links, GILLCURTAIN_COMPARE_LINKS, out, out_len);
 }
 
-static inline unsigned gillcurtain_compare_number (uint64_t result) { return (unsigned) (result >> 56); }
-static inline uint64_t gillcurtain_compare_length (uint64_t result) { return result & 0xFFFFFFFFFFFFFFu; }
+static inline unsigned gillcurtain_compare_number (uint64_t result) { return gillcurtain_number (result); }
+static inline uint64_t gillcurtain_compare_length (uint64_t result) { return gillcurtain_length (result); }
 
 /* The i-th entry of a list, from 0. */
 static inline struct gillcurtain_difference gillcurtain_difference_at (const uint8_t *list, size_t i)
@@ -273,9 +293,6 @@ static inline struct gillcurtain_difference gillcurtain_difference_at (const uin
   struct gillcurtain_difference d = { w[0], w[1], w[2], w[3], w[4], w[5] };
   return d;
 }
-
-static inline unsigned gillcurtain_number (uint64_t result) { return (unsigned) (result >> 32); }
-static inline size_t gillcurtain_length (uint64_t result) { return (size_t) (result & 0xFFFFFFFFu); }
 
 #ifdef __cplusplus
 }

@@ -1,9 +1,10 @@
 /* Holds the calls to what gillcurtain.h says of pointers and of the stack.
  *
- * Each part in turn is empty and its pointer null. Then tables of each kind,
- * among them a chained context by class whose classes share their rules, are
- * cut under the longest map, with scratch of the call's own, with lent scratch
- * and with too little of it, and compared with themselves. Each call runs on as
+ * Each part in turn is empty and its pointer null; marks differ from good ones
+ * by 2^32. Then tables of each kind, among them a chained context by class whose
+ * classes share their rules, are cut under maps of all glyphs, as pairs, as two
+ * runs and as runs of one, and compared with themselves, with scratch of the
+ * call's own, with lent scratch and with too little of it. Each call runs on as
  * much stack as the header says, above pages that nobody may touch, which was
  * filled before; the most that was used of it is printed. */
 #define _GNU_SOURCE
@@ -34,25 +35,24 @@ static const uint8_t lookup[] = { 0, 0, 0, 0 };
 enum { SLOTS = 300, BEFORE_SLOTS = 12, SHIFT = 2 * (SLOTS - 2) };
 static uint8_t shared[1024];
 static const uint8_t lookups[] = { 0, 0, 0, 0, 0, 1, 0, 1, 0, 2, 0, 2, 0, 3, 0, 3 };
-static uint8_t glyphs[4 * GLYPHS];
+
+/* All glyphs keep their numbers: as pairs, in as few runs as they take, and in as many. */
+static uint8_t pairs_of_all[GILLCURTAIN_PAIRS * GLYPHS], runs_of_one[GILLCURTAIN_RUNS * GLYPHS];
+static const uint8_t two_runs[] = { 0, 0, 0, 0, 255, 255, 255, 255, 255, 255, 0, 1 };
+static const struct { unsigned form; const uint8_t *at; size_t len; } maps[] = {
+  { GILLCURTAIN_PAIRS, pairs_of_all, sizeof pairs_of_all },
+  { GILLCURTAIN_RUNS, two_runs, sizeof two_runs },
+  { GILLCURTAIN_RUNS, runs_of_one, sizeof runs_of_one }
+};
+enum { MAPS = sizeof maps / sizeof *maps };
 
 static int faults;
 
-static void expect_answer (const char *what, unsigned given, size_t given_length, unsigned number, size_t length)
-{
-  if (given == number && given_length == length) return;
-  printf ("%s: answer %u, length %zu\n", what, given, given_length);
-  faults++;
-}
-
 static void expect (const char *what, uint64_t result, unsigned number, size_t length)
 {
-  expect_answer (what, gillcurtain_number (result), gillcurtain_length (result), number, length);
-}
-
-static void expect_compared (const char *what, uint64_t result, unsigned number, size_t length)
-{
-  expect_answer (what, gillcurtain_compare_number (result), gillcurtain_compare_length (result), number, length);
+  if (gillcurtain_number (result) == number && gillcurtain_length (result) == length) return;
+  printf ("%s: answer %u, length %zu\n", what, gillcurtain_number (result), gillcurtain_length (result));
+  faults++;
 }
 
 static void word (uint8_t *at, unsigned w) { at[0] = w >> 8; at[1] = w & 255; }
@@ -69,21 +69,55 @@ static void share (void)
     word (shared + BEFORE_SLOTS + 2 * i, set);
 }
 
+static void fill_maps (void)
+{
+  for (unsigned i = 0; i < GLYPHS; i++)
+  {
+    uint8_t *pair = pairs_of_all + GILLCURTAIN_PAIRS * i, *run = runs_of_one + GILLCURTAIN_RUNS * i;
+    word (pair, i);
+    word (pair + 2, i);
+    memcpy (run, pair, GILLCURTAIN_PAIRS);
+    word (run + GILLCURTAIN_PAIRS, 1);
+  }
+}
+
+/* A part: where it starts, and how long it is. */
+struct part { const uint8_t *at; size_t len; };
+
+/* The chained context, cut in the plain layout into so many bytes of `out`, with the glyph map in a form. */
+static uint64_t chained (unsigned form, struct part from, struct part map, struct part kept, uint8_t *out, size_t room)
+{
+  return gillcurtain_subset (GILLCURTAIN_CHAINED, form, GILLCURTAIN_PLAIN, from.at, from.len, map.at, map.len,
+                             kept.at, kept.len, out, room);
+}
+
 static void empty_parts (void)
 {
+  const struct part none = { NULL, 0 }, whole = { source, sizeof source }, pair = { pairs_of_all, 8 },
+                    run = { two_runs, 6 }, one = { lookup, sizeof lookup };
   uint8_t out[KEPT];
-  expect ("no source", gillcurtain_subset (GILLCURTAIN_CHAINED, NULL, 0, glyphs, 8, lookup, 4, out, KEPT),
+  expect ("no source", chained (GILLCURTAIN_PAIRS, none, pair, one, out, KEPT), GILLCURTAIN_MALFORMED, 0);
+  expect ("no pair", chained (GILLCURTAIN_PAIRS, whole, none, one, out, KEPT), GILLCURTAIN_NOTHING, 0);
+  expect ("no run", chained (GILLCURTAIN_RUNS, whole, none, one, out, KEPT), GILLCURTAIN_NOTHING, 0);
+  expect ("no lookup", chained (GILLCURTAIN_PAIRS, whole, pair, none, out, KEPT), GILLCURTAIN_KEPT, KEPT - RECORD);
+  expect ("no room", chained (GILLCURTAIN_RUNS, whole, run, one, NULL, 0), GILLCURTAIN_NO_ROOM, KEPT);
+  expect ("no left", gillcurtain_compare (GILLCURTAIN_CHAINED, NULL, 0, source, sizeof source, out, KEPT),
           GILLCURTAIN_MALFORMED, 0);
-  expect ("no glyph", gillcurtain_subset (GILLCURTAIN_CHAINED, source, sizeof source, NULL, 0, lookup, 4, out, KEPT),
-          GILLCURTAIN_NOTHING, 0);
-  expect ("no lookup", gillcurtain_subset (GILLCURTAIN_CHAINED, source, sizeof source, glyphs, 8, NULL, 0, out, KEPT),
-          GILLCURTAIN_KEPT, KEPT - RECORD);
-  expect ("no room", gillcurtain_subset (GILLCURTAIN_CHAINED, source, sizeof source, glyphs, 8, lookup, 4, NULL, 0),
-          GILLCURTAIN_NO_ROOM, KEPT);
-  expect_compared ("no left", gillcurtain_compare (GILLCURTAIN_CHAINED, NULL, 0, source, sizeof source, out, KEPT),
-                   GILLCURTAIN_MALFORMED, 0);
-  expect_compared ("no list", gillcurtain_compare (GILLCURTAIN_CHAINED, source, sizeof source, source, sizeof source, NULL, 0),
-                   GILLCURTAIN_KEPT, 0);
+  expect ("no list", gillcurtain_compare (GILLCURTAIN_CHAINED, source, sizeof source, source, sizeof source, NULL, 0),
+          GILLCURTAIN_KEPT, 0);
+}
+
+/* Marks are numbers of 64 bits, and each of them counts. */
+static void bad_marks (void)
+{
+  const uint64_t high = (uint64_t) 1 << 32;
+  uint8_t out[KEPT];
+  expect ("a kind", gillcurtain_subset (high + GILLCURTAIN_CHAINED, 0, 1, source, sizeof source,
+                                        lookup, 1, lookup, sizeof lookup, out, KEPT), GILLCURTAIN_BAD_KIND, 0);
+  expect ("a form", gillcurtain_subset (GILLCURTAIN_CHAINED, high + GILLCURTAIN_PAIRS, high, source, sizeof source,
+                                        lookup, 1, lookup, sizeof lookup, out, KEPT), GILLCURTAIN_BAD_FORM, 0);
+  expect ("a layout", gillcurtain_subset (GILLCURTAIN_CHAINED, GILLCURTAIN_RUNS, high, source, sizeof source,
+                                          lookup, 1, lookup, sizeof lookup, out, KEPT), GILLCURTAIN_BAD_LAYOUT, 0);
 }
 
 /* Tables that say little, for calls that go deep since the map is long. */
@@ -108,32 +142,40 @@ static const struct { const char *name; unsigned kind; const uint8_t *at; size_t
 };
 enum { DEEP = sizeof deep / sizeof *deep };
 
-/* A way of calling: with so much lent scratch, or none of it, and on so much stack. */
+struct run;
+
+/* A way of calling: under the first so many maps, with so much lent scratch, or none of it, and on so much stack. */
 struct way {
   const char *name;
-  void (*call) (const struct way *way, unsigned which, uint8_t *out);
+  void (*call) (const struct run *run, uint8_t *out);
+  unsigned maps;
   uint8_t *scratch;
   size_t scratch_len, most;
 };
 
-/* A call on a stack that begins at `stack`, and what it used of it. */
-struct run { const struct way *way; unsigned which; uint8_t *stack; size_t used; };
+/* A call, of which table and under which map, on a stack that begins at `stack`, and what it used of it. */
+struct run { const struct way *way; unsigned which, map; uint8_t *stack; size_t used; };
 
-static void cut (const struct way *way, unsigned which, uint8_t *out)
+static void cut (const struct run *run, uint8_t *out)
 {
+  const struct way *way = run->way;
+  unsigned which = run->which, map = run->map;
   uint64_t result = way->scratch
-    ? gillcurtain_subset_with (deep[which].kind, deep[which].at, deep[which].len, glyphs, sizeof glyphs,
-                               lookups, sizeof lookups, way->scratch, way->scratch_len, out, KEPT)
-    : gillcurtain_subset (deep[which].kind, deep[which].at, deep[which].len, glyphs, sizeof glyphs,
-                          lookups, sizeof lookups, out, KEPT);
+    ? gillcurtain_subset_with (deep[which].kind, maps[map].form, GILLCURTAIN_PLAIN, deep[which].at, deep[which].len,
+                               maps[map].at, maps[map].len, lookups, sizeof lookups,
+                               way->scratch, way->scratch_len, out, KEPT)
+    : gillcurtain_subset (deep[which].kind, maps[map].form, GILLCURTAIN_PLAIN, deep[which].at, deep[which].len,
+                          maps[map].at, maps[map].len, lookups, sizeof lookups, out, KEPT);
   expect (deep[which].name, result, GILLCURTAIN_KEPT, deep[which].kept);
 }
 
-static void compare (const struct way *way, unsigned which, uint8_t *out)
+static void compare (const struct run *run, uint8_t *out)
 {
+  const struct way *way = run->way;
+  unsigned which = run->which;
   uint64_t result = gillcurtain_compare_with (deep[which].kind, deep[which].at, deep[which].len, deep[which].at,
                                               deep[which].len, way->scratch, way->scratch_len, out, KEPT);
-  expect_compared (deep[which].name, result, deep[which].compared, 0);
+  expect (deep[which].name, result, deep[which].compared, 0);
 }
 
 /* The call on what is left of the stack here, cut down to what it may use and the rest of a page. */
@@ -145,17 +187,17 @@ static void *on_stack (void *given)
   size_t below = (size_t) (here - run->stack - run->way->most) / PAGE * PAGE;
   uint8_t *low = run->stack + below;
   if (mprotect (run->stack, below, PROT_NONE)) { perror ("mprotect"); faults++; return NULL; }
-  run->way->call (run->way, run->which, out);
+  run->way->call (run, out);
   while (*low == FILL) low++;
   run->used = (size_t) (here - low);
   return NULL;
 }
 
 /* How much stack the call used, in a thread whose stack was filled before. */
-static size_t stack_used (const struct way *way, unsigned which)
+static size_t stack_used (const struct way *way, unsigned which, unsigned map)
 {
   size_t size = way->most + MORE;
-  struct run run = { way, which, mmap (NULL, size, PROT_READ | PROT_WRITE, MAP_PRIVATE | MAP_ANONYMOUS, -1, 0), 0 };
+  struct run run = { way, which, map, mmap (NULL, size, PROT_READ | PROT_WRITE, MAP_PRIVATE | MAP_ANONYMOUS, -1, 0), 0 };
   pthread_t thread;
   pthread_attr_t attr;
   if (run.stack == MAP_FAILED) { perror ("mmap"); exit (1); }
@@ -172,9 +214,9 @@ static size_t stack_used (const struct way *way, unsigned which)
 static int holds (const struct way *way)
 {
   size_t most = 0;
-  for (unsigned which = 0; which < DEEP; which++)
+  for (unsigned each = 0; each < DEEP * way->maps; each++)
   {
-    size_t used = stack_used (way, which);
+    size_t used = stack_used (way, each / way->maps, each % way->maps);
     if (most < used) most = used;
   }
   printf ("%s: %zu of %zu bytes of stack used\n", way->name, most, way->most);
@@ -187,17 +229,17 @@ int main (void)
   static uint32_t compare_scratch[GILLCURTAIN_COMPARE_CELLS];
   uint8_t *lent = (uint8_t *) compare_scratch;
   const struct way ways[] = {
-    { "own scratch", cut, NULL, 0, GILLCURTAIN_STACK },
-    { "lent scratch", cut, scratch, sizeof scratch, GILLCURTAIN_LITTLE_STACK },
-    { "too little scratch", cut, scratch, 64, GILLCURTAIN_STACK },
-    { "compared, own scratch", compare, NULL, 0, GILLCURTAIN_COMPARE_STACK },
-    { "compared, lent scratch", compare, lent, sizeof compare_scratch, GILLCURTAIN_LITTLE_STACK },
-    { "compared, too little scratch", compare, lent, sizeof compare_scratch - 4, GILLCURTAIN_COMPARE_STACK }
+    { "own scratch", cut, MAPS, NULL, 0, GILLCURTAIN_STACK },
+    { "lent scratch", cut, MAPS, scratch, sizeof scratch, GILLCURTAIN_LITTLE_STACK },
+    { "too little scratch", cut, MAPS, scratch, 64, GILLCURTAIN_STACK },
+    { "compared, own scratch", compare, 1, NULL, 0, GILLCURTAIN_COMPARE_STACK },
+    { "compared, lent scratch", compare, 1, lent, sizeof compare_scratch, GILLCURTAIN_LITTLE_STACK },
+    { "compared, too little scratch", compare, 1, lent, sizeof compare_scratch - 4, GILLCURTAIN_COMPARE_STACK }
   };
   int good = 1;
-  for (unsigned i = 0; i < GLYPHS; i++)
-    glyphs[4 * i] = glyphs[4 * i + 2] = i >> 8, glyphs[4 * i + 1] = glyphs[4 * i + 3] = i & 255;
+  fill_maps ();
   empty_parts ();
+  bad_marks ();
   share ();
   for (unsigned w = 0; w < sizeof ways / sizeof *ways; w++)
     good &= holds (&ways[w]);

@@ -1,7 +1,7 @@
 /* Holds the call with lent scratch to the call without: the same answer and the
  * same buffer, for one piece of scratch of many lengths and of each alignment,
- * from none to more than enough, whatever it holds; and nothing beside the
- * piece is written. */
+ * from none to more than enough, whatever it holds, and for glyph maps of pairs
+ * and of runs; and nothing beside the piece is written. */
 #include <stdio.h>
 #include <stdlib.h>
 #include <string.h>
@@ -45,17 +45,24 @@ static const size_t lengths[] = {
   GILLCURTAIN_SCRATCH, GILLCURTAIN_SCRATCH + 1001
 };
 static const uint8_t lookups[] = { 0, 0, 0, 5 };
-static uint8_t glyphs[4 * GLYPHS];
 
-/* The map of the glyphs 1 to `n` to one more each; its length. */
-static size_t one_more (size_t n)
+/* A glyph map in a form, by its name. */
+struct map { const char *name; unsigned form; size_t len; uint8_t at[4 * GLYPHS]; };
+
+static void word (uint8_t *at, size_t w) { at[0] = w >> 8; at[1] = w & 255; }
+
+/* The map of the glyphs 1 to `n` to one more each, in pairs or in runs of up to seven. */
+static void one_more (struct map *map, unsigned form, size_t n)
 {
-  for (size_t i = 0; i < n; i++)
+  size_t step = form == GILLCURTAIN_RUNS ? 7 : 1;
+  map->name = form == GILLCURTAIN_RUNS ? "runs" : "pairs", map->form = form, map->len = 0;
+  for (size_t i = 0; i < n; i += step, map->len += form)
   {
-    uint8_t *entry = glyphs + 4 * i;
-    entry[0] = (i + 1) >> 8, entry[1] = (i + 1) & 255, entry[2] = (i + 2) >> 8, entry[3] = (i + 2) & 255;
+    uint8_t *entry = map->at + map->len;
+    word (entry, i + 1);
+    word (entry + 2, i + 2);
+    if (form == GILLCURTAIN_RUNS) word (entry + 4, n - i < step ? n - i : step);
   }
-  return 4 * n;
 }
 
 /* Whether bytes are all as they were filled. */
@@ -66,40 +73,54 @@ static int filled (const uint8_t *at, size_t n)
 }
 
 /* Whether the call with the piece of scratch answers as the one without, into a buffer of `room` bytes. */
-static int same (unsigned which, size_t glyphs_len, uint8_t *scratch, size_t len, size_t room)
+static int same (unsigned which, const struct map *map, uint8_t *scratch, size_t len, size_t room)
 {
   uint8_t plain[ROOM], with[ROOM];
   memset (plain, FILL, ROOM);
   memset (with, FILL, ROOM);
   memset (scratch - BESIDE, FILL, len + 2 * BESIDE);
-  uint64_t expected = gillcurtain_subset (sources[which].kind, sources[which].at, sources[which].len,
-                                          glyphs, glyphs_len, lookups, sizeof lookups, plain, room);
-  uint64_t result = gillcurtain_subset_with (sources[which].kind, sources[which].at, sources[which].len,
-                                             glyphs, glyphs_len, lookups, sizeof lookups, scratch, len, with, room);
+  uint64_t expected = gillcurtain_subset (sources[which].kind, map->form, GILLCURTAIN_PLAIN,
+                                          sources[which].at, sources[which].len, map->at, map->len,
+                                          lookups, sizeof lookups, plain, room);
+  uint64_t result = gillcurtain_subset_with (sources[which].kind, map->form, GILLCURTAIN_PLAIN,
+                                             sources[which].at, sources[which].len, map->at, map->len,
+                                             lookups, sizeof lookups, scratch, len, with, room);
   if (result == expected && !memcmp (plain, with, ROOM)
       && filled (scratch - BESIDE, BESIDE) && filled (scratch + len, BESIDE)) return 1;
-  printf ("%s, %zu glyphs, scratch of %zu bytes, buffer of %zu: answer %u, length %zu\n", sources[which].name,
-          glyphs_len / 4, len, room, gillcurtain_number (result), gillcurtain_length (result));
+  printf ("%s, %zu %s, scratch of %zu bytes, buffer of %zu: answer %u, length %zu\n", sources[which].name,
+          map->len / map->form, map->name, len, room, gillcurtain_number (result), gillcurtain_length (result));
   return 0;
+}
+
+/* Every source under this map, with scratch of every length and alignment, into buffers of some lengths in turn. */
+static unsigned all_scratch (const struct map *map, uint8_t *piece, unsigned *calls)
+{
+  static const size_t rooms[] = { 0, 20, ROOM };
+  unsigned faults = 0;
+  for (unsigned which = 0; which < sizeof sources / sizeof *sources; which++)
+    for (unsigned l = 0; l < sizeof lengths / sizeof *lengths; l++)
+      for (unsigned shift = 0; shift < 4; shift++, ++*calls)
+        faults += !same (which, map, piece + BESIDE + shift, lengths[l], rooms[*calls % 3]);
+  return faults;
 }
 
 int main (void)
 {
-  static const size_t maps[] = { 0, 2, 4, 20, GLYPHS }, rooms[] = { 0, 20, ROOM };
-  uint8_t *piece = malloc (GILLCURTAIN_SCRATCH + 1001 + 4 + 2 * BESIDE);
+  static const size_t glyphs[] = { 0, 2, 4, 20, GLYPHS };
+  static const unsigned forms[] = { GILLCURTAIN_PAIRS, GILLCURTAIN_RUNS };
+  static struct map map;
+  uint8_t *piece = malloc (GILLCURTAIN_SCRATCH + 1001 + 4 + 2 * BESIDE), out[ROOM];
   unsigned calls = 0, faults = 0;
   if (!piece) { perror ("malloc"); return 1; }
-  for (unsigned m = 0; m < sizeof maps / sizeof *maps; m++)
-  {
-    size_t glyphs_len = one_more (maps[m]);
-    for (unsigned which = 0; which < sizeof sources / sizeof *sources; which++)
-      for (unsigned l = 0; l < sizeof lengths / sizeof *lengths; l++)
-        for (unsigned shift = 0; shift < 4; shift++, calls++)
-          faults += !same (which, glyphs_len, piece + BESIDE + shift, lengths[l], rooms[calls % 3]);
-  }
-  uint8_t out[ROOM];
-  size_t glyphs_len = one_more (4);
-  uint64_t none = gillcurtain_subset_with (GILLCURTAIN_PAIR, pairs, sizeof pairs, glyphs, glyphs_len, NULL, 0, NULL, 0, out, ROOM);
+  for (unsigned f = 0; f < sizeof forms / sizeof *forms; f++)
+    for (unsigned g = 0; g < sizeof glyphs / sizeof *glyphs; g++)
+    {
+      one_more (&map, forms[f], glyphs[g]);
+      faults += all_scratch (&map, piece, &calls);
+    }
+  one_more (&map, GILLCURTAIN_PAIRS, 4);
+  uint64_t none = gillcurtain_subset_with (GILLCURTAIN_PAIR, map.form, GILLCURTAIN_PLAIN, pairs, sizeof pairs,
+                                           map.at, map.len, NULL, 0, NULL, 0, out, ROOM);
   if (gillcurtain_number (none) != GILLCURTAIN_KEPT) { printf ("no scratch: answer %u\n", gillcurtain_number (none)); faults++; }
   printf ("%u calls with lent scratch answered as without\n", calls - faults);
   free (piece);

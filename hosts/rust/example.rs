@@ -1,9 +1,10 @@
 //! Cuts the first worked example, P1, and says in words what came back: a context by glyph with
-//! three rules, of which the maps leave two. Then replays three recorded runs over one lookup, after
-//! asking what that may cost. Last, lists what differs between P1 and what is kept of it.
+//! three rules, of which the maps leave two. Cuts it again with the glyph map as runs, and a context
+//! that covers a long run of glyphs. Then replays three recorded runs over one lookup, after asking
+//! what that may cost. Last, lists what differs between P1 and what is kept of it.
 
 use gillcurtain::{compare, differences, replay, replay_cost, subset};
-use gillcurtain::{Answer, Compared, Comparer, Subsetter, CONTEXT};
+use gillcurtain::{Answer, Compared, Comparer, Glyphs, Subsetter, CONTEXT};
 
 const SOURCE: [u16; 28] = [
     1, 48, 2, 10, 36, // format 1, coverage, two sets
@@ -15,7 +16,12 @@ const SOURCE: [u16; 28] = [
     1, 2, 3, 5, // the coverage: 3 5
 ];
 const GLYPHS: [u16; 6] = [3, 1, 5, 2, 9, 3];
+const RUNS: [u16; 9] = [3, 1, 1, 5, 2, 1, 9, 3, 1]; // the same, a glyph a run
 const LOOKUPS: [u16; 4] = [4, 0, 7, 2];
+
+// Glyphs 1000 to 1999 become 0 to 999: one run. Of the covered glyphs 990 to 1009 ten are retained.
+const WIDE: [u16; 9] = [3, 1, 0, 8, 2, 1, 990, 1009, 0];
+const THOUSAND: [u16; 3] = [1000, 0, 1000];
 
 // One lookup, kind 5, which puts glyph 6 for glyph 5; of the three runs the last was not recorded so.
 const LIST: [u16; 5] = [5, 0, 0, 0, 12];
@@ -40,13 +46,20 @@ fn say(length: usize, room: usize, how: &str, answer: Answer) -> Answer {
 /// Cuts the first so many words of P1 into `out`.
 fn cut(words: usize, out: &mut [u8]) -> Answer {
     let source = bytes(&SOURCE[..words]);
-    let answer = subset(CONTEXT, &source, &bytes(&GLYPHS), &bytes(&LOOKUPS), out);
+    let answer = subset(CONTEXT, &source, Glyphs::Pairs(&bytes(&GLYPHS)), &bytes(&LOOKUPS), out);
     say(source.len(), out.len(), "", answer)
+}
+
+/// Cuts P1 into `out` with the glyph map as runs.
+fn cut_by_runs(out: &mut [u8]) -> Answer {
+    let source = bytes(&SOURCE);
+    let answer = subset(CONTEXT, &source, Glyphs::Runs(&bytes(&RUNS)), &bytes(&LOOKUPS), out);
+    say(source.len(), out.len(), " with the map as runs", answer)
 }
 
 /// Cuts P1 into `out` with lent scratch, which serves any number of calls.
 fn cut_with(subsetter: &mut Subsetter, out: &mut [u8]) -> Answer {
-    subsetter.subset(CONTEXT, &bytes(&SOURCE), &bytes(&GLYPHS), &bytes(&LOOKUPS), out)
+    subsetter.subset(CONTEXT, &bytes(&SOURCE), Glyphs::Pairs(&bytes(&GLYPHS)), &bytes(&LOOKUPS), out)
 }
 
 /// Prints bytes in lines of 16.
@@ -81,6 +94,16 @@ fn main() {
         assert_eq!(cut_with(&mut Subsetter::with_bytes(bytes), &mut other), answer);
         assert_eq!(other, room);
     }
+    let Answer::Kept(n) = cut_by_runs(&mut room) else {
+        std::process::exit(1);
+    };
+    print(&room[..n]);
+    let (run, mut small) = (bytes(&THOUSAND), [0; 18]);
+    let Answer::Kept(wide) = subset(CONTEXT, &bytes(&WIDE), Glyphs::Runs(&run), &[], &mut small) else {
+        std::process::exit(1);
+    };
+    println!("a run of 1000 glyphs, in {} bytes: answer 0, kept", run.len());
+    print(&small[..wide]);
     let cost = replay_cost(&bytes(&LIST), &bytes(&BUFFER));
     println!("cost: answer {}, at most {} lookups asked for each glyph", cost.number, cost.steps);
     let told = replay(&bytes(&LIST), &bytes(&BUFFER), &bytes(&TRACE));

@@ -17,6 +17,37 @@ pub const PAIR: u64 = 4;
 /// Single substitution.
 pub const SINGLE: u64 = 5;
 
+/// The mark of the plain layout, in which no part is shared.
+const PLAIN: u64 = 0;
+
+/// A glyph map in one of its two forms. Numbers have two bytes, big-endian. Both columns, old and
+/// new, ascend, from entry to entry too. A map gives the same bytes in either form.
+#[derive(Clone, Copy, Debug, PartialEq, Eq)]
+pub enum Glyphs<'a> {
+    /// Entries of four bytes: the old number and the new one.
+    Pairs(&'a [u8]),
+    /// Entries of six bytes: first old number, first new number and count, for so many pairs in
+    /// step. A count is not 0, and a run goes to 65,535 at most in both columns; all 65,536 glyphs
+    /// take two.
+    Runs(&'a [u8]),
+}
+
+impl<'a> Glyphs<'a> {
+    /// The mark of the form.
+    fn form(self) -> u64 {
+        match self {
+            Glyphs::Pairs(_) => 4,
+            Glyphs::Runs(_) => 6,
+        }
+    }
+
+    fn bytes(self) -> &'a [u8] {
+        match self {
+            Glyphs::Pairs(bytes) | Glyphs::Runs(bytes) => bytes,
+        }
+    }
+}
+
 /// The stack, in bytes, that [`subset`] may use at most. The main thread has more on most systems; a
 /// thread that Rust starts has 2 MiB, so ask for more with `std::thread::Builder::stack_size` where
 /// fonts come from anywhere. With too little, the call ends the process at the stack's guard page.
@@ -56,6 +87,8 @@ pub enum Answer {
 extern "C" {
     fn gillcurtain_subset(
         kind: u64,
+        form: u64,
+        layout: u64,
         source: *const u8,
         source_len: usize,
         glyphs: *const u8,
@@ -68,6 +101,8 @@ extern "C" {
 
     fn gillcurtain_subset_in(
         kind: u64,
+        form: u64,
+        layout: u64,
         source: *const u8,
         source_len: usize,
         glyphs: *const u8,
@@ -181,9 +216,10 @@ pub fn replay(list: &[u8], buffer: &[u8], trace: &[u8]) -> Replayed {
         )
     };
     let tallied = |which: usize| number(&tally[8 * which..][..8]);
+    let (number, place) = halves(result);
     Replayed {
-        number: (result >> 56) as u32,
-        place: result & 0xFF_FFFF_FFFF_FFFF,
+        number,
+        place,
         runs: tallied(0),
         agreements: tallied(1),
         first: tallied(2),
@@ -219,27 +255,26 @@ pub fn replay_cost(list: &[u8], buffer: &[u8]) -> Cost {
             steps.len(),
         )
     };
-    Cost {
-        number: (result >> 56) as u32,
-        place: result & 0xFF_FFFF_FFFF_FFFF,
-        steps: number(&steps),
-    }
+    let steps = number(&steps);
+    let (number, place) = halves(result);
+    Cost { number, place, steps }
 }
 
-/// Cuts `source`, a subtable of this kind. `glyphs` and `lookups` are maps: entries of four bytes,
-/// the old number and the new one, both big-endian, with the old numbers ascending, and in
-/// `glyphs` the new ones too. Bytes of `out` after the small subtable keep what they held, and a
-/// refusal writes nothing.
-pub fn subset(kind: u64, source: &[u8], glyphs: &[u8], lookups: &[u8], out: &mut [u8]) -> Answer {
+/// Cuts `source`, a subtable of this kind. `lookups` is a map: entries of four bytes, the old number
+/// and the new one, both big-endian, with the old numbers ascending. The small subtable is written
+/// in the plain layout. Bytes of `out` after it keep what they held, and a refusal writes nothing.
+pub fn subset(kind: u64, source: &[u8], glyphs: Glyphs, lookups: &[u8], out: &mut [u8]) -> Answer {
     // SAFETY: each pointer comes with the length of its slice, `out` is lent to nobody else, and
     // nothing is asked of what the bytes are.
     let result = unsafe {
         gillcurtain_subset(
             kind,
+            glyphs.form(),
+            PLAIN,
             source.as_ptr(),
             source.len(),
-            glyphs.as_ptr(),
-            glyphs.len(),
+            glyphs.bytes().as_ptr(),
+            glyphs.bytes().len(),
             lookups.as_ptr(),
             lookups.len(),
             out.as_mut_ptr(),
@@ -277,7 +312,7 @@ impl Subsetter {
         &mut self,
         kind: u64,
         source: &[u8],
-        glyphs: &[u8],
+        glyphs: Glyphs,
         lookups: &[u8],
         out: &mut [u8],
     ) -> Answer {
@@ -286,10 +321,12 @@ impl Subsetter {
         let result = unsafe {
             gillcurtain_subset_in(
                 kind,
+                glyphs.form(),
+                PLAIN,
                 source.as_ptr(),
                 source.len(),
-                glyphs.as_ptr(),
-                glyphs.len(),
+                glyphs.bytes().as_ptr(),
+                glyphs.bytes().len(),
                 lookups.as_ptr(),
                 lookups.len(),
                 self.cells.as_mut_ptr(),
@@ -436,10 +473,10 @@ impl Default for Comparer {
     }
 }
 
-/// What a comparison's result says: its number, times 2^56, plus its length.
+/// What a comparison's result says.
 fn compared(result: u64) -> Compared {
-    let length = result & 0xFF_FFFF_FFFF_FFFF;
-    match result >> 56 {
+    let (number, length) = halves(result);
+    match number {
         0 => Compared::Listed(length),
         1 => Compared::BadKind,
         4 => Compared::LongSource,
@@ -451,10 +488,18 @@ fn compared(result: u64) -> Compared {
     }
 }
 
-/// The answer that a call's result says: its number, times 2^32, plus its length.
+/// The number and the length, or the place, of a call's result: the number, times 2^56, plus the
+/// other.
+fn halves(result: u64) -> (u32, u64) {
+    ((result >> 56) as u32, result & 0xFF_FFFF_FFFF_FFFF)
+}
+
+/// The answer that a call's result says. 13 and 14 are not among them: they are for marks that no
+/// form and no layout has.
 fn answer(result: u64) -> Answer {
-    let length = (result & 0xFFFF_FFFF) as usize;
-    match result >> 32 {
+    let (number, length) = halves(result);
+    let length = length as usize;
+    match number {
         0 => Answer::Kept(length),
         1 => Answer::BadKind,
         2 => Answer::BadGlyphs,
@@ -467,7 +512,7 @@ fn answer(result: u64) -> Answer {
         9 => Answer::TooBig,
         10 => Answer::NoRoom(length),
         12 => Answer::PastRule,
-        _ => unreachable!("the call gives the numbers 0 to 10 and 12"),
+        _ => unreachable!("with these marks the call gives the numbers 0 to 10 and 12"),
     }
 }
 

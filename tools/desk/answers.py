@@ -11,7 +11,8 @@ ANSWERS = {
     1: ("kind not 1 to 5",
         "Give 1 (context), 2 (chained context), 3 (ligature), 4 (pair) or 5 (single substitution). Other lookup types "
         "are not covered."),
-    2: ("glyph map length not a multiple of 4, or a column not strictly increasing",
+    2: ("glyph map length not a multiple of 4, or a column not strictly increasing; of runs, length not a multiple of "
+        "6, a count of 0, a run past 65,535 in a column, or runs not strictly increasing",
         "Sort the map by old id and list each id once; new ids have to rise with the old ones."),
     3: ("lookup map length not a multiple of 4, or its old column not strictly increasing",
         "Sort the map by old id and list each old id once; new ids are free."),
@@ -35,10 +36,14 @@ ANSWERS = {
     12: ("a record points past its rule",
          "Its sequence index has to be below the rule's input count; printers hang on such a rule. Mend the font or "
          "ask its maker; `tools/job show` names the rule and the record."),
+    13: ("the mark of the glyph map's form is neither 4 nor 6",
+         "Give 4 for pairs or 6 for runs. Calls only: the tag of a job file, LSJ1 or LSJ2, says its form."),
+    14: ("the mark of the layout is not 0",
+         "Give 0, the plain layout. Calls only: the program always asks for that one."),
 }
 
 # Which answer goes before which, where several apply.
-ORDER = (11, 1, 2, 3, 4, 5, 6, 7, 12, 8, 9, 10)
+ORDER = (11, 1, 13, 14, 2, 3, 4, 5, 6, 7, 12, 8, 9, 10)
 
 # The answers that are given once the source is cut; all others are seen before.
 AFTER_THE_CUT = (0, 8, 9, 10)

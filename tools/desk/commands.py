@@ -2,6 +2,7 @@
 import argparse, sys, textwrap
 from . import font_commands, job_commands, text_commands
 from .answers import KINDS
+from .jobs import FORMS
 from .words import Trouble
 
 DESCRIPTION = """Makes label jobs, from words and from fonts, and says in words what goes into the subsetter and what
@@ -10,6 +11,11 @@ TABLE_HELP = "hex words, @ and a text file of hex words, or a binary file (write
              "as hex)"
 ALL_HELP = "every fault of every faulty part, lowest part first, and not only the first"
 KIND_HELP = "1 context, 2 chained context, 3 ligature, 4 pair, 5 single substitution"
+
+
+def add_form(add):
+    add("--form", choices=FORMS, help="the glyph map as pairs (a file that ends in LSJ1) or as runs (LSJ2); what is "
+        "shorter if not given")
 
 
 def add_make(command):
@@ -21,7 +27,8 @@ def add_make(command):
     add("--table", metavar="HEX|@FILE|FILE", help="the subtable: " + TABLE_HELP)
     add("--glyphs", metavar="MAP", help='the glyph map: "3:1 5:2" (old:new), "5-9:100" (neighbours in step) or '
         "hex:0003 (bytes as they are); numbers are decimal, or hexadecimal after 0x; empty if not given")
-    add("--lookups", metavar="MAP", help="the lookup map, in the same way")
+    add_form(add)
+    add("--lookups", metavar="MAP", help="the lookup map, in the same way; it is always of pairs")
     add("--example", action="store_true", help="the worked case P1; other options replace its parts")
     add("-o", "--output", metavar="OUT", help="the file to write; standard output if not given")
 
@@ -34,6 +41,7 @@ def add_combine(command):
     add("first", metavar="FIRST", help="the job that comes first; the one job has its table")
     add("second", metavar="SECOND", help="the job on what the first keeps; its table is not looked at. Each old id of "
         "its glyph map has to be a new id of the first's")
+    add_form(add)
     add("-o", "--output", metavar="OUT", help="the file to write; standard output if not given")
 
 
@@ -73,6 +81,7 @@ def add_retained(add):
     add("--text-file", metavar="FILE", help="the same, from a file in UTF-8")
     add("--renumber-glyphs", action="store_true", help="number the retained glyphs from 0 on; if not given, their "
         "numbers stay")
+    add_form(add)
     add("--lookups", metavar="LIST", default="all", help="keep these lookups, as --glyphs; all if not given")
     add("--renumber-lookups", action="store_true", help="number the lookups that are kept from 0 on")
 

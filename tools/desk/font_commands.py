@@ -3,7 +3,7 @@ import bisect, concurrent.futures, os, pathlib, re, subprocess, sys, tempfile, t
 from .answers import ANSWERS, JOB_LIMIT, KINDS
 from .fonts import Font
 from .job_commands import write_job
-from .jobs import build_job, entry_bytes, split_job
+from .jobs import FORMS, build_job, entries_map, entry_bytes, map_entries, split_job
 from .judge import complaints
 from .prose import print_columns
 from .words import Trouble, hex_bytes, number, read_bytes, write_bytes
@@ -53,17 +53,17 @@ def retained_glyphs(font, args):
     return found
 
 
-def as_map(ids, renumber):
-    return entry_bytes((old, new if renumber else old) for new, old in enumerate(sorted(ids)))
+def entries_of(ids, renumber):
+    return [(old, new if renumber else old) for new, old in enumerate(sorted(ids))]
 
 
 def font_maps(font, tags, args):
-    """The glyph map, and the lookup map of each table."""
+    """The glyph map's form and bytes, and the lookup map of each table."""
     if len(tags) > 1 and args.lookups != "all":
         raise Trouble("give --table with --lookups, since GSUB and GPOS number their lookups apart")
-    glyphs = as_map(retained_glyphs(font, args), args.renumber_glyphs)
+    glyphs = entries_map(entries_of(retained_glyphs(font, args), args.renumber_glyphs), FORMS.get(args.form))
     kept = {tag: id_list(args.lookups, f"{tag} lookup", font.lookup_count(tag)) for tag in tags}
-    return glyphs, {tag: as_map(ids, args.renumber_lookups) for tag, ids in kept.items()}
+    return *glyphs, {tag: entry_bytes(entries_of(ids, args.renumber_lookups)) for tag, ids in kept.items()}
 
 
 # ---- The commands ----
@@ -101,8 +101,8 @@ def from_font(args):
     if not one.cut:
         what = f"type {one.type}, {one.type_name()}" + (f", and format {one.format}" if one.kind else "")
         raise Trouble(f"{font.name}: the subtable is of {what}, which is not covered")
-    glyphs, maps = font_maps(font, [args.table], args)
-    job = build_job(one.kind, one.source(), glyphs, maps[args.table])
+    form, glyphs, maps = font_maps(font, [args.table], args)
+    job = build_job(one.kind, one.source(), glyphs, maps[args.table], form=form)
     if len(job) > JOB_LIMIT:
         raise Trouble(f"the job would have {len(job)} bytes, more than {JOB_LIMIT}: the subtable {len(one.source())}, the "
                       f"glyph map {len(glyphs)}; retain fewer glyphs, or call the library, which has no such limit")
@@ -173,9 +173,9 @@ def font(args):
     tags = [tag for tag in ("GSUB", "GPOS") if tag in opened.tables and args.table in (None, tag)]
     found = opened.subtables(tags)
     covered = [one for one in found if one.cut]
-    glyphs, maps = font_maps(opened, tags, args)
+    form, glyphs, maps = font_maps(opened, tags, args)
     sources = [one.source() for one in covered]
-    jobs = [build_job(one.kind, source, glyphs, maps[one.tag]) for one, source in zip(covered, sources)]
+    jobs = [build_job(one.kind, source, glyphs, maps[one.tag], form=form) for one, source in zip(covered, sources)]
     answers = cut_all(args.label, jobs)
     rows, tally = [], {}
     for one, source, job, (answer, kept) in zip(covered, sources, jobs, answers):
@@ -191,6 +191,6 @@ def font(args):
     parts = [f"{len(kept)} kept ({sum(a for a, _ in kept)} -> {sum(b for _, b in kept)} bytes)"]
     parts += [f"{len(tally[answer])} not run" if answer is None else
               f"{len(tally[answer])} refused as {answer} ({ANSWERS[answer][0]})" for answer in sorted(tally, key=str)]
-    print(f"{len(found)} subtables, {len(covered)} covered, {len(glyphs) // 4} glyphs retained: "
+    print(f"{len(found)} subtables, {len(covered)} covered, {len(map_entries(glyphs, form))} glyphs retained: "
           + ", ".join(parts) + ".")
     return 1 if any(answer in tally for answer in DAMAGED) else 0

@@ -1,7 +1,8 @@
 """The commands of tools/job that take and make job files: make, combine, show and read."""
 import re, sys
 from .answers import AFTER_THE_CUT, ANSWERS, KINDS
-from .jobs import EXAMPLE, build_job, combined, map_bytes, map_entries, map_text, new_ids, parts_of, split_job
+from .jobs import (EXAMPLE, FORMS, RUNS, build_job, combined, entries_map, entry_bytes, glyph_map, map_bytes,
+                   map_entries, map_text, new_ids, parts_of, split_job)
 from .judge import complaints, source_complaints
 from .prose import print_reasons, print_table, say
 from .tables import coverages, decode, tally
@@ -13,8 +14,9 @@ def make(args):
     given = {name: base[name] if getattr(args, name) is None else getattr(args, name) for name in base}
     if given["kind"] is None or given["table"] is None:
         raise Trouble("make needs --kind and --table, or --example")
-    maps = map_bytes(given["glyphs"]), map_bytes(given["lookups"])
-    write_job(args.output, build_job(number(given["kind"], "kind"), table_bytes(given["table"]), *maps))
+    form, glyphs = glyph_map(given["glyphs"], FORMS.get(args.form))
+    parts = table_bytes(given["table"]), glyphs, map_bytes(given["lookups"])
+    write_job(args.output, build_job(number(given["kind"], "kind"), *parts, form=form))
 
 
 def write_job(output, data):
@@ -29,21 +31,24 @@ def write_job(output, data):
 
 
 def combine(args):
-    write_job(args.output, one_job(*(read_bytes(name) for name in (args.first, args.second))))
+    pair = (read_bytes(name) for name in (args.first, args.second))
+    write_job(args.output, one_job(*pair, form=FORMS.get(args.form)))
 
 
-def one_job(*pair):
+def one_job(*pair, form=None):
     """The job that cuts at once what two jobs cut one after the other, the second of them what the first keeps."""
     first, second = (with_good_maps(data, which) for data, which in zip(pair, ("first", "second")))
     if first["kind"] != second["kind"]:
         raise Trouble(f"the first job is of kind {first['kind']} and the second of {second['kind']}; a cut keeps the kind")
-    (table, *maps), (_, *then) = parts_of(first), parts_of(second)
-    known = set(new_ids(first).values())
-    unknown = [(old, old) for old, _ in map_entries(then[0]) if old not in known]
+    glyphs, then = new_ids(first), new_ids(second)
+    known = set(glyphs.values())
+    unknown = [(old, old) for old in then if old not in known]
     if unknown:
         raise Trouble("the second glyph map has old ids that are no new ids of the first: "
                       + ranges_text(joined(unknown)))
-    return build_job(first["kind"], table, *map(combined, maps, then))
+    form, both = entries_map(combined(glyphs, then), form)
+    lookups = (dict(map_entries(parts_of(job)[2])) for job in (first, second))
+    return build_job(first["kind"], parts_of(first)[0], both, entry_bytes(combined(*lookups)), form=form)
 
 
 def with_good_maps(data, which):
@@ -78,9 +83,10 @@ def show_job(job):
     if not job["parts"]:
         return None
     for name, part in job["parts"].items():
-        print(f"  {name:10}  starts at {part['start']}, {part['length']} bytes")
+        in_runs = ", in runs" if name == "glyph map" and job["form"] == RUNS else ""
+        print(f"  {name:10}  starts at {part['start']}, {part['length']} bytes{in_runs}")
     table, glyphs, lookups = parts_of(job)
-    say(f"glyphs, old:new   {map_text(glyphs) or 'empty'}", "  ", "    ")
+    say(f"glyphs, old:new   {map_text(glyphs, job['form']) or 'empty'}", "  ", "    ")
     say(f"lookups, old:new  {map_text(lookups) or 'empty'}", "  ", "    ")
     print(f"  kind {job['kind']}, {KINDS.get(job['kind'], 'which is none of 1 to 5')}")
     if job["kind"] not in KINDS:

@@ -23,7 +23,7 @@ def complaints(job, tree=None):
     if job["faults"]:
         return [(11, text) for text in job["faults"]]
     table, glyphs, lookups = parts_of(job)
-    found = [(2, text) for text in map_faults("glyph map", glyphs, ((0, "old"), (1, "new")))]
+    found = [(2, text) for text in map_faults("glyph map", glyphs, ((0, "old"), (1, "new")), job["form"])]
     found += [(3, text) for text in map_faults("lookup map", lookups, ((0, "old"),))]
     if job["kind"] not in KINDS:
         return [(1, f"the kind is {job['kind']}")] + found

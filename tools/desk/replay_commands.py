@@ -3,7 +3,7 @@ import argparse, pathlib, re, subprocess, sys, time
 from . import walk
 from .answers import ANSWERS, JOB_LIMIT
 from .font_commands import LABEL, Bar, run_label
-from .jobs import build_job, entry_bytes, map_bytes, map_entries, map_faults
+from .jobs import build_job, entry_bytes, glyph_map, map_entries, map_faults
 from .replays import FILE_LIMIT, TRAILER, Lookup, build_replay, list_parts, pieces, read_list, read_trace
 from .words import Trouble
 
@@ -152,11 +152,11 @@ def plain(program, lookups, trace):
     return 0 if told.all_agree() else 1
 
 
-def cut_lookups(args, lookups, glyphs):
+def cut_lookups(args, lookups, form, glyphs):
     """Each lookup as it is kept, with a line on each."""
     own_places, kept = entry_bytes((place, place) for place in range(len(lookups))), []
     for place, one in enumerate(lookups):
-        job = build_job(one.kind, one.data, glyphs, own_places)
+        job = build_job(one.kind, one.data, glyphs, own_places, form=form)
         if len(job) > JOB_LIMIT:
             raise Trouble(f"lookup {place} ({one.name}) makes a job of {len(job)} bytes, more than {JOB_LIMIT}")
         answer, data = run_label(args.label, job)
@@ -172,16 +172,16 @@ def cut_lookups(args, lookups, glyphs):
 
 
 def before_and_after(args, program, lookups, trace):
-    glyphs = map_bytes(args.cut)
-    for fault in map_faults("glyph map", glyphs, ((0, "old"), (1, "new"))):
+    form, glyphs = glyph_map(args.cut)
+    for fault in map_faults("glyph map", glyphs, ((0, "old"), (1, "new")), form):
         raise Trouble(fault)
-    new = dict(map_entries(glyphs))
+    new = dict(map_entries(glyphs, form))
     retained = [one for one in trace if set(one[1]) | set(one[2]) <= new.keys()]
     if len(retained) < len(trace):
         print(f"{len(trace) - len(retained)} of {len(trace)} runs have a glyph that is not retained, and are left out.")
     if not retained:
         raise Trouble("no run has only glyphs that are retained")
-    kept, wheres = cut_lookups(args, lookups, glyphs), [where for where, _, _ in retained]
+    kept, wheres = cut_lookups(args, lookups, form, glyphs), [where for where, _, _ in retained]
     program.end = time.monotonic() + program.seconds
     old_runs = [(given, came) for _, given, came in retained]
     new_runs = [tuple([new[one] for one in half] for half in run) for run in old_runs]

@@ -36,5 +36,5 @@ module _ (c : Call) where
 
   -- `same-both-ways`: an exported entry gives the number, the length and the buffer of the public call.
   pub same-both-ways : (a : Answer) (n : ℕ) (after other : List ℕ) → Returned c a after → Exported c n other
-      → (n / 0x1_0000_0000 ≡ numberOf a) × (n % 0x1_0000_0000 ≡ lengthOf a) × (other ≡ after)
+      → (n / 0x100_0000_0000_0000 ≡ numberOf a) × (n % 0x100_0000_0000_0000 ≡ lengthOf a) × (other ≡ after)
   same-both-ways a n after other e f = let g = f ∙ sym e in (same-number g, same-len g, same-out g)

@@ -7,17 +7,19 @@ use lib.ListN.{getD}
 use Rattle.meaning.specs.Subset.{Outcome}
 use Rattle.subset.specs.Answers.{numberOf, lengthOf, outcome, decoded}
 use Rattle.subset.specs.declared.Answer.{Answer}
-use Rattle.subset.specs.declared.Answer.the-variants.{Kept, BadKind, BadGlyphs, BadLookups, LongSource, BadFormat, Malformed, Device, PastRule, Nothing, TooBig, NoRoom, BadJob}
+use Rattle.subset.specs.declared.Answer.the-variants.{Kept, BadKind, BadForm, BadLayout, BadGlyphs, BadLookups, LongSource, BadFormat, Malformed, Device, PastRule, Nothing, TooBig, NoRoom, BadJob}
 
 -- the answer of a number and a length, by a list in the order of the numbers; past its end any will do
 answerBy : ℕ → ℕ → Answer
-answerBy number len = getD (Kept len ∷ BadKind ∷ BadGlyphs ∷ BadLookups ∷ LongSource ∷ BadFormat ∷ Malformed len ∷ Device ∷ Nothing ∷ TooBig ∷ NoRoom len ∷ BadJob ∷ PastRule ∷ []) number BadJob
+answerBy number len = getD (Kept len ∷ BadKind ∷ BadGlyphs ∷ BadLookups ∷ LongSource ∷ BadFormat ∷ Malformed len ∷ Device ∷ Nothing ∷ TooBig ∷ NoRoom len ∷ BadJob ∷ PastRule ∷ BadForm ∷ BadLayout ∷ []) number BadJob
 
 -- each answer is that of its own number and length
 is-by : (a : Answer) → answerBy (numberOf a) (lengthOf a) ≡ a
 unfolding answerBy
 is-by (Kept n) = refl
 is-by BadKind = refl
+is-by BadForm = refl
+is-by BadLayout = refl
 is-by BadGlyphs = refl
 is-by BadLookups = refl
 is-by LongSource = refl

@@ -4,6 +4,7 @@ use mathlib.Core.Path.{_≡_, refl, sym, ap, ap₂, _∙_}
 use mathlib.Core.Bool.{Bool, true, cond, _&&_}
 use mathlib.Core.Option.{Option, none, some}
 use mathlib.Core.List.{List, [], _∷_, _++_}
+use mathlib.Core.Logic.{_⊎_, inl, inr}
 use native.Mathlib.Decide.{decLt}
 use native.Mathlib.Nat.{zero-add}
 use native.Mathlib.Omega.{arith}
@@ -29,20 +30,23 @@ use Rattle.tried.specs.Tries.{Tries}
 use Rattle.tried.specs.declared.Tried.{Tried}
 use Rattle.member_sets.specs.Sound.{inside-is, through-sound}
 use Rattle.area.specs.Part.{part, notes, oldAt}
-use Rattle.meaning.specs.Maps.{mapEntries}
+use Rattle.meaning.specs.Maps.{mapEntries, glyphEntries}
 use Rattle.meaning.specs.Subset.{limit, written}
 use Rattle.fold.specs.Cells.{Holds, holds-kept}
 use Rattle.fold.specs.Laid.{Laid}
+use Rattle.fold.specs.Runs.{LaidGlyphs}
+use Rattle.glyph_runs.specs.Runs.{GlyphMap, form-is}
 use Rattle.fold.specs.declared.Map.{Map}
 use Rattle.rule_sets.specs.declared.Maps.{Maps}
-use Rattle.meet.specs.Met.{met, Met, Meets, met-count}
-use Rattle.meet.proofs.Entries.{map-rises}
+use Rattle.meet.specs.Met.{met, Met, met-count}
+use Rattle.meet_runs.specs.Either.{Most, MeetsGlyphs}
+use Rattle.meet_runs.proofs.Forms.{met-most}
 use Rattle.kept_sets.specs.Sorts.{headerSize, setFaultOf, leftIn, Told, told-pairs, pairs-sound, left-kept, inside-kept}
 use Rattle.kept_sets.specs.Kept.{setAt, keptOf, Ready, keptIn}
 use Rattle.kept_sets.specs.declared.Sort.{Sort}
 use Rattle.kept_sets.specs.declared.Sort.the-variants.{Rules, Ligatures, Pairs}
 use Rattle.kept_table.specs.Table.{areaMost, tableOf}
-use Rattle.by_glyph.specs.Asked.{SoundSets, MapsLaid, keptFrom}
+use Rattle.by_glyph.specs.Asked.{SoundSets, behind, MapsLaid, keptFrom}
 use Rattle.kept_table.specs.Answers.{ByCover, Answered, answered-as, answered-said}
 use Rattle.by_glyph.specs.Whole.{cellsMost}
 use Rattle.by_glyph.specs.PairTables.{pairTable, pairFault, pairsOf, oneMap, AnsweredPairs, sound-pairs, pairs-cut}
@@ -62,15 +66,6 @@ module _ (f : ℕ → Option ℕ) where
       step none h = h
       step (some n) h = (omega arith, h)
 
-  met-length : (i : ℕ) (cov : List ℕ) → length (met f i cov) ≤ length cov
-  unfolding met push bind
-  met-length i [] = omega arith
-  met-length i (c ∷ cov) = step (f c) (met-length (i + 1) cov)
-    where
-      step : (o : Option ℕ) → length (met f (i + 1) cov) ≤ length cov → length (push (bind o (λ n. some (i, n))) (met f (i + 1) cov)) ≤ suc (length cov)
-      step none h = omega arith
-      step (some n) h = omega arith
-
 all-notes : (P : ℕ × ℕ → Type 0) (t : List ℕ) (at m : ℕ) → All P (notes t at m) → (i : ℕ) → i < m → P (getD t (at + i) 0 / 65536, getD t (at + i) 0 % 65536)
 unfolding part
 all-notes P t at zero h i l = absurd (omega arith)
@@ -84,7 +79,7 @@ all-notes P t at (suc m) h (suc i) l =
 module _ {f : ℕ → Option ℕ} {cov t₀ : List ℕ} {to : ℕ} {t : List ℕ} {m : ℕ} (h : Met f cov t₀ to t m) where
   -- there are at most as many notes as covered glyphs
   pub noted-few : m ≤ length cov
-  noted-few = omega (arith, met-count h, met-length f 0 cov)
+  noted-few = omega (arith, met-count h, met-most f 0 cov)
 
   -- and each has the index of one
   pub noted-index : (i : ℕ) → i < m → oldAt t (to + i) < length cov
@@ -164,16 +159,27 @@ unfolding keptOf setAt
 kept-same left other e s slots [] = refl
 kept-same left other e s slots (n ∷ ns) = rw (e (word s (slots + 2 * n .0)), kept-same left other e s slots ns)
 
--- Sound sources and maps that are laid, before the map meets the coverage and after it.
-module _ {sort : Sort} {s glyphs t₀ : List ℕ} {maps : Maps} {notes : ℕ} (a : SoundSets sort s) (l : MapsLaid glyphs t₀ maps notes) (z : word s 2 ≡ 0 → ⊥) {cover : ℕ} (e : cover ≡ word s 2) where
-  pub may-meet : notes + length glyphs / 4 < length t₀ → Meets s cover glyphs (maps .input) t₀ notes
-  may-meet h = record { sound = rw e (a .cover z); ascend = l .ascend; holds = l .holds; behind = l .before .input; room = h }
+-- the mark of a form is not 0
+pub form-some : {form : ℕ} {m : List ℕ} → GlyphMap form m → 4 ≤ form
+form-some {form} g = pick (form-is (g .form-good))
+  where
+    pick : (form ≡ 4) ⊎ (form ≡ 6) → 4 ≤ form
+    pick (inl e) = omega arith
+    pick (inr e) = omega arith
 
-  module _ {t : List ℕ} {m : ℕ} (h : Met (find (mapEntries glyphs)) (coverage s cover) t₀ notes t m) where
+-- Sound sources and maps that are laid, before the map meets the coverage and after it.
+module _ {sort : Sort} {s : List ℕ} {form : ℕ} {glyphs t₀ : List ℕ} {maps : Maps} (a : SoundSets sort s) (l : MapsLaid form glyphs t₀ maps) (z : word s 2 ≡ 0 → ⊥) {cover : ℕ} (e : cover ≡ word s 2) where
+  pub may-count : (coverageSound s cover ≡ true) × GlyphMap form glyphs
+  may-count = (rw e (a .cover z), l .map)
+
+  pub may-meet : {r : ℕ} → Most form glyphs s cover r → behind maps + r < length t₀ → MeetsGlyphs form s cover glyphs (maps .input) t₀ (behind maps)
+  may-meet r h = record { sound = may-count .0; map = l .map; holds = l .holds; behind = l .before .input; room = omega (arith, r .number) }
+
+  module _ {t : List ℕ} {m : ℕ} (h : Met (find (glyphEntries form glyphs)) (coverage s cover) t₀ (behind maps) t m) where
     many : length (coverage s cover) ≤ word s (headerSize sort - 2)
     many = rw e (a .enough z)
 
-    pub may-write : Ready sort s t maps notes m
+    pub may-write : Ready sort s t maps (behind maps) m
     may-write = record {
       short = a .short;
       few = omega (arith, noted-few h, many, a .header);
@@ -181,17 +187,17 @@ module _ {sort : Sort} {s glyphs t₀ : List ℕ} {maps : Maps} {notes : ℕ} (a
       fits = omega (arith, h .fits, h .kept .size);
       reaches = λ i j. record {
         inside = omega (arith, noted-index h i j, many, a .header);
-        sound = a .sets (oldAt t (notes + i)) (omega (arith, noted-index h i j, many));
+        sound = a .sets (oldAt t (behind maps + i)) (omega (arith, noted-index h i j, many));
       };
       inside = inside-kept (h .kept) (l .inside);
       before = l .before;
     }
 
     -- the notes name the glyphs that both have
-    pub kept-said : keptIn sort s t maps notes m ≡ keptFrom sort s glyphs t₀ maps
+    pub kept-said : keptIn sort s t maps (behind maps) m ≡ keptFrom sort s (glyphEntries form glyphs) t₀ maps
     kept-said =
         kept-same (leftIn sort t maps s) (leftIn sort t₀ maps s) (left-kept (h .kept) sort (l .before) s) s (headerSize sort) _
-        ∙ ap (keptOf (leftIn sort t₀ maps s) s (headerSize sort)) (h .noted ∙ ap (λ (i : ℕ). met (find (mapEntries glyphs)) 0 (coverage s i)) e)
+        ∙ ap (keptOf (leftIn sort t₀ maps s) s (headerSize sort)) (h .noted ∙ ap (λ (i : ℕ). met (find (glyphEntries form glyphs)) 0 (coverage s i)) e)
 
 -- The new formats of a table of pairs: what is asked, and what the notes say of the kept sets.
 module _ {s t : List ℕ} {g : Map} {at m : ℕ} (a : Ready (pairsOf s) s t (oneMap g) at m) where
@@ -234,27 +240,15 @@ formats-same {g} {h} {s} {ns} {ms} {f} e n w = record {
 }
 
 -- what is answered of a table of pairs is answered of what is left of it
-module _ {s glyphs t₀ : List ℕ} {g : Map} {notes : ℕ} (a : SoundSets (pairsOf s) s) (l : MapsLaid glyphs t₀ (oneMap g) notes) (z : word s 2 ≡ 0 → ⊥) {cover : ℕ} (e : cover ≡ word s 2)
-    {t : List ℕ} {m : ℕ} (h : Met (find (mapEntries glyphs)) (coverage s cover) t₀ notes t m) where
-  pub pairs-answered : {few : Type 0} {out₀ : List ℕ} {n : ℕ} {r : Tried} {out : List ℕ} → AnsweredPairs s t g notes m out₀ n r out
-      → Answered few out₀ (block tableWords (cut (mapEntries glyphs) [] (pairTable s))) n r out
+module _ {s : List ℕ} {form : ℕ} {glyphs t₀ : List ℕ} {g : Map} (a : SoundSets (pairsOf s) s) (l : MapsLaid form glyphs t₀ (oneMap g)) (z : word s 2 ≡ 0 → ⊥) {cover : ℕ} (e : cover ≡ word s 2)
+    {t : List ℕ} {m : ℕ} (h : Met (find (glyphEntries form glyphs)) (coverage s cover) t₀ (behind (oneMap g)) t m) where
+  pub pairs-answered : {few : Type 0} {out₀ : List ℕ} {n : ℕ} {r : Tried} {out : List ℕ} → AnsweredPairs s t g (behind (oneMap g)) m out₀ n r out
+      → Answered few out₀ (block tableWords (cut (glyphEntries form glyphs) [] (pairTable s))) n r out
   pairs-answered w =
       let f = w .formats in
-      let new = formats-same (holds-alike (holds-kept (h .kept) (l .before .input) (l .holds))) (h .noted ∙ ap (λ (i : ℕ). met (find (mapEntries glyphs)) 0 (coverage s i)) e) (w .new) in
+      let new = formats-same (holds-alike (holds-kept (h .kept) (l .before .input) (l .holds))) (h .noted ∙ ap (λ (i : ℕ). met (find (glyphEntries form glyphs)) 0 (coverage s i)) e) (w .new) in
       let sound = sound-pairs s f (new .f1) (new .f2) a in
-      answered-said (λ x. absurd x) (ap (tableOf (Pairs f)) (kept-said sound l z e h) ∙ pairs-cut glyphs s (oneMap g) (l .holds) f new z sound) (w .answered)
-
--- A map whose old numbers ascend has 65,536 entries at most.
-map-least : (m : List ℕ) → ascends (keys (mapEntries m)) ≡ true → (k : ℕ) → k < length m / 4 → k ≤ word m (4 * k)
-map-least m good zero h = omega arith
-map-least m good (suc k) h = omega (arith, map-least m good k (omega arith), map-rises m good k (suc k) (omega arith) h)
-
-few-entries : (m : List ℕ) → ascends (keys (mapEntries m)) ≡ true → ((i : ℕ) → getD m i 0 < 256) → length m / 4 ≤ 65536
-few-entries m good bytes = step (decLt 0 (length m / 4))
-  where
-    step : Dec (0 < length m / 4) → length m / 4 ≤ 65536
-    step (yes h) = omega (arith, map-least m good (length m / 4 - 1) (omega arith), word-small m bytes (4 * (length m / 4 - 1)))
-    step (no h) = omega arith
+      answered-said (λ x. absurd x) (ap (tableOf (Pairs f)) (kept-said sound l z e h) ∙ pairs-cut (glyphEntries form glyphs) s (oneMap g) (l .holds) f new z sound) (w .answered)
 
 -- a map that has no room
 pub no-room : {list t₀ t : List ℕ} {at : ℕ} {m : Map} → Laid list t₀ t at m → ascends (keys (mapEntries list)) ≡ true → m .mask ≡ 0 → length t₀ < at + 65536
@@ -264,46 +258,49 @@ no-room {t₀ = t₀} {at = at} l a z = step (decLt (length t₀) (at + 65536))
     step (yes h) = h
     step (no h) = absurd (l .room (omega arith) a z)
 
--- one map for all, and glyphs before lookups
-module _ {g t₀ t : List ℕ} {m : Map} (a : Laid g t₀ t 0 m) (z : m .mask ≡ 0 → ⊥) (u : ascends (keys (mapEntries g)) ≡ true) where
-  -- the glyph map lies before the first free cell
-  ends : m .at + m .mask < m .mask + 1
-  ends = omega (arith, a .place)
+pub glyphs-no-room : {form : ℕ} {list t₀ t : List ℕ} {at : ℕ} {m : Map} → LaidGlyphs form list t₀ t at m → m .mask ≡ 0 → length t₀ < at + 65536
+glyphs-no-room {t₀ = t₀} {at = at} l z = step (decLt (length t₀) (at + 65536))
+  where
+    step : Dec (length t₀ < at + 65536) → length t₀ < at + 65536
+    step (yes h) = h
+    step (no h) = absurd (l .room (omega arith) z)
 
-  pub one-laid : MapsLaid g t (oneMap m) (m .mask + 1)
+-- one map for all, and glyphs before lookups
+module _ {form : ℕ} {g t₀ t : List ℕ} {m : Map} (a : LaidGlyphs form g t₀ t 0 m) (z : m .mask ≡ 0 → ⊥) (u : GlyphMap form g) where
+  pub one-laid : MapsLaid form g t (oneMap m)
   one-laid =
       let h = a .holds z in
       record {
-        ascend = u;
+        map = u;
         holds = h;
         inside = record { back = h .inside; input = h .inside; ahead = h .inside; lookups = h .inside };
-        before = record { back = ends; input = ends; ahead = ends; lookups = ends };
-        small = omega (arith, a .few u);
+        before = record { back = omega arith; input = omega arith; ahead = omega arith; lookups = omega arith };
+        small = omega (arith, a .place, a .few);
       }
 
   module _ {l t₂ : List ℕ} {n : Map} (b : Laid l t t₂ (m .mask + 1) n) where
     -- it stands as it was
-    pub glyphs-stand : Holds t₂ m (mapEntries g)
-    glyphs-stand = holds-kept (b .kept) ends (a .holds z)
+    pub glyphs-stand : Holds t₂ m (glyphEntries form g)
+    glyphs-stand = holds-kept (b .kept) (omega (arith, a .place)) (a .holds z)
 
-    pub two-laid : (n .mask ≡ 0 → ⊥) → ascends (keys (mapEntries l)) ≡ true → MapsLaid g t₂ (record { back = m; input = m; ahead = m; lookups = n }) (m .mask + n .mask + 2)
+    pub two-laid : (n .mask ≡ 0 → ⊥) → ascends (keys (mapEntries l)) ≡ true → MapsLaid form g t₂ (record { back = m; input = m; ahead = m; lookups = n })
     two-laid y v =
         let h = glyphs-stand in
-        let e : m .at + m .mask < m .mask + n .mask + 2 = omega (arith, a .place) in
+        let e : m .at + m .mask < n .at + n .mask + 1 = omega (arith, a .place, b .place) in
         record {
-          ascend = u;
+          map = u;
           holds = h;
           inside = record { back = h .inside; input = h .inside; ahead = h .inside; lookups = b .holds y .inside };
-          before = record { back = e; input = e; ahead = e; lookups = omega (arith, b .place) };
-          small = omega (arith, a .few u, b .few v);
+          before = record { back = e; input = e; ahead = e; lookups = omega arith };
+          small = omega (arith, b .place, a .few, b .few v);
         }
 
 -- With few cells behind the maps, the lent ones were few; so what is answered behind the maps is answered of all.
-module _ {g t₀ t : List ℕ} {m : Map} (a : Laid g t₀ t 0 m) (u : ascends (keys (mapEntries g)) ≡ true) (bytes : (i : ℕ) → getD g i 0 < 256)
+module _ {form : ℕ} {g t₀ t : List ℕ} {m : Map} (a : LaidGlyphs form g t₀ t 0 m)
     {out₀ : List ℕ} {words : Option (List ℕ)} {n : ℕ} {r : Tried} {out : List ℕ} (left : Option Table) (fit : Opt ByCover left) (e : words ≡ block tableWords left) where
-  pub one-answered : Answered (length t ≤ m .mask + 1 + length g / 4) out₀ words n r out → Tries (length t₀ < cellsMost) (n < areaMost) r out₀ out (written out₀ left)
-  one-answered = answered-as (λ h. omega (arith, h, few-entries g u bytes, a .kept .size, a .few u)) left fit e
+  pub one-answered : Answered (length t ≤ behind (oneMap m) + 65536) out₀ words n r out → Tries (length t₀ < cellsMost) (n < areaMost) r out₀ out (written out₀ left)
+  one-answered = answered-as (λ h. omega (arith, h, a .kept .size, a .place, a .few)) left fit e
 
-  pub two-answered : {l t₂ : List ℕ} {k : Map} → Laid l t t₂ (m .mask + 1) k → ascends (keys (mapEntries l)) ≡ true → Answered (length t₂ ≤ m .mask + k .mask + 2 + length g / 4) out₀ words n r out
+  pub two-answered : {l t₂ : List ℕ} {k : Map} → Laid l t t₂ (m .mask + 1) k → ascends (keys (mapEntries l)) ≡ true → Answered (length t₂ ≤ k .at + k .mask + 1 + 65536) out₀ words n r out
       → Tries (length t₀ < cellsMost) (n < areaMost) r out₀ out (written out₀ left)
-  two-answered b v = answered-as (λ h. omega (arith, h, few-entries g u bytes, a .kept .size, b .kept .size, a .few u, b .few v)) left fit e
+  two-answered b v = answered-as (λ h. omega (arith, h, a .kept .size, b .kept .size, b .place, a .few, b .few v)) left fit e

@@ -1,25 +1,26 @@
 -- What is left of a table by glyph fits its words exactly if the coverage's offset does.
-use Prim.Native.Nat.{ℕ, _+_, _*_, _/_}
-use mathlib.Core.Path.{_≡_, refl, sym, ap, _∙_}
-use mathlib.Core.Bool.{Bool, true, _&&_}
+use Prim.Native.Nat.{ℕ, _+_, _*_}
+use mathlib.Core.Path.{_≡_, ap, _∙_}
+use mathlib.Core.Bool.{Bool}
 use mathlib.Core.Option.{Option, none, some}
 use mathlib.Core.List.{List, [], _∷_, map}
 use native.Mathlib.Omega.{arith}
 use lib.ListN.{length, getD, length-map}
-use lib.Dec.{ltb, eqb}
-use Rattle.meaning.specs.Words.{word, bind, keys, values, ascends}
-use Rattle.meaning.specs.Maps.{mapEntries}
+use lib.Dec.{ltb}
+use Rattle.meaning.specs.Words.{word, bind}
+use Rattle.meaning.specs.Maps.{mapEntries, glyphEntries}
 use Rattle.meaning.specs.Tables.{Rule, Ligature, Pair, Table}
 use Rattle.meaning.specs.Fault.{enough, headerFault}
 use Rattle.meaning.specs.Cut.{cutSet, cutLigatures, cutPairs, keptSets, keptByGlyph, keptLigatures, keptPairs, cut}
 use Rattle.meaning.specs.Layout.{blocks, block, ruleWords, ligatureWords, setWords, pairSetWords, coverageWords, setsLayout, tableWords}
 use Rattle.laws.specs.Through.{Opt}
-use Rattle.laws.specs.ReadsBack.{Good, kindOf}
+use Rattle.laws.specs.ReadsBack.{Good}
 use Rattle.laws.specs.CutGood.{GoodOf}
 use Rattle.laws.specs.CutTables.{cut-good}
 use Rattle.laws.specs.SoundGood.{Bytes, format-1, ligature-format-1, pair-format-1}
-use Rattle.laws.specs.CallBack.{good-map, map-values}
+use Rattle.laws.specs.CallBack.{map-values}
 use Rattle.laws.specs.FitsExactly.{by-glyph-exactly, ligatures-exactly, pairs-exactly}
+use Rattle.glyph_runs.specs.Runs.{GlyphMap, map-good}
 use Rattle.kept_sets.specs.Sorts.{setFaultOf}
 use Rattle.kept_sets.specs.declared.Sort.the-variants.{Rules, Ligatures}
 use Rattle.kept_table.specs.Answers.{ByCover}
@@ -76,14 +77,14 @@ module _ (g l : List (ℕ × ℕ)) (k : ℕ) where
       step (e ∷ r) h = pairs-by-cover _ _ _ _ (h .0)
 
 -- What is left of a sound source under a good glyph map.
-module _ (s glyphs : List ℕ) (bs : Bytes s) (bg : Bytes glyphs) (old : ascends (keys (mapEntries glyphs)) ≡ true) (new : ascends (values (mapEntries glyphs)) ≡ true) where
-  pub rules-fit : (chained : Bool) (lookups : List ℕ) → Bytes lookups → headerFault (enough s (word s 4)) 0 4 (setFaultOf (Rules chained) s) s ≡ none → Opt ByCover (cut (mapEntries glyphs) (mapEntries lookups) (glyphContext chained s))
+module _ (s : List ℕ) (bs : Bytes s) {form : ℕ} {glyphs : List ℕ} (g : GlyphMap form glyphs) where
+  pub rules-fit : (chained : Bool) (lookups : List ℕ) → Bytes lookups → headerFault (enough s (word s 4)) 0 4 (setFaultOf (Rules chained) s) s ≡ none → Opt ByCover (cut (glyphEntries form glyphs) (mapEntries lookups) (glyphContext chained s))
   unfolding setFaultOf
-  rules-fit chained lookups bl h = rules-left _ _ _ chained _ _ (cut-good (mapEntries glyphs) (mapEntries lookups) (good-map glyphs bg old new) (map-values lookups bl) (glyphContext chained s) (format-1 s bs chained h))
+  rules-fit chained lookups bl h = rules-left _ _ _ chained _ _ (cut-good (glyphEntries form glyphs) (mapEntries lookups) (map-good g) (map-values lookups bl) (glyphContext chained s) (format-1 s bs chained h))
 
-  pub ligatures-fit : headerFault (enough s (word s 4)) 0 4 (setFaultOf Ligatures s) s ≡ none → Opt ByCover (cut (mapEntries glyphs) [] (ligatureTable s))
+  pub ligatures-fit : headerFault (enough s (word s 4)) 0 4 (setFaultOf Ligatures s) s ≡ none → Opt ByCover (cut (glyphEntries form glyphs) [] (ligatureTable s))
   unfolding setFaultOf
-  ligatures-fit h = ligatures-left _ _ _ _ _ (cut-good (mapEntries glyphs) [] (good-map glyphs bg old new) tt (ligatureTable s) (ligature-format-1 s bs h))
+  ligatures-fit h = ligatures-left _ _ _ _ _ (cut-good (glyphEntries form glyphs) [] (map-good g) tt (ligatureTable s) (ligature-format-1 s bs h))
 
-  pub pairs-fit : pairFault s ≡ none → Opt ByCover (cut (mapEntries glyphs) [] (pairTable s))
-  pairs-fit h = pairs-left _ _ _ _ _ _ _ (cut-good (mapEntries glyphs) [] (good-map glyphs bg old new) tt (pairTable s) (pair-format-1 s bs h))
+  pub pairs-fit : pairFault s ≡ none → Opt ByCover (cut (glyphEntries form glyphs) [] (pairTable s))
+  pairs-fit h = pairs-left _ _ _ _ _ _ _ (cut-good (glyphEntries form glyphs) [] (map-good g) tt (pairTable s) (pair-format-1 s bs h))

@@ -7,13 +7,14 @@ use mathlib.Core.List.{List, []}
 use native.Mathlib.Nat.{zero-add}
 use lib.ListN.{length}
 use borrow.Author.Tests.{ne-eqb, eq-eqb}
-use Rattle.meaning.specs.Words.{word, find, bind, keys, ascends}
-use Rattle.meaning.specs.Maps.{mapEntries}
+use Rattle.meaning.specs.Words.{word, find, bind}
+use Rattle.meaning.specs.Maps.{glyphEntries}
 use Rattle.meaning.specs.Parts.{coverage, coverageSound}
 use Rattle.meaning.specs.Tables.{reach, reaches, ruleSet, ligatureSet}
 use Rattle.meaning.specs.Cut.{RuleMaps, cut, cutSet, cutLigatures, keptSets, keptByGlyph, keptLigatures}
 use Rattle.meaning.specs.Layout.{block, ruleWords, ligatureWords, setWords, tableWords}
 use Rattle.meaning.specs.Subset.{limit}
+use Rattle.glyph_runs.specs.Runs.{GlyphMap}
 use Rattle.fold.specs.Cells.{Holds}
 use Rattle.numbers.specs.Alike.{holds-alike, set-alike, ligatures-alike}
 use Rattle.rule_sets.specs.Left.{AllInside}
@@ -40,17 +41,21 @@ pub record SoundSets (sort : Sort) (s : List ℕ) : Type 0 where
   pub enough : (word s 2 ≡ 0 → ⊥) → length (coverage s (word s 2)) ≤ countOf sort s
   pub sets : (i : ℕ) → i < countOf sort s → (word s (headerSize sort + 2 * i) ≡ 0 → ⊥) → setFaultOf sort s (word s (headerSize sort + 2 * i)) ≡ none
 
--- The maps are laid into cells before `notes`: that of the input holds the glyph map, whose old numbers ascend.
-pub record MapsLaid (glyphs t : List ℕ) (maps : Maps) (notes : ℕ) : Type 0 where
-  pub ascend : ascends (keys (mapEntries glyphs)) ≡ true
-  pub holds : Holds t (maps .input) (mapEntries glyphs)
+-- the cell behind the maps, which are laid into cells one after the other
+abbrev pub behind : Maps → ℕ
+behind maps = maps .lookups .at + maps .lookups .mask + 1
+
+-- The maps are laid into cells: that of the input holds the good glyph map.
+pub record MapsLaid (form : ℕ) (glyphs t : List ℕ) (maps : Maps) : Type 0 where
+  pub map : GlyphMap form glyphs
+  pub holds : Holds t (maps .input) (glyphEntries form glyphs)
   pub inside : AllInside t maps
-  pub before : AllBefore maps notes
-  pub small : notes ≤ 0x1_0000_0000
+  pub before : AllBefore maps (behind maps)
+  pub small : behind maps ≤ 0x1_0000_0000
 
 -- the kept sets of the glyphs that the coverage and the glyph map have in common
-abbrev pub keptFrom : Sort → List ℕ → List ℕ → List ℕ → Maps → List (ℕ × List ℕ)
-keptFrom sort s glyphs t maps = keptOf (leftIn sort t maps s) s (headerSize sort) (met (find (mapEntries glyphs)) 0 (coverage s (word s 2)))
+abbrev pub keptFrom : Sort → List ℕ → List (ℕ × ℕ) → List ℕ → Maps → List (ℕ × List ℕ)
+keptFrom sort s g t maps = keptOf (leftIn sort t maps s) s (headerSize sort) (met (find g) 0 (coverage s (word s 2)))
 
 -- what is left of a null coverage's table
 module _ (g l : List (ℕ × ℕ)) (s : List ℕ) where
@@ -77,25 +82,25 @@ module _ (g l : List (ℕ × ℕ)) (s : List ℕ) (z : word s 2 ≡ 0 → ⊥) w
   ligatures-there = rw (ne-eqb (word s 2) 0 z, zero-add)
 
 -- What is left of a table, as the words of its kept sets say it.
-module _ (g s : List ℕ) {t : List ℕ} (maps : Maps) (i : Holds t (maps .input) (mapEntries g)) where
-  ligatures-left : (p : ℕ) → leftIn Ligatures t maps s p ≡ block (setWords ligatureWords) (cutLigatures (mapEntries g) (ligatureSet s p))
+module _ (g : List (ℕ × ℕ)) (s : List ℕ) {t : List ℕ} (maps : Maps) (i : Holds t (maps .input) g) where
+  ligatures-left : (p : ℕ) → leftIn Ligatures t maps s p ≡ block (setWords ligatureWords) (cutLigatures g (ligatureSet s p))
   unfolding setLeft
   ligatures-left p = ap (block (setWords ligatureWords)) (ligatures-alike (holds-alike i) (ligatureSet s p))
 
   module _ (z : word s 2 ≡ 0 → ⊥) where
-    pub ligatures-cut : SoundSets Ligatures s → tableOf Ligatures (keptFrom Ligatures s g t maps) ≡ block tableWords (cut (mapEntries g) [] (ligatureTable s))
+    pub ligatures-cut : SoundSets Ligatures s → tableOf Ligatures (keptFrom Ligatures s g t maps) ≡ block tableWords (cut g [] (ligatureTable s))
     ligatures-cut a =
-        ap (tableOf Ligatures) (kept-met (ligatureSet s) (cutLigatures (mapEntries g)) (setWords ligatureWords) (leftIn Ligatures t maps s) ligatures-left s 6 (mapEntries g) 0 (coverage s (word s 2)) (word s 4) (a .enough z))
-        ∙ ligatures-as (keptSets (cutLigatures (mapEntries g)) (mapEntries g) (coverage s (word s 2)) (reaches (ligatureSet s) s 0 6 (word s 4)))
-        ∙ ap (block tableWords) (sym (ligatures-there (mapEntries g) [] s z))
+        ap (tableOf Ligatures) (kept-met (ligatureSet s) (cutLigatures g) (setWords ligatureWords) (leftIn Ligatures t maps s) ligatures-left s 6 g 0 (coverage s (word s 2)) (word s 4) (a .enough z))
+        ∙ ligatures-as (keptSets (cutLigatures g) g (coverage s (word s 2)) (reaches (ligatureSet s) s 0 6 (word s 4)))
+        ∙ ap (block tableWords) (sym (ligatures-there g [] s z))
 
-  module _ (l : List ℕ) (b : Holds t (maps .back) (mapEntries g)) (h : Holds t (maps .ahead) (mapEntries g)) (k : Holds t (maps .lookups) (mapEntries l)) (chained : Bool) where
-    rules-left : (p : ℕ) → leftIn (Rules chained) t maps s p ≡ block (setWords (ruleWords chained)) (cutSet chained (glyphMaps (mapEntries g) (mapEntries l)) (ruleSet chained s p))
+  module _ (l : List (ℕ × ℕ)) (b : Holds t (maps .back) g) (h : Holds t (maps .ahead) g) (k : Holds t (maps .lookups) l) (chained : Bool) where
+    rules-left : (p : ℕ) → leftIn (Rules chained) t maps s p ≡ block (setWords (ruleWords chained)) (cutSet chained (glyphMaps g l) (ruleSet chained s p))
     unfolding setLeft
     rules-left p = ap (block (setWords (ruleWords chained))) (set-alike (holds-alike b) (holds-alike i) (holds-alike h) (holds-alike k) chained (ruleSet chained s p))
 
-    pub rules-cut : (word s 2 ≡ 0 → ⊥) → SoundSets (Rules chained) s → tableOf (Rules chained) (keptFrom (Rules chained) s g t maps) ≡ block tableWords (cut (mapEntries g) (mapEntries l) (glyphContext chained s))
+    pub rules-cut : (word s 2 ≡ 0 → ⊥) → SoundSets (Rules chained) s → tableOf (Rules chained) (keptFrom (Rules chained) s g t maps) ≡ block tableWords (cut g l (glyphContext chained s))
     rules-cut z a =
-        ap (tableOf (Rules chained)) (kept-met (ruleSet chained s) (cutSet chained (glyphMaps (mapEntries g) (mapEntries l))) (setWords (ruleWords chained)) (leftIn (Rules chained) t maps s) rules-left s 6 (mapEntries g) 0 (coverage s (word s 2)) (word s 4) (a .enough z))
-        ∙ rules-as chained (keptSets (cutSet chained (glyphMaps (mapEntries g) (mapEntries l))) (mapEntries g) (coverage s (word s 2)) (reaches (ruleSet chained s) s 0 6 (word s 4)))
-        ∙ ap (block tableWords) (sym (rules-there (mapEntries g) (mapEntries l) s z chained))
+        ap (tableOf (Rules chained)) (kept-met (ruleSet chained s) (cutSet chained (glyphMaps g l)) (setWords (ruleWords chained)) (leftIn (Rules chained) t maps s) rules-left s 6 g 0 (coverage s (word s 2)) (word s 4) (a .enough z))
+        ∙ rules-as chained (keptSets (cutSet chained (glyphMaps g l)) g (coverage s (word s 2)) (reaches (ruleSet chained s) s 0 6 (word s 4)))
+        ∙ ap (block tableWords) (sym (rules-there g l s z chained))

@@ -8,7 +8,6 @@ use native.Mathlib.Nat.{zero-add}
 use lib.Dec.{eqb}
 use borrow.Author.Tests.{ne-eqb, eq-eqb}
 use Rattle.meaning.specs.Words.{word, find, bind}
-use Rattle.meaning.specs.Maps.{mapEntries}
 use Rattle.meaning.specs.Parts.{coverage}
 use Rattle.meaning.specs.Tables.{Table, Pair, fieldCount, reach, reaches, pairSet}
 use Rattle.meaning.specs.Fault.{pairSetFault, enough, headerFault, goodFormats}
@@ -104,26 +103,26 @@ module _ (g l : List (ℕ × ℕ)) (s : List ℕ) where
   pairs-there z = rw (ne-eqb (word s 2) 0 z, zero-add)
 
 -- What is left of a table of pairs, as the words of its kept sets say it.
-module _ (g s : List ℕ) {t : List ℕ} (maps : Maps) (i : Holds t (maps .input) (mapEntries g)) (f : Formats) where
-  pairs-agree : (p : ℕ) → leftIn (Pairs f) t maps s p ≡ block (thinned f) (cutPairs (mapEntries g) (pairSet (fieldCount (f .f1)) (fieldCount (f .f2)) s p))
+module _ (g : List (ℕ × ℕ)) (s : List ℕ) {t : List ℕ} (maps : Maps) (i : Holds t (maps .input) g) (f : Formats) where
+  pairs-agree : (p : ℕ) → leftIn (Pairs f) t maps s p ≡ block (thinned f) (cutPairs g (pairSet (fieldCount (f .f1)) (fieldCount (f .f2)) s p))
   unfolding setLeft
   pairs-agree p =
       pairs-left (entriesIn t (maps .input)) (f .f1) (f .f2) (f .n1) (f .n2) s p
       ∙ ap (block (thinned f)) (pairs-alike (holds-alike i) (pairSet (fieldCount (f .f1)) (fieldCount (f .f2)) s p))
 
-  module _ (new : NewFormats (mapEntries g) s (met (find (mapEntries g)) 0 (coverage s (word s 2))) f) (z : word s 2 ≡ 0 → ⊥) (a : SoundSets (Pairs f) s) where
+  module _ (new : NewFormats g s (met (find g) 0 (coverage s (word s 2))) f) (z : word s 2 ≡ 0 → ⊥) (a : SoundSets (Pairs f) s) where
     -- the kept sets
     abbrev kept : List (ℕ × List Pair)
-    kept = keptSets (cutPairs (mapEntries g)) (mapEntries g) (coverage s (word s 2)) (reaches (pairSet (fieldCount (f .f1)) (fieldCount (f .f2)) s) s 0 10 (word s 8))
+    kept = keptSets (cutPairs g) g (coverage s (word s 2)) (reaches (pairSet (fieldCount (f .f1)) (fieldCount (f .f2)) s) s 0 10 (word s 8))
 
     first : f .n1 ≡ newFormat (λ p. p .first-values) (f .f1) kept
-    first = new .n1 ∙ rw (← new .f1, ← new .f2) (first-format (mapEntries g) s (f .f1) (f .f2) (coverage s (word s 2)) (word s 8) (a .enough z))
+    first = new .n1 ∙ rw (← new .f1, ← new .f2) (first-format g s (f .f1) (f .f2) (coverage s (word s 2)) (word s 8) (a .enough z))
 
     second : f .n2 ≡ newSecond (f .f2) kept
-    second = new .n2 ∙ rw (← new .f1, ← new .f2) (second-format (mapEntries g) s (f .f1) (f .f2) (coverage s (word s 2)) (word s 8) (a .enough z))
+    second = new .n2 ∙ rw (← new .f1, ← new .f2) (second-format g s (f .f1) (f .f2) (coverage s (word s 2)) (word s 8) (a .enough z))
 
-    pub pairs-cut : tableOf (Pairs f) (keptFrom (Pairs f) s g t maps) ≡ block tableWords (cut (mapEntries g) [] (pairTable s))
+    pub pairs-cut : tableOf (Pairs f) (keptFrom (Pairs f) s g t maps) ≡ block tableWords (cut g [] (pairTable s))
     pairs-cut =
-        ap (tableOf (Pairs f)) (kept-met (pairSet (fieldCount (f .f1)) (fieldCount (f .f2)) s) (cutPairs (mapEntries g)) (thinned f) (leftIn (Pairs f) t maps s) pairs-agree s 10 (mapEntries g) 0 (coverage s (word s 2)) (word s 8) (a .enough z))
+        ap (tableOf (Pairs f)) (kept-met (pairSet (fieldCount (f .f1)) (fieldCount (f .f2)) s) (cutPairs g) (thinned f) (leftIn (Pairs f) t maps s) pairs-agree s 10 g 0 (coverage s (word s 2)) (word s 8) (a .enough z))
         ∙ pairs-as f kept first second
-        ∙ ap (block tableWords) (rw (new .f1, new .f2) (sym (pairs-there (mapEntries g) [] s z)))
+        ∙ ap (block tableWords) (rw (new .f1, new .f2) (sym (pairs-there g [] s z)))

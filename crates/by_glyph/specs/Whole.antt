@@ -15,7 +15,7 @@ use Rattle.tried.specs.Tries.{Tries, tries-less}
 use Rattle.tried.specs.declared.Tried.{Tried}
 use Rattle.kept_table.specs.Table.{areaMost}
 
--- how many cells are enough for any source: those of two maps, and a note for each entry of the glyph map and one more
+-- how many cells are enough for any source: those of two maps, and a note for each glyph and one more
 abbrev pub cellsMost : ℕ
 cellsMost = 196609
 

@@ -1,11 +1,13 @@
 // Format 1 of each kind, cut in one walk: the retained covered glyphs are noted in cells, what is left of their sets is written into the area, and the table is handed over to the buffer.
 use fold::Map;
 use fold::lay;
+use fold::lay_glyphs;
 use kept_sets::Sort;
 use kept_table::AREA;
 use kept_table::Notes;
 use kept_table::write_table;
-use meet::meet;
+use meet_runs::meet;
+use meet_runs::most;
 use member_sets::PLACES;
 use member_sets::crowded;
 use pair_formats::new_formats;
@@ -21,19 +23,20 @@ ghost use mathlib.Core.Option.{none};
 ghost use mathlib.Core.List.{[]};
 ghost use Prim.Native.Nat.{_+_, _/_, _≤_, _<_};
 ghost use lib.ListN.{length};
-ghost use Rattle.meaning.specs.Words.{word, ascends, keys, values};
-ghost use Rattle.meaning.specs.Maps.{mapEntries};
+ghost use Rattle.meaning.specs.Words.{word, ascends, keys};
+ghost use Rattle.meaning.specs.Maps.{mapEntries, glyphEntries};
 ghost use Rattle.meaning.specs.Fault.{headerFault, enough};
 ghost use Rattle.meaning.specs.Cut.{cut};
 ghost use Rattle.meaning.specs.Layout.{block, tableWords};
 ghost use Rattle.meaning.specs.Subset.{limit, written};
+ghost use Rattle.glyph_runs.specs.Runs.{GlyphMap};
 ghost use Rattle.kept_sets.specs.Sorts.{setFaultOf, isPairs};
 ghost use Rattle.kept_sets.specs.Kept.{Ready, keptIn};
 ghost use Rattle.kept_sets.specs.declared.Sort.the-variants.{Rules, Ligatures};
 ghost use Rattle.tried.specs.Tries.{Tries};
 ghost use Rattle.kept_table.specs.Table.{areaMost, tableOf};
 ghost use Rattle.kept_table.specs.Answers.{Answered};
-ghost use Rattle.by_glyph.specs.Asked.{SoundSets, MapsLaid, keptFrom};
+ghost use Rattle.by_glyph.specs.Asked.{SoundSets, behind, MapsLaid, keptFrom};
 ghost use Rattle.by_glyph.specs.PairTables.{pairsOf, oneMap, pairFault, pairTable, AnsweredPairs};
 ghost use Rattle.by_glyph.specs.Whole.{cellsMost, Least, glyphContext, ligatureTable};
 
@@ -59,47 +62,54 @@ fn write_shared(
     write_table(sort, src, &mut dead, t, notes, maps, area, out)
 }
 
-// What is left of a table under a glyph map, whose cells and those of the lookup map stand before `notes`, for sets that have no value formats: the retained covered glyphs are noted, and the table is written.
+// What is left of a table under a glyph map, for sets that have no value formats: the retained covered glyphs are noted behind the cells of the maps, and the table is written.
 fn cut_sets(
     sort: Sort,
     src: &[u8],
     glyphs: &[u8],
+    form: usize,
     maps: Maps,
     t: &mut [u32],
-    notes: usize,
     area: &mut [u8],
     out: &mut [u8],
 ) -> Tried
-    requires { ⌜ SoundSets sort (now src) × MapsLaid (now glyphs) (now t) maps notes × (length (now area) ≤ areaMost) × (word (now src) 2 ≡ 0 → ⊥) × (isPairs sort ≡ false) ⌝ }
-    ensures { λ r. ⌜ Answered (length (now (t .entry)) ≤ notes + length (now (glyphs .entry)) / 4) (now (out .entry)) (tableOf sort (keptFrom sort (now (src .entry)) (now (glyphs .entry)) (now (t .entry)) maps)) (length (now (area .entry))) r (now (out .exit)) ⌝ }
+    requires { ⌜ SoundSets sort (now src) × MapsLaid form (now glyphs) (now t) maps × (length (now area) ≤ areaMost) × (word (now src) 2 ≡ 0 → ⊥) × (isPairs sort ≡ false) ⌝ }
+    ensures { λ r. ⌜ Answered (length (now (t .entry)) ≤ behind maps + 65536) (now (out .entry)) (tableOf sort (keptFrom sort (now (src .entry)) (glyphEntries form (now (glyphs .entry))) (now (t .entry)) maps)) (length (now (area .entry))) r (now (out .exit)) ⌝ }
 {
-    if t.len() < notes + glyphs.len() / 4 + 1 {
+    let cover = word_inside(src, 2);
+    let notes = maps.lookups.at + maps.lookups.mask + 1;
+    if t.len() <= notes + most(src, cover, glyphs, form) {
         return Tried::FewCells;
     }
-    let cover = word_inside(src, 2);
-    let m = meet(src, cover, glyphs, maps.input, t, notes);
+    let m = meet(src, cover, glyphs, form, maps.input, t, notes);
     let found = Notes {
         at: notes,
         count: m,
     };
     if crowded(src, 6, word_inside(src, 4)) {
-        return write_shared(sort, src, t, found, maps, glyphs.len() % 4, area, out);
+        return write_shared(sort, src, t, found, maps, glyphs.len() % form, area, out);
     }
     let mut no_marks = [0u8; 1];
     write_table(sort, src, &mut no_marks, t, found, maps, area, out)
 }
 
 // The same from the source and the map's list on, for ligatures.
-fn cut_ligatures(src: &[u8], glyphs: &[u8], t: &mut [u32], area: &mut [u8], out: &mut [u8]) -> Tried
-    requires { ⌜ (headerFault (enough (now src) (word (now src) 4)) 0 4 (setFaultOf Ligatures (now src)) (now src) ≡ none) × (length (now src) ≤ limit) × (ascends (keys (mapEntries (now glyphs))) ≡ true) × (length (now area) ≤ areaMost) × (ascends (values (mapEntries (now glyphs))) ≡ true) ⌝ }
-    ensures { λ r. ⌜ Tries (length (now (t .entry)) < cellsMost) (length (now (area .entry)) < areaMost) r (now (out .entry)) (now (out .exit)) (written (now (out .entry)) (cut (mapEntries (now (glyphs .entry))) [] (ligatureTable (now (src .entry))))) ⌝ }
+fn cut_ligatures(
+    src: &[u8],
+    glyphs: &[u8],
+    form: usize,
+    t: &mut [u32],
+    area: &mut [u8],
+    out: &mut [u8],
+) -> Tried
+    requires { ⌜ (headerFault (enough (now src) (word (now src) 4)) 0 4 (setFaultOf Ligatures (now src)) (now src) ≡ none) × (length (now src) ≤ limit) × GlyphMap form (now glyphs) × (length (now area) ≤ areaMost) ⌝ }
+    ensures { λ r. ⌜ Tries (length (now (t .entry)) < cellsMost) (length (now (area .entry)) < areaMost) r (now (out .entry)) (now (out .exit)) (written (now (out .entry)) (cut (glyphEntries form (now (glyphs .entry))) [] (ligatureTable (now (src .entry))))) ⌝ }
 {
     if word_inside(src, 2) == 0 {
         return Tried::Became(Laid::Nothing);
     }
-    let g = lay(glyphs, t, 0);
-    let mask = g.mask;
-    if mask == 0 {
+    let g = lay_glyphs(glyphs, form, t, 0);
+    if g.mask == 0 {
         return Tried::FewCells;
     }
     let maps = Maps {
@@ -108,7 +118,7 @@ fn cut_ligatures(src: &[u8], glyphs: &[u8], t: &mut [u32], area: &mut [u8], out:
         ahead: g,
         lookups: g,
     };
-    cut_sets(Sort::Ligatures, src, glyphs, maps, t, mask + 1, area, out)
+    cut_sets(Sort::Ligatures, src, glyphs, form, maps, t, area, out)
 }
 
 // The same for contexts by glyph, plain or chained.
@@ -116,25 +126,24 @@ fn cut_contexts(
     chained: bool,
     src: &[u8],
     glyphs: &[u8],
+    form: usize,
     lookups: &[u8],
     t: &mut [u32],
     area: &mut [u8],
     out: &mut [u8],
 ) -> Tried
-    requires { ⌜ (headerFault (enough (now src) (word (now src) 4)) 0 4 (setFaultOf (Rules chained) (now src)) (now src) ≡ none) × (length (now src) ≤ limit) × (ascends (keys (mapEntries (now glyphs))) ≡ true) × (ascends (keys (mapEntries (now lookups))) ≡ true) × (length (now area) ≤ areaMost) × (ascends (values (mapEntries (now glyphs))) ≡ true) ⌝ }
-    ensures { λ r. ⌜ Tries (length (now (t .entry)) < cellsMost) (length (now (area .entry)) < areaMost) r (now (out .entry)) (now (out .exit)) (written (now (out .entry)) (cut (mapEntries (now (glyphs .entry))) (mapEntries (now (lookups .entry))) (glyphContext chained (now (src .entry))))) ⌝ }
+    requires { ⌜ (headerFault (enough (now src) (word (now src) 4)) 0 4 (setFaultOf (Rules chained) (now src)) (now src) ≡ none) × (length (now src) ≤ limit) × GlyphMap form (now glyphs) × (ascends (keys (mapEntries (now lookups))) ≡ true) × (length (now area) ≤ areaMost) ⌝ }
+    ensures { λ r. ⌜ Tries (length (now (t .entry)) < cellsMost) (length (now (area .entry)) < areaMost) r (now (out .entry)) (now (out .exit)) (written (now (out .entry)) (cut (glyphEntries form (now (glyphs .entry))) (mapEntries (now (lookups .entry))) (glyphContext chained (now (src .entry))))) ⌝ }
 {
     if word_inside(src, 2) == 0 {
         return Tried::Became(Laid::Nothing);
     }
-    let g = lay(glyphs, t, 0);
-    let mask = g.mask;
-    if mask == 0 {
+    let g = lay_glyphs(glyphs, form, t, 0);
+    if g.mask == 0 {
         return Tried::FewCells;
     }
-    let l = lay(lookups, t, mask + 1);
-    let last = l.mask;
-    if last == 0 {
+    let l = lay(lookups, t, g.mask + 1);
+    if l.mask == 0 {
         return Tried::FewCells;
     }
     let maps = Maps {
@@ -143,16 +152,7 @@ fn cut_contexts(
         ahead: g,
         lookups: l,
     };
-    cut_sets(
-        Sort::Rules(chained),
-        src,
-        glyphs,
-        maps,
-        t,
-        mask + last + 2,
-        area,
-        out,
-    )
+    cut_sets(Sort::Rules(chained), src, glyphs, form, maps, t, area, out)
 }
 
 // What is left of a table of pairs, whose retained covered glyphs are noted: its new value formats, and then the table with the fields that stay.
@@ -188,24 +188,25 @@ fn write_pair_table(
     )
 }
 
-// The same from the glyph map on, whose cells stand before `notes`.
+// The same from the glyph map on: the retained covered glyphs are noted behind its cells.
 fn cut_pair_sets(
     src: &[u8],
     glyphs: &[u8],
+    form: usize,
     g: Map,
     t: &mut [u32],
-    notes: usize,
     area: &mut [u8],
     out: &mut [u8],
 ) -> Tried
-    requires { ⌜ SoundSets (pairsOf (now src)) (now src) × MapsLaid (now glyphs) (now t) (oneMap g) notes × (length (now area) ≤ areaMost) × (word (now src) 2 ≡ 0 → ⊥) ⌝ }
-    ensures { λ r. ⌜ Answered (length (now (t .entry)) ≤ notes + length (now (glyphs .entry)) / 4) (now (out .entry)) (block tableWords (cut (mapEntries (now (glyphs .entry))) [] (pairTable (now (src .entry))))) (length (now (area .entry))) r (now (out .exit)) ⌝ }
+    requires { ⌜ SoundSets (pairsOf (now src)) (now src) × MapsLaid form (now glyphs) (now t) (oneMap g) × (length (now area) ≤ areaMost) × (word (now src) 2 ≡ 0 → ⊥) ⌝ }
+    ensures { λ r. ⌜ Answered (length (now (t .entry)) ≤ behind (oneMap g) + 65536) (now (out .entry)) (block tableWords (cut (glyphEntries form (now (glyphs .entry))) [] (pairTable (now (src .entry))))) (length (now (area .entry))) r (now (out .exit)) ⌝ }
 {
-    if t.len() < notes + glyphs.len() / 4 + 1 {
+    let cover = word_inside(src, 2);
+    let notes = g.at + g.mask + 1;
+    if t.len() <= notes + most(src, cover, glyphs, form) {
         return Tried::FewCells;
     }
-    let cover = word_inside(src, 2);
-    let m = meet(src, cover, glyphs, g, t, notes);
+    let m = meet(src, cover, glyphs, form, g, t, notes);
     let found = Notes {
         at: notes,
         count: m,
@@ -214,19 +215,25 @@ fn cut_pair_sets(
 }
 
 // The same from the source and the map's list on.
-fn cut_pairs(src: &[u8], glyphs: &[u8], t: &mut [u32], area: &mut [u8], out: &mut [u8]) -> Tried
-    requires { ⌜ (pairFault (now src) ≡ none) × (length (now src) ≤ limit) × (ascends (keys (mapEntries (now glyphs))) ≡ true) × (length (now area) ≤ areaMost) × (ascends (values (mapEntries (now glyphs))) ≡ true) ⌝ }
-    ensures { λ r. ⌜ Tries (length (now (t .entry)) < cellsMost) (length (now (area .entry)) < areaMost) r (now (out .entry)) (now (out .exit)) (written (now (out .entry)) (cut (mapEntries (now (glyphs .entry))) [] (pairTable (now (src .entry))))) ⌝ }
+fn cut_pairs(
+    src: &[u8],
+    glyphs: &[u8],
+    form: usize,
+    t: &mut [u32],
+    area: &mut [u8],
+    out: &mut [u8],
+) -> Tried
+    requires { ⌜ (pairFault (now src) ≡ none) × (length (now src) ≤ limit) × GlyphMap form (now glyphs) × (length (now area) ≤ areaMost) ⌝ }
+    ensures { λ r. ⌜ Tries (length (now (t .entry)) < cellsMost) (length (now (area .entry)) < areaMost) r (now (out .entry)) (now (out .exit)) (written (now (out .entry)) (cut (glyphEntries form (now (glyphs .entry))) [] (pairTable (now (src .entry))))) ⌝ }
 {
     if word_inside(src, 2) == 0 {
         return Tried::Became(Laid::Nothing);
     }
-    let g = lay(glyphs, t, 0);
-    let mask = g.mask;
-    if mask == 0 {
+    let g = lay_glyphs(glyphs, form, t, 0);
+    if g.mask == 0 {
         return Tried::FewCells;
     }
-    cut_pair_sets(src, glyphs, g, t, mask + 1, area, out)
+    cut_pair_sets(src, glyphs, form, g, t, area, out)
 }
 
 // The lesser of two numbers.
@@ -241,12 +248,19 @@ fn least(a: usize, b: usize) -> usize
 
 // What is left of a sound table of ligatures under a glyph map, laid into the buffer if it is not too big and the buffer is not shorter. `t` and `area` are scratch, whatever they hold.
 // The buffer is untouched where nothing is left, where there is no room, and where the scratch is too short.
-pub fn ligatures(src: &[u8], glyphs: &[u8], t: &mut [u32], area: &mut [u8], out: &mut [u8]) -> Tried
-    requires { ⌜ (headerFault (enough (now src) (word (now src) 4)) 0 4 (setFaultOf Ligatures (now src)) (now src) ≡ none) × (length (now src) ≤ limit) × (ascends (keys (mapEntries (now glyphs))) ≡ true) × (ascends (values (mapEntries (now glyphs))) ≡ true) ⌝ }
-    ensures { λ r. ⌜ Tries (length (now (t .entry)) < cellsMost) (length (now (area .entry)) < areaMost) r (now (out .entry)) (now (out .exit)) (written (now (out .entry)) (cut (mapEntries (now (glyphs .entry))) [] (ligatureTable (now (src .entry))))) ⌝ }
+pub fn ligatures(
+    src: &[u8],
+    glyphs: &[u8],
+    form: usize,
+    t: &mut [u32],
+    area: &mut [u8],
+    out: &mut [u8],
+) -> Tried
+    requires { ⌜ (headerFault (enough (now src) (word (now src) 4)) 0 4 (setFaultOf Ligatures (now src)) (now src) ≡ none) × (length (now src) ≤ limit) × GlyphMap form (now glyphs) ⌝ }
+    ensures { λ r. ⌜ Tries (length (now (t .entry)) < cellsMost) (length (now (area .entry)) < areaMost) r (now (out .entry)) (now (out .exit)) (written (now (out .entry)) (cut (glyphEntries form (now (glyphs .entry))) [] (ligatureTable (now (src .entry))))) ⌝ }
 {
     let bytes = least(area.len(), AREA);
-    cut_ligatures(src, glyphs, t, &mut area[..bytes], out)
+    cut_ligatures(src, glyphs, form, t, &mut area[..bytes], out)
 }
 
 // The same of a context by glyph, plain or chained, under a glyph map and a lookup map.
@@ -254,23 +268,40 @@ pub fn contexts(
     chained: bool,
     src: &[u8],
     glyphs: &[u8],
+    form: usize,
     lookups: &[u8],
     t: &mut [u32],
     area: &mut [u8],
     out: &mut [u8],
 ) -> Tried
-    requires { ⌜ (headerFault (enough (now src) (word (now src) 4)) 0 4 (setFaultOf (Rules chained) (now src)) (now src) ≡ none) × (length (now src) ≤ limit) × (ascends (keys (mapEntries (now glyphs))) ≡ true) × (ascends (keys (mapEntries (now lookups))) ≡ true) × (ascends (values (mapEntries (now glyphs))) ≡ true) ⌝ }
-    ensures { λ r. ⌜ Tries (length (now (t .entry)) < cellsMost) (length (now (area .entry)) < areaMost) r (now (out .entry)) (now (out .exit)) (written (now (out .entry)) (cut (mapEntries (now (glyphs .entry))) (mapEntries (now (lookups .entry))) (glyphContext chained (now (src .entry))))) ⌝ }
+    requires { ⌜ (headerFault (enough (now src) (word (now src) 4)) 0 4 (setFaultOf (Rules chained) (now src)) (now src) ≡ none) × (length (now src) ≤ limit) × GlyphMap form (now glyphs) × (ascends (keys (mapEntries (now lookups))) ≡ true) ⌝ }
+    ensures { λ r. ⌜ Tries (length (now (t .entry)) < cellsMost) (length (now (area .entry)) < areaMost) r (now (out .entry)) (now (out .exit)) (written (now (out .entry)) (cut (glyphEntries form (now (glyphs .entry))) (mapEntries (now (lookups .entry))) (glyphContext chained (now (src .entry))))) ⌝ }
 {
     let bytes = least(area.len(), AREA);
-    cut_contexts(chained, src, glyphs, lookups, t, &mut area[..bytes], out)
+    cut_contexts(
+        chained,
+        src,
+        glyphs,
+        form,
+        lookups,
+        t,
+        &mut area[..bytes],
+        out,
+    )
 }
 
 // The same of a sound table of pairs by glyph, under a glyph map.
-pub fn pairs(src: &[u8], glyphs: &[u8], t: &mut [u32], area: &mut [u8], out: &mut [u8]) -> Tried
-    requires { ⌜ (pairFault (now src) ≡ none) × (length (now src) ≤ limit) × (ascends (keys (mapEntries (now glyphs))) ≡ true) × (ascends (values (mapEntries (now glyphs))) ≡ true) ⌝ }
-    ensures { λ r. ⌜ Tries (length (now (t .entry)) < cellsMost) (length (now (area .entry)) < areaMost) r (now (out .entry)) (now (out .exit)) (written (now (out .entry)) (cut (mapEntries (now (glyphs .entry))) [] (pairTable (now (src .entry))))) ⌝ }
+pub fn pairs(
+    src: &[u8],
+    glyphs: &[u8],
+    form: usize,
+    t: &mut [u32],
+    area: &mut [u8],
+    out: &mut [u8],
+) -> Tried
+    requires { ⌜ (pairFault (now src) ≡ none) × (length (now src) ≤ limit) × GlyphMap form (now glyphs) ⌝ }
+    ensures { λ r. ⌜ Tries (length (now (t .entry)) < cellsMost) (length (now (area .entry)) < areaMost) r (now (out .entry)) (now (out .exit)) (written (now (out .entry)) (cut (glyphEntries form (now (glyphs .entry))) [] (pairTable (now (src .entry))))) ⌝ }
 {
     let bytes = least(area.len(), AREA);
-    cut_pairs(src, glyphs, t, &mut area[..bytes], out)
+    cut_pairs(src, glyphs, form, t, &mut area[..bytes], out)
 }

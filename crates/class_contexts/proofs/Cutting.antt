@@ -4,11 +4,12 @@ use mathlib.Core.Path.{_≡_, refl, sym, ap, _∙_, subst}
 use mathlib.Core.Bool.{Bool, true, false}
 use mathlib.Core.Option.{Option, some}
 use mathlib.Core.List.{List, _∷_, map}
+use mathlib.Core.Logic.{_⊎_, inl, inr}
 use native.Mathlib.Decide.{decLt}
 use native.Mathlib.Omega.{arith}
 use lib.ListN.{length}
 use Rattle.meaning.specs.Words.{word}
-use Rattle.meaning.specs.Maps.{mapEntries}
+use Rattle.meaning.specs.Maps.{glyphEntries}
 use Rattle.meaning.specs.Parts.{coverage}
 use Rattle.meaning.specs.Tables.{classContext}
 use Rattle.meaning.specs.Cut.{cut, cutSet, newCoverage, slots}
@@ -27,19 +28,21 @@ use Rattle.tried.specs.declared.Tried.{Tried}
 use Rattle.tried.specs.declared.Tried.the-variants.{FewCells}
 use Rattle.class_layouts.specs.Tail.{tableBlock, tableBlocks, tailBlocks}
 use Rattle.class_layouts.specs.Written.{enoughBytes, Writes, leftInto}
+use Rattle.glyph_runs.specs.Runs.{form-is, map-good}
 use Rattle.class_maps.specs.Same.{Same, kept-same, part-alike, inside-same, holds-same, present-same}
 use Rattle.class_contexts.specs.Sides.{newTable, TableFor, Asks, SideIn, Sided, InputIn, InputLaid}
 use Rattle.class_contexts.specs.Meaning.{backAt, inputAt, aheadAt, tailOf, rulesMaps, blocksOf, cut-words, slots-alike}
 use Rattle.class_contexts.specs.Cutting.{enoughCells, preparedOf, Cuts, CutsInto}
 use Rattle.class_layouts.specs.declared.NewTable.{NewTable}
 use Rattle.class_layouts.specs.declared.Noted.{Noted}
+use Rattle.class_contexts.specs.declared.Begun.{Begun}
 use Rattle.class_contexts.specs.declared.Side.{Side}
 use Rattle.class_contexts.specs.declared.Input.{Input}
 use Rattle.class_layouts.specs.declared.Prepared.{Prepared}
 
 -- What stands in cells stays where only cells behind it change.
-module _ {glyphs s : List ℕ} {at : ℕ} {t u : List ℕ} {end : ℕ} (k : Same 0 end t u) where
-  table-stays : {n : NewTable} → n .list + n .len ≤ end → TableFor glyphs s at t n → TableFor glyphs s at u n
+module _ {g : List (ℕ × ℕ)} {s : List ℕ} {at : ℕ} {t u : List ℕ} {end : ℕ} (k : Same 0 end t u) where
+  table-stays : {n : NewTable} → n .list + n .len ≤ end → TableFor g s at t n → TableFor g s at u n
   unfolding tableBlock
   table-stays {n} h a =
       let e : notes u (n .list) (n .len) ≡ notes t (n .list) (n .len) = ap (map (λ c. (c / 65536, c % 65536))) (part-alike k (n .list) (n .len) (omega arith) h) in
@@ -48,10 +51,10 @@ module _ {glyphs s : List ℕ} {at : ℕ} {t u : List ℕ} {end : ℕ} (k : Same
         is = rw e (a .is);
       }
 
-  side-stays : {r : Side} → r .map .at + r .map .mask < end → r .table .list + r .table .len ≤ r .map .at → SideIn glyphs s at t r → SideIn glyphs s at u r
+  side-stays : {r : Side} → r .map .at + r .map .mask < end → r .table .list + r .table .len ≤ r .map .at → SideIn g s at t r → SideIn g s at u r
   side-stays {r} h l a = record { holds = holds-same k (r .map) (omega arith) h (a .holds); table = table-stays (omega arith) (a .table) }
 
-  input-stays : {cov : List ℕ} {r : Input} → r .map .at + r .map .mask < end → r .marks .at + r .marks .mask < end → r .table .list + r .table .len ≤ r .map .at → InputIn glyphs s at cov t r → InputIn glyphs s at cov u r
+  input-stays : {cov : List ℕ} {r : Input} → r .map .at + r .map .mask < end → r .marks .at + r .marks .mask < end → r .table .list + r .table .len ≤ r .map .at → InputIn g s at cov t r → InputIn g s at cov u r
   input-stays {r = r} h m l a = record {
     holds = holds-same k (r .map) (omega arith) h (a .holds);
     held = present-same k (r .map) (omega arith) h ∙ a .held;
@@ -69,52 +72,65 @@ too-few {n} {m} h l = step (decLt n m)
     step (yes d) = omega arith
     step (no d) = absurd (h (omega arith))
 
-pub few-cells : {chained : Bool} {s glyphs : List ℕ} {l : Map} {t area out : List ℕ} → length t < 655360 → CutsInto chained s glyphs l t area FewCells out out
+pub few-cells : {chained : Bool} {s : List ℕ} {g : List (ℕ × ℕ)} {l : Map} {t area out : List ℕ} → length t < 655360 → CutsInto chained s g l t area FewCells out out
 few-cells h = record { cuts = λ {es = es} o v. (h, refl) }
 
-module _ {chained : Bool} {s glyphs : List ℕ} {l : Map} {noted : Noted} {t₀ area : List ℕ} (a : Cuts chained s glyphs l noted t₀ area) where
+module _ {chained : Bool} {s : List ℕ} {form : ℕ} {glyphs : List ℕ} {begun : Begun} {t₀ area : List ℕ} (a : Cuts chained s form glyphs begun t₀ area) where
+  abbrev l : Map
+  l = begun .lookups
+
+  abbrev noted : Noted
+  noted = begun .cover
+
+  abbrev g : List (ℕ × ℕ)
+  g = glyphEntries form glyphs
+
+  pub form-there : 0 < form
+  form-there = pick (form-is (a .map .form-good))
+    where
+      pick : (form ≡ 4) ⊎ (form ≡ 6) → 0 < form
+      pick (inl e) = omega arith
+      pick (inr e) = omega arith
+
   -- the input
-  pub input-asks : {at : ℕ} → at ≡ inputAt chained s → Asks s at glyphs (noted .at + noted .len)
+  pub input-asks : {at : ℕ} → at ≡ inputAt chained s → Asks s at form glyphs (noted .at + noted .len)
   input-asks e = record { sound = rw e (a .sound .input); map = a .map; near = omega (arith, a .near) }
 
-  module _ {ia : ℕ} (ei : ia ≡ inputAt chained s) {t₁ : List ℕ} {i : Input} (u : InputLaid s ia glyphs noted t₀ t₁ i) where
+  module _ {ia : ℕ} (ei : ia ≡ inputAt chained s) {t₁ : List ℕ} {i : Input} (u : InputLaid s ia g noted t₀ t₁ i) where
     pub input-few : i .map .mask ≡ 0 → length t₀ < 655360
-    input-few z = too-few (λ h. u .room h z) (omega (arith, a .near, a .map .few))
+    input-few z = too-few (λ h. u .room h z) (omega (arith, a .near))
 
     module _ (zi : i .map .mask ≡ 0 → ⊥) where
       first-end : i .marks .at + i .marks .mask + 1 ≤ 393216
-      first-end = omega (arith, u .behind zi, u .place zi, u .alike, u .few, a .near, a .map .few)
+      first-end = omega (arith, u .behind zi, u .near zi, u .alike, u .few, a .near)
 
       pub marks-near : i .marks .at + i .marks .mask + 1 ≤ 0x1_0000_0000
       marks-near = omega (arith, first-end)
 
-      pub back-asks : {at : ℕ} → at ≡ backAt chained s → Asks s at glyphs (i .marks .at + i .marks .mask + 1)
+      pub back-asks : {at : ℕ} → at ≡ backAt chained s → Asks s at form glyphs (i .marks .at + i .marks .mask + 1)
       back-asks e = record { sound = rw e (a .sound .back); map = a .map; near = marks-near }
 
-      module _ {ba : ℕ} (eb : ba ≡ backAt chained s) {t₂ : List ℕ} {b : Side} (v : Sided s ba glyphs t₁ t₂ (i .marks .at + i .marks .mask + 1) b) where
+      module _ {ba : ℕ} (eb : ba ≡ backAt chained s) {t₂ : List ℕ} {b : Side} (v : Sided s ba g t₁ t₂ (i .marks .at + i .marks .mask + 1) b) where
         pub back-few : b .map .mask ≡ 0 → length t₀ < 655360
-        back-few z = omega (arith, too-few (λ h. v .room h z) (omega (arith, first-end, a .map .few)), u .kept .size)
+        back-few z = omega (arith, too-few (λ h. v .room h z) (omega (arith, first-end)), u .kept .size)
 
         module _ (zb : b .map .mask ≡ 0 → ⊥) where
           second-end : b .map .at + b .map .mask + 1 ≤ 524288
-          second-end = omega (arith, v .near zb, v .few, first-end, a .map .few)
+          second-end = omega (arith, v .near zb, v .few, first-end)
 
           pub back-near : b .map .at + b .map .mask + 1 ≤ 0x1_0000_0000
           back-near = omega (arith, second-end)
 
-          pub ahead-asks : {at : ℕ} → at ≡ aheadAt chained s → Asks s at glyphs (b .map .at + b .map .mask + 1)
+          pub ahead-asks : {at : ℕ} → at ≡ aheadAt chained s → Asks s at form glyphs (b .map .at + b .map .mask + 1)
           ahead-asks e = record { sound = rw e (a .sound .ahead); map = a .map; near = back-near }
 
-          module _ {aa : ℕ} (ea : aa ≡ aheadAt chained s) {t₃ : List ℕ} {d : Side} (w : Sided s aa glyphs t₂ t₃ (b .map .at + b .map .mask + 1) d) where
+          module _ {aa : ℕ} (ea : aa ≡ aheadAt chained s) {t₃ : List ℕ} {d : Side} (w : Sided s aa g t₂ t₃ (b .map .at + b .map .mask + 1) d) where
             pub ahead-few : d .map .mask ≡ 0 → length t₀ < 655360
-            ahead-few z = omega (arith, too-few (λ h. w .room h z) (omega (arith, second-end, a .map .few)), u .kept .size, v .kept .size)
+            ahead-few z = omega (arith, too-few (λ h. w .room h z) (omega (arith, second-end)), u .kept .size, v .kept .size)
 
             module _ (zd : d .map .mask ≡ 0 → ⊥) where
               abbrev prepared : Prepared
               prepared = preparedOf l noted i b d
-
-              abbrev g : List (ℕ × ℕ)
-              g = mapEntries glyphs
 
               abbrev cov : List ℕ
               cov = coverage s (word s 2)
@@ -127,17 +143,17 @@ module _ {chained : Bool} {s glyphs : List ℕ} {l : Map} {noted : Noted} {t₀ 
               high = kept-same (w .kept)
 
               all : Same 0 (noted .at + noted .len) t₀ t₃
-              all = kept-same (kept-more (u .kept) (record { size = low .size; same = λ j h. low .each j (omega arith) (omega (arith, u .behind zi, u .place zi)) }))
+              all = kept-same (kept-more (u .kept) (record { size = low .size; same = λ j h. low .each j (omega arith) (omega (arith, u .behind zi, u .low zi)) }))
 
-              input-in : InputIn glyphs s ia cov t₃ i
+              input-in : InputIn g s ia cov t₃ i
               input-in =
                   input-stays low (omega (arith, u .behind zi)) (omega arith) (u .before zi)
                   (u .side zi cov (coverage-up s (word s 2) (a .sound .cover (a .covers))) (a .glyphs-noted))
 
-              back-in : SideIn glyphs s ba t₃ b
+              back-in : SideIn g s ba t₃ b
               back-in = side-stays high (omega arith) (v .before zb) (v .side zb)
 
-              ahead-in : SideIn glyphs s aa t₃ d
+              ahead-in : SideIn g s aa t₃ d
               ahead-in = w .side zd
 
               news-same : news t₃ (noted .at) (noted .len) ≡ newCoverage g cov
@@ -187,8 +203,8 @@ module _ {chained : Bool} {s glyphs : List ℕ} {l : Map} {noted : Noted} {t₀ 
                   step true k p q r = rw (p, q, r)
                   step false k p q r = rw q
 
-              pub cut-into : {p : Prepared} (r : Tried) (out after : List ℕ) → p ≡ preparedOf l noted i b d → Tries ⊥ (length area < enoughBytes) r out after (leftInto out chained s t₃ p) → CutsInto chained s glyphs l t₀ area r out after
+              pub cut-into : {p : Prepared} (r : Tried) (out after : List ℕ) → p ≡ preparedOf l noted i b d → Tries ⊥ (length area < enoughBytes) r out after (leftInto out chained s t₃ p) → CutsInto chained s g l t₀ area r out after
               cut-into r out after e h = record { cuts = λ {es = es} o v. tries-less ⊥ (length area < enoughBytes) (length t₀ < enoughCells) (length area < enoughBytes) r out after (written out (cut g es (classContext chained s))) (λ f. absurd f) (λ f. f) (subst (λ (x : Outcome). Tries ⊥ (length area < enoughBytes) r out after x) (ap (λ (q : Prepared). leftInto out chained s t₃ q) e ∙ said es o v) h) }
                 where
                   said : (es : List (ℕ × ℕ)) → Holds t₀ l es → Values es → leftInto out chained s t₃ prepared ≡ written out (cut g es (classContext chained s))
-                  said es o v = rw (tail-is, blocks-are o) (sym (cut-words chained s g es (a .good) (a .glyphs-good) v (a .covers) (a .classed) out))
+                  said es o v = rw (tail-is, blocks-are o) (sym (cut-words chained s g es (a .good) (map-good (a .map)) v (a .covers) (a .classed) out))

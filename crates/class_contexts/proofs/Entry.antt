@@ -1,5 +1,5 @@
 -- From the check and the maps' lists to the cells of both maps, and how many cells are enough.
-use Prim.Native.Nat.{ℕ, zero, suc, _+_, _-_, _*_, _/_, _≤_, _<_, _%_}
+use Prim.Native.Nat.{ℕ, suc, _+_, _*_, _≤_, _<_}
 use mathlib.Core.Path.{_≡_, refl, sym, ap, _∙_}
 use mathlib.Core.Bool.{Bool, true, false, cond, _&&_}
 use mathlib.Core.Option.{Option, none, some}
@@ -8,12 +8,11 @@ use native.Mathlib.Decide.{decLt}
 use native.Mathlib.Nat.{zero-add}
 use native.Mathlib.Numerals.{add-one}
 use native.Mathlib.Omega.{arith}
-use lib.ListN.{length, getD, take}
+use lib.ListN.{length, take}
 use lib.Seq.{length-take-le}
-use lib.Dec.{eqb}
 use borrow.Author.Tests.{ne-eqb}
-use Rattle.meaning.specs.Words.{word, inside, find, push, mapSome, isSome, keys, values, ascends, member}
-use Rattle.meaning.specs.Maps.{mapEntries, goodGlyphs}
+use Rattle.meaning.specs.Words.{word, inside, find, push, mapSome, isSome, keys, member}
+use Rattle.meaning.specs.Maps.{mapEntries, glyphEntries}
 use Rattle.meaning.specs.Parts.{coverage, coverageSound, classesSound}
 use Rattle.meaning.specs.Tables.{Rule, reach, classContext}
 use Rattle.meaning.specs.Fault.{faultThrough, coverageFault, classesFault, ruleFault, setFault, headerFault, contextFault}
@@ -21,20 +20,20 @@ use Rattle.meaning.specs.Cut.{cut, cutSet, heldBy, newCoverage, retained, slots
 use Rattle.meaning.specs.Layout.{block, ruleWords, setWords}
 use Rattle.meaning.specs.Subset.{Outcome, limit, written, refused}
 use Rattle.laws.specs.Runs.{both}
-use Rattle.laws.specs.Left.{entries-length}
 use Rattle.laws.specs.Through.{Opt}
-use Rattle.laws.specs.Ascends.{glyphs-ascend}
 use Rattle.laws.specs.ReadsBack.{Good}
-use Rattle.laws.specs.CutGood.{GoodMap}
-use Rattle.laws.specs.CallBack.{good-map, map-values}
+use Rattle.laws.specs.CallBack.{map-values}
 use Rattle.laws.specs.SoundGood.{Bytes, part-sound, one-good, header-good, coverage-up, class-context-good}
 use Rattle.fold.specs.Cells.{Holds, holds-kept}
 use Rattle.fold.specs.Laid.{Laid}
+use Rattle.fold.specs.Runs.{LaidGlyphs}
 use Rattle.fold.specs.declared.Map.{Map}
 use Rattle.area.specs.Part.{part, news}
 use Rattle.member_sets.specs.Sound.{inside-is, through-sound}
-use Rattle.meet.specs.Met.{Met, Meets, met-news, met-count, met-few}
-use Rattle.meet.proofs.Entries.{map-rises}
+use Rattle.meet.specs.Met.{Met, met-news, met-count, met-few}
+use Rattle.meet_runs.specs.Either.{Most, MeetsGlyphs}
+use Rattle.glyph_runs.specs.Runs.{GlyphMap, map-good}
+use Rattle.glyph_runs.specs.Found.{entries-few}
 use Rattle.class_lists.specs.Tables.{classesAt, NullOrSound}
 use Rattle.class_maps.specs.SlotWalk.{trim-blocks}
 use Rattle.tried.specs.Tries.{Tries, tries-less}
@@ -45,6 +44,7 @@ use Rattle.class_layouts.specs.Table.{tableInto}
 use Rattle.class_layouts.specs.Written.{enoughBytes}
 use Rattle.class_contexts.specs.Meaning.{inputAt, setsOf, SoundContext, rulesMaps, cut-words}
 use Rattle.class_contexts.specs.Cutting.{enoughCells, Sound, Begins, Cuts, CutsInto, Least}
+use Rattle.class_contexts.specs.declared.BothMaps.{BothMaps}
 
 -- the part that an offset leads to is sound, if the offset is not null
 slot-sound : (P : ℕ → Type 0) (s : List ℕ) (slot : ℕ) → Opt P (reach (λ (at : ℕ). at) s 0 slot) → (word s slot ≡ 0 → ⊥) → P (word s slot)
@@ -102,38 +102,11 @@ context-sound false s h e l =
       sets = λ j m z. rw zero-add at (through-sound (setFault (ruleFault false s) s) s 0 8 (word s 6) j (f .3) m z);
     }
 
--- A map whose old numbers ascend has 65,536 entries at most.
-word-small : (m : List ℕ) → ((i : ℕ) → getD m i 0 < 256) → (at : ℕ) → word m at < 65536
-unfolding word
-word-small m h at = omega (arith, h at, h (at + 1))
-
-map-least : (m : List ℕ) → ascends (keys (mapEntries m)) ≡ true → (k : ℕ) → k < length m / 4 → k ≤ word m (4 * k)
-map-least m good zero h = omega arith
-map-least m good (suc k) h = omega (arith, map-least m good k (omega arith), map-rises m good k (suc k) (omega arith) h)
-
-pub few-entries : (m : List ℕ) → ascends (keys (mapEntries m)) ≡ true → ((i : ℕ) → getD m i 0 < 256) → length m / 4 ≤ 65536
-few-entries m good bytes = step (decLt 0 (length m / 4))
-  where
-    step : Dec (0 < length m / 4) → length m / 4 ≤ 65536
-    step (yes h) = omega (arith, map-least m good (length m / 4 - 1) (omega arith), word-small m bytes (4 * (length m / 4 - 1)))
-    step (no h) = omega arith
-
-map-size : (m : List ℕ) → length (mapEntries m) ≡ length m / 4
-unfolding mapEntries
-map-size m = entries-length m 0 (length m / 4)
-
 -- a context of format 2 without a fault is a good table
 context-good : (chained : Bool) (s : List ℕ) → Bytes s → contextFault chained s ≡ none → word s 0 ≡ 2 → Good (classContext chained s)
 unfolding contextFault
 context-good true s b h e = class-context-good s b true (rw e at h)
 context-good false s b h e = class-context-good s b false (rw e at h)
-
--- both columns of a good glyph map ascend
-good-glyphs : (g : List ℕ) → Bytes g → goodGlyphs g ≡ true → GoodMap (mapEntries g)
-unfolding goodGlyphs
-good-glyphs g b h =
-    let q = both (ascends (keys (mapEntries g))) (ascends (values (mapEntries g))) (both (eqb (length g % 4) 0) _ h .1) in
-    good-map g b (q .0) (q .1)
 
 -- No covered glyph is retained: then no set is left.
 retained-none : (g : List (ℕ × ℕ)) (cov : List ℕ) → newCoverage g cov ≡ [] → retained g cov ≡ []
@@ -151,44 +124,54 @@ unfolding slots trim keepSlot member
 no-slots f sets [] = refl
 no-slots f sets (c ∷ cs) = rw (no-slots f sets cs) refl
 
-module _ {chained : Bool} {s glyphs : List ℕ} {l m : Map} {t area : List ℕ} (a : Begins chained s glyphs l m t area) where
-  -- too few cells for the notes
-  pub notes-few : {at : ℕ} → at ≡ m .at + m .mask + 1 → length t ≤ at + length glyphs / 4 → length t < 655360
-  notes-few e h = omega (arith, a .near, a .map .few)
+module _ {chained : Bool} {s : List ℕ} {form : ℕ} {glyphs : List ℕ} {maps : BothMaps} {t area : List ℕ} (a : Begins chained s form glyphs maps t area) where
+  abbrev m : Map
+  m = maps .glyphs
 
-  pub may-meet : {at cover : ℕ} → at ≡ m .at + m .mask + 1 → cover ≡ word s 2 → at + length glyphs / 4 < length t → Meets s cover glyphs m t at
-  may-meet e f h = record { sound = rw f (a .sound .cover (a .covers)); ascend = glyphs-ascend glyphs (a .map .good); holds = a .holds; behind = omega arith; room = h }
+  abbrev g : List (ℕ × ℕ)
+  g = glyphEntries form glyphs
 
-  module _ {at cover : ℕ} (e : at ≡ m .at + m .mask + 1) (f : cover ≡ word s 2) {t₁ : List ℕ} {k : ℕ} (h : Met (find (mapEntries glyphs)) (coverage s cover) t at t₁ k) where
-    noted-is : news t₁ at k ≡ newCoverage (mapEntries glyphs) (coverage s (word s 2))
-    noted-is = met-news (mapEntries glyphs) h ∙ ap (λ (c : ℕ). newCoverage (mapEntries glyphs) (coverage s c)) f
+  pub may-bound : {cover : ℕ} → cover ≡ word s 2 → (coverageSound s cover ≡ true) × GlyphMap form glyphs
+  may-bound f = (rw f (a .sound .cover (a .covers)), a .map)
+
+  module _ {at cover n : ℕ} (e : at ≡ m .at + m .mask + 1) (f : cover ≡ word s 2) (k : Most form glyphs s cover n) where
+    -- too few cells for the notes
+    pub notes-few : length t ≤ at + n → length t < 655360
+    notes-few h = omega (arith, a .near, k .small)
+
+    pub may-meet : at + n < length t → MeetsGlyphs form s cover glyphs m t at
+    may-meet h = record { sound = may-bound f .0; map = a .map; holds = a .holds; behind = omega arith; room = omega (arith, k .number) }
+
+  module _ {at cover : ℕ} (e : at ≡ m .at + m .mask + 1) (f : cover ≡ word s 2) {t₁ : List ℕ} {k : ℕ} (h : Met (find g) (coverage s cover) t at t₁ k) where
+    noted-is : news t₁ at k ≡ newCoverage g (coverage s (word s 2))
+    noted-is = met-news g h ∙ ap (λ (c : ℕ). newCoverage g (coverage s c)) f
 
     -- no covered glyph is retained
-    pub none-noted : {out : List ℕ} → k ≡ 0 → CutsInto chained s glyphs l t area (Became Nothing) out out
+    pub none-noted : {out : List ℕ} → k ≡ 0 → CutsInto chained s g (maps .lookups) t area (Became Nothing) out out
     unfolding part tableInto heldBy
-    none-noted {out} z = record { cuts = λ {es = es} o v. sym (cut-words chained s (mapEntries glyphs) es (a .good) (a .glyphs-good) v (a .covers) (a .classed) out ∙ gone _ es) }
+    none-noted {out} z = record { cuts = λ {es = es} o v. sym (cut-words chained s g es (a .good) (map-good (a .map)) v (a .covers) (a .classed) out ∙ gone _ es) }
       where
-        empty : newCoverage (mapEntries glyphs) (coverage s (word s 2)) ≡ []
+        empty : newCoverage g (coverage s (word s 2)) ≡ []
         empty = sym noted-is ∙ ap (λ (n : ℕ). news t₁ at n) z
 
-        gone : (tail : List (Option (List ℕ))) (es : List (ℕ × ℕ)) → tableInto out tail (trim (map (block (setWords (ruleWords chained))) (slots (cutSet chained (rulesMaps chained s (mapEntries glyphs) es)) (heldBy (classesAt s (inputAt chained s)) (retained (mapEntries glyphs) (coverage s (word s 2)))) (setsOf chained s) (heldBy (classesAt s (inputAt chained s)) (keys (mapEntries glyphs)))))) ≡ refused out 8
-        gone tail es = rw (retained-none (mapEntries glyphs) (coverage s (word s 2)) empty, ← (trim-blocks (setWords (ruleWords chained)) (slots (cutSet chained (rulesMaps chained s (mapEntries glyphs) es)) [] (setsOf chained s) (heldBy (classesAt s (inputAt chained s)) (keys (mapEntries glyphs))))), no-slots (cutSet chained (rulesMaps chained s (mapEntries glyphs) es)) (setsOf chained s) (heldBy (classesAt s (inputAt chained s)) (keys (mapEntries glyphs)))) refl
+        gone : (tail : List (Option (List ℕ))) (es : List (ℕ × ℕ)) → tableInto out tail (trim (map (block (setWords (ruleWords chained))) (slots (cutSet chained (rulesMaps chained s g es)) (heldBy (classesAt s (inputAt chained s)) (retained g (coverage s (word s 2)))) (setsOf chained s) (heldBy (classesAt s (inputAt chained s)) (keys g))))) ≡ refused out 8
+        gone tail es = rw (retained-none g (coverage s (word s 2)) empty, ← (trim-blocks (setWords (ruleWords chained)) (slots (cutSet chained (rulesMaps chained s g es)) [] (setsOf chained s) (heldBy (classesAt s (inputAt chained s)) (keys g)))), no-slots (cutSet chained (rulesMaps chained s g es)) (setsOf chained s) (heldBy (classesAt s (inputAt chained s)) (keys g))) refl
 
-    few-noted : k ≤ length glyphs / 4
-    few-noted = omega (arith, met-count h, met-few (mapEntries glyphs) (coverage s cover) (rw f (coverage-up s (word s 2) (a .sound .cover (a .covers)))), map-size glyphs)
+    -- there are no more than entries
+    few-noted : k ≤ 65536
+    few-noted = omega (arith, met-count h, met-few g (coverage s cover) (rw f (coverage-up s (word s 2) (a .sound .cover (a .covers)))), entries-few (a .map))
 
-    pub may-cut : (k ≡ 0 → ⊥) → Cuts chained s glyphs l (record { at = at; len = k }) t₁ area
+    pub may-cut : (k ≡ 0 → ⊥) → Cuts chained s form glyphs (record { lookups = maps .lookups; cover = record { at = at; len = k } }) t₁ area
     may-cut z = record {
       sound = a .sound;
       good = a .good;
       map = a .map;
-      glyphs-good = a .glyphs-good;
       lookups = record { within = omega (arith, a .lookups .within, h .kept .size) };
       before = omega (arith, a .before);
-      near = omega (arith, a .near, a .map .few, few-noted);
+      near = omega (arith, a .near, few-noted);
       inside = omega (arith, h .fits, h .kept .size);
       covered = omega arith;
-      few = omega (arith, a .map .few, few-noted);
+      few = few-noted;
       covers = a .covers;
       classed = a .classed;
       glyphs-noted = noted-is;
@@ -196,10 +179,10 @@ module _ {chained : Bool} {s glyphs : List ℕ} {l m : Map} {t area : List ℕ} 
       cells = omega (arith, a .cells, h .kept .size);
     }
 
-    pub cut-after : {r : Tried} {out after : List ℕ} → CutsInto chained s glyphs l t₁ area r out after → CutsInto chained s glyphs l t area r out after
+    pub cut-after : {r : Tried} {out after : List ℕ} → CutsInto chained s g (maps .lookups) t₁ area r out after → CutsInto chained s g (maps .lookups) t area r out after
     cut-after {r} {out} {after} c = record { cuts = λ {es = es} o v. rw (h .kept .size) at (c .cuts (holds-kept (h .kept) (omega (arith, a .before)) o) v) }
 
-module _ {chained : Bool} {s glyphs lookups : List ℕ} (o : Sound chained s glyphs lookups) {t₀ t₁ : List ℕ} {l : Map} (a : Laid lookups t₀ t₁ 0 l) where
+module _ {chained : Bool} {s : List ℕ} {form : ℕ} {glyphs lookups : List ℕ} (o : Sound chained s form glyphs lookups) {t₀ t₁ : List ℕ} {l : Map} (a : Laid lookups t₀ t₁ 0 l) where
   -- too few cells for the lookups
   pub few-lookups : l .mask ≡ 0 → length t₀ < 655360
   few-lookups z = step (decLt (length t₀) 65536)
@@ -212,40 +195,39 @@ module _ {chained : Bool} {s glyphs lookups : List ℕ} (o : Sound chained s gly
   pub glyphs-near : l .mask + 1 ≤ 65536
   glyphs-near = omega (arith, a .few (o .lookups-ascend))
 
-  module _ {t₂ : List ℕ} {m : Map} (b : Laid glyphs t₁ t₂ (l .mask + 1) m) where
+  module _ {t₂ : List ℕ} {m : Map} (b : LaidGlyphs form glyphs t₁ t₂ (l .mask + 1) m) where
     -- too few for the glyphs
     pub few-glyphs : m .mask ≡ 0 → length t₀ < 655360
     few-glyphs z = step (decLt (length t₁) (l .mask + 1 + 65536))
       where
         step : Dec (length t₁ < l .mask + 1 + 65536) → length t₀ < 655360
         step (yes h) = omega (arith, glyphs-near, a .kept .size)
-        step (no h) = absurd (b .room (omega arith) (glyphs-ascend glyphs (o .glyphs-good)) z)
+        step (no h) = absurd (b .room (omega arith) z)
 
     module _ (zl : l .mask ≡ 0 → ⊥) (zm : m .mask ≡ 0 → ⊥) where
       lookups-held : Holds t₂ l (mapEntries lookups)
       lookups-held = holds-kept (b .kept) (omega (arith, a .place)) (a .holds zl)
 
-      pub may-begin : {area : List ℕ} {cover ia : ℕ} → Bytes s → Bytes glyphs → length glyphs / 4 ≤ 65536 → cover ≡ word s 2 → (cover ≡ 0 → ⊥) → ia ≡ inputAt chained s → (ia ≡ 0 → ⊥) → length t₀ ≤ 0x1_0000_0000 → length area ≤ 0x1_0000_0000
-          → Begins chained s glyphs l m t₂ area
-      may-begin bs bg n e z f y k h = record {
+      pub may-begin : {area : List ℕ} {cover ia : ℕ} → Bytes s → Bytes glyphs → cover ≡ word s 2 → (cover ≡ 0 → ⊥) → ia ≡ inputAt chained s → (ia ≡ 0 → ⊥) → length t₀ ≤ 0x1_0000_0000 → length area ≤ 0x1_0000_0000
+          → Begins chained s form glyphs (record { lookups = l; glyphs = m }) t₂ area
+      may-begin bs bg e z f y k h = record {
         sound = context-sound chained s (o .sound) (o .format) (o .source);
         good = context-good chained s bs (o .sound) (o .format);
-        map = record { good = o .glyphs-good; few = n };
-        glyphs-good = good-glyphs glyphs bg (o .glyphs-good);
+        map = record { form-good = o .form-good; good = o .glyphs-good; bytes = bg };
         lookups = lookups-held .inside;
         before = omega (arith, a .place, b .place);
         holds = b .holds zm;
-        near = omega (arith, glyphs-near, b .place, b .few (glyphs-ascend glyphs (o .glyphs-good)));
+        near = omega (arith, glyphs-near, b .place, b .few);
         covers = λ w. z (e ∙ w);
         classed = λ w. y (f ∙ w);
         short = h;
         cells = omega (arith, a .kept .size, b .kept .size);
       }
 
-      pub maps-cut : {area : List ℕ} (r : Tried) (out after : List ℕ) → Bytes lookups → CutsInto chained s glyphs l t₂ area r out after
-          → Tries (length t₀ < 655360) (length area < enoughBytes) r out after (written out (cut (mapEntries glyphs) (mapEntries lookups) (classContext chained s)))
+      pub maps-cut : {area : List ℕ} (r : Tried) (out after : List ℕ) → Bytes lookups → CutsInto chained s (glyphEntries form glyphs) l t₂ area r out after
+          → Tries (length t₀ < 655360) (length area < enoughBytes) r out after (written out (cut (glyphEntries form glyphs) (mapEntries lookups) (classContext chained s)))
       maps-cut {area} r out after bl c =
-          tries-less (length t₂ < 655360) (length area < enoughBytes) (length t₀ < 655360) (length area < enoughBytes) r out after (written out (cut (mapEntries glyphs) (mapEntries lookups) (classContext chained s))) (λ f. omega (arith, f, a .kept .size, b .kept .size)) (λ f. f) (c .cuts lookups-held (map-values lookups bl))
+          tries-less (length t₂ < 655360) (length area < enoughBytes) (length t₀ < 655360) (length area < enoughBytes) r out after (written out (cut (glyphEntries form glyphs) (mapEntries lookups) (classContext chained s))) (λ f. omega (arith, f, a .kept .size, b .kept .size)) (λ f. f) (c .cuts lookups-held (map-values lookups bl))
 
 -- A front of the scratch that is long enough, or all of it.
 pub front-length : {n c : ℕ} (t : List ℕ) → Least (length t) c n → n ≡ length (take n t)

@@ -1,114 +1,126 @@
 -- A class table that is laid into cells: its class map, and the entries of the new one.
-use Prim.Native.Nat.{ℕ, _+_, _/_, _%_, _≤_, _<_}
+use Prim.Native.Nat.{ℕ, _+_, _-_, _%_, _≤_, _<_}
 use mathlib.Core.Path.{_≡_, refl, sym, ap, _∙_}
 use mathlib.Core.List.{List, map}
 use native.Mathlib.Omega.{arith}
 use lib.ListN.{length}
-use Rattle.meaning.specs.Maps.{mapEntries}
+use Rattle.meaning.specs.Words.{values}
+use Rattle.meaning.specs.Maps.{glyphEntries}
 use Rattle.meaning.specs.Cut.{classMap, newClasses}
+use Rattle.laws.specs.Runs.{up-ascends}
+use Rattle.laws.specs.CutGood.{GoodMap}
 use Rattle.fold.specs.Cells.{Inside, Kept, kept-more}
 use Rattle.fold.specs.declared.Map.{Map}
-use Rattle.area.specs.Part.{notes}
+use Rattle.glyph_runs.specs.Runs.{map-good}
 use Rattle.class_lists.specs.Tables.{classesAt}
 use Rattle.class_lists.specs.Elsewhere.{elsewhere-kept}
 use Rattle.class_maps.specs.Present.{present-held}
-use Rattle.class_maps.specs.Mapped.{Classes, Mapped, Entries, holds-null, classes-kept, entries-ascend}
+use Rattle.class_maps.specs.Mapped.{Classes, Mapped, Entries, zero-first, holds-null, classes-kept, entries-ascend}
 use Rattle.class_maps.specs.Covered.{Coverable, Covered}
 use Rattle.class_maps.specs.declared.ClassMap.{ClassMap}
 use Rattle.class_maps.specs.Same.{Same, kept-same, after-same, part-alike, holds-same, inside-same, present-same}
-use Rattle.class_contexts.specs.Sides.{Glyphs, TableFor, table-is, Asks, Sided, InputLaid}
+use Rattle.class_contexts.specs.Sides.{TableFor, table-is, Asks, Sided, InputLaid}
 use Rattle.class_layouts.specs.declared.NewTable.{NewTable}
 use Rattle.class_layouts.specs.declared.Noted.{Noted}
 use Rattle.class_contexts.specs.declared.Input.{Input}
 
 -- the entries of the new class table are written in the place of the classes
-entered : {s : List ℕ} {at : ℕ} {glyphs t u : List ℕ} {list n : ℕ} {r : ClassMap} → Glyphs glyphs → Classes (classesAt s at) glyphs t list r → Entries glyphs t u list (r .map) n → TableFor glyphs s at u (record { old = at; list = list; len = n })
+entered : {s : List ℕ} {at : ℕ} {g : List (ℕ × ℕ)} {t u : List ℕ} {list n : ℕ} {r : ClassMap} → GoodMap g → Classes (classesAt s at) g t list r → Entries t u list (r .map) n → TableFor g s at u (record { old = at; list = list; len = n })
 unfolding newClasses
-entered {s} {at} {glyphs} {t} {u} {list} {n} g c e = record {
+entered {s} {at} {g} {t} {u} {list} {n} good c e = record {
   in-cells = record {
-    inside = omega (arith, e .few, c .place, c .direct .inside .within, e .elsewhere .size);
-    few = omega (arith, e .few, g .few);
-    ascend = entries-ascend e (c .lists) (c .holds) (g .good);
+    inside = omega (arith, e .few, c .direct .inside .within, e .elsewhere .size);
+    few = omega (arith, e .few, c .near);
+    ascend = entries-ascend e (c .lists) (c .holds) (up-ascends 0 (values g) (good .new));
   };
-  is = table-is (mapEntries glyphs) s at u (record { old = at; list = list; len = n }) refl (e .entries (classesAt s at) (classMap (mapEntries glyphs) (classesAt s at)) (c .lists) (c .holds));
+  is = table-is g s at u (record { old = at; list = list; len = n }) refl (e .entries (classesAt s at) g (classMap g (classesAt s at)) (c .lists) (c .holds) (zero-first g (classesAt s at)));
 }
 
-module _ {s : List ℕ} {at : ℕ} {glyphs : List ℕ} {list : ℕ} (a : Asks s at glyphs list) {t₀ t₁ : List ℕ} {c : ClassMap} (w : Mapped s at glyphs t₀ t₁ list c) where
+module _ {s : List ℕ} {at form : ℕ} {glyphs : List ℕ} {list : ℕ} (a : Asks s at form glyphs list) {t₀ t₁ : List ℕ} {c : ClassMap} (w : Mapped (classesAt s at) (glyphEntries form glyphs) t₀ t₁ list c) where
   -- too few cells
-  pub side-few : (table : NewTable) → c .map .mask ≡ 0 → Sided s at glyphs t₀ t₁ list (record { map = c .map; table = table })
+  pub side-few : (table : NewTable) → c .map .mask ≡ 0 → Sided s at (glyphEntries form glyphs) t₀ t₁ list (record { map = c .map; table = table })
   side-few table z = record { kept = w .kept; few = w .few; room = w .room; low = λ n. absurd (n z); near = λ n. absurd (n z); before = λ n. absurd (n z); side = λ n. absurd (n z) }
 
-  pub side-laid : (c .map .mask ≡ 0 → ⊥) → {t₂ : List ℕ} {n : ℕ} → Entries glyphs t₁ t₂ list (c .map) n → Sided s at glyphs t₀ t₂ list (record { map = c .map; table = record { old = at; list = list; len = n } })
+  pub side-laid : (c .map .mask ≡ 0 → ⊥) → {t₂ : List ℕ} {n : ℕ} → Entries t₁ t₂ list (c .map) n → Sided s at (glyphEntries form glyphs) t₀ t₂ list (record { map = c .map; table = record { old = at; list = list; len = n } })
   side-laid z {t₂} {n} e =
       let k = w .mapped z in
       record {
         kept = kept-more (w .kept) (elsewhere-kept (e .elsewhere));
         few = w .few;
         room = w .room;
-        low = λ y. omega (arith, k .place);
-        near = λ y. omega (arith, k .place);
-        before = λ y. omega (arith, k .place, e .few);
+        low = λ y. k .place;
+        near = λ y. k .near;
+        before = λ y. e .few;
         side = λ y. record {
-          holds = holds-same (after-same (c .map .at + c .map .mask + 1) (e .elsewhere)) (c .map) (omega (arith, k .place)) (omega arith) (holds-null (mapEntries glyphs) s at (k .holds));
-          table = entered (a .map) k e;
+          holds = holds-same (after-same (c .map .at + c .map .mask + 1) (e .elsewhere)) (c .map) (omega arith) (omega arith) (holds-null (glyphEntries form glyphs) s at (k .holds));
+          table = entered (map-good (a .map)) k e;
         };
       }
 
 -- The input.
-module _ (noted : Noted) {s : List ℕ} {at : ℕ} {glyphs : List ℕ} {list : ℕ} (l : list ≡ noted .at + noted .len) (a : Asks s at glyphs list) {t₀ t₁ : List ℕ} {c : ClassMap} (w : Mapped s at glyphs t₀ t₁ list c) where
+module _ (noted : Noted) {s : List ℕ} {at form : ℕ} {glyphs : List ℕ} {list : ℕ} (l : list ≡ noted .at + noted .len) (a : Asks s at form glyphs list) {t₀ t₁ : List ℕ} {c : ClassMap} (w : Mapped (classesAt s at) (glyphEntries form glyphs) t₀ t₁ list c) where
+  abbrev g : List (ℕ × ℕ)
+  g = glyphEntries form glyphs
+
   -- too few cells for the class map
-  pub input-few : (r : Input) → c .map .mask ≡ 0 → r .map .mask ≡ 0 → r .marks .mask ≡ 0 → InputLaid s at glyphs noted t₀ t₁ r
+  pub input-few : (r : Input) → c .map .mask ≡ 0 → r .map .mask ≡ 0 → r .marks .mask ≡ 0 → InputLaid s at g noted t₀ t₁ r
   input-few r z y x = record {
     kept = rw l at (w .kept);
     few = omega arith;
     room = λ h n. w .room (omega arith) z;
     alike = x ∙ sym y;
-    place = λ n. absurd (n y);
-    behind = λ n. absurd (n y);
-    before = λ n. absurd (n y);
-    side = λ n. absurd (n y);
-  }
-
-  -- or for the marks
-  pub marks-few : (r : Input) {at′ : ℕ} → (c .map .mask ≡ 0 → ⊥) → at′ ≡ c .map .at + c .map .mask + 1 → length t₁ ≤ at′ + c .map .mask → r .map .mask ≡ 0 → r .marks .mask ≡ 0 → InputLaid s at glyphs noted t₀ t₁ r
-  marks-few r n e h y x = record {
-    kept = rw l at (w .kept);
-    few = omega arith;
-    room = λ g z. omega (arith, w .mapped n .place, w .few, w .kept .size);
-    alike = x ∙ sym y;
-    place = λ n. absurd (n y);
+    low = λ n. absurd (n y);
+    near = λ n. absurd (n y);
     behind = λ n. absurd (n y);
     before = λ n. absurd (n y);
     side = λ n. absurd (n y);
   }
 
   module _ (z : c .map .mask ≡ 0 → ⊥) where
-    classes : Classes (classesAt s at) glyphs t₁ list c
+    classes : Classes (classesAt s at) g t₁ list c
     classes = w .mapped z
+
+    -- or for the marks
+    pub marks-few : (r : Input) {at′ : ℕ} → at′ ≡ c .map .at + c .map .mask + 1 → length t₁ ≤ at′ + c .map .mask → r .map .mask ≡ 0 → r .marks .mask ≡ 0 → InputLaid s at g noted t₀ t₁ r
+    marks-few r e h y x = record {
+      kept = rw l at (w .kept);
+      few = omega arith;
+      room = λ f n. omega (arith, classes .near, w .few, w .kept .size);
+      alike = x ∙ sym y;
+      low = λ n. absurd (n y);
+      near = λ n. absurd (n y);
+      behind = λ n. absurd (n y);
+      before = λ n. absurd (n y);
+      side = λ n. absurd (n y);
+    }
+
+    -- the list ends where the class map begins
+    pub list-before : list ≤ c .map .at
+    list-before = classes .place
 
     module _ {marks : Map} (p : marks .at ≡ c .map .at + c .map .mask + 1) (m : marks .mask ≡ c .map .mask) where
       -- the marks may be made
-      pub may-mark : marks .at + marks .mask < length t₁ → Coverable glyphs t₁ marks (noted .at) (noted .len) list
+      pub may-mark : marks .at + marks .mask < length t₁ → Coverable t₁ marks (noted .at) (noted .len) list (c .map .at - list)
       may-mark h = record {
-        good = a .map .good;
         power = rw m (classes .direct .power);
         few = omega (arith, w .few);
         inside = record { within = h };
-        before = record { notes = omega (arith, classes .place); classes = omega (arith, classes .place); low = λ j g. omega (arith, classes .low j g) };
+        before = record { notes = omega (arith, classes .place); classes = omega (arith, classes .place); low = λ j f. omega (arith, classes .low j f) };
       }
 
-      module _ {t₂ : List ℕ} (v : Covered glyphs t₁ t₂ marks (noted .at) (noted .len) list) where
-        classes₂ : Classes (classesAt s at) glyphs t₂ list c
+      module _ {t₂ : List ℕ} (v : Covered t₁ t₂ marks (noted .at) (noted .len) list (c .map .at - list)) where
+        classes₂ : Classes (classesAt s at) g t₂ list c
         classes₂ = classes-kept classes (v .kept) (omega arith)
 
         -- and the entries, in the place of the classes
-        pub may-enter : Inside t₂ (c .map) × (list + length glyphs / 4 ≤ c .map .at)
-        may-enter = (classes₂ .holds .inside, omega (arith, classes .place))
+        pub may-enter : Inside t₂ (c .map) × (list ≤ c .map .at)
+        may-enter = (classes₂ .holds .inside, classes .place)
 
-        pub input-laid : {t₃ : List ℕ} {n : ℕ} → Entries glyphs t₂ t₃ list (c .map) n
-            → InputLaid s at glyphs noted t₀ t₃ (record { map = c .map; classes = c .count; marks = marks; table = record { old = at; list = list; len = n } })
+        pub input-laid : {t₃ : List ℕ} {n : ℕ} → Entries t₂ t₃ list (c .map) n
+            → InputLaid s at g noted t₀ t₃ (record { map = c .map; classes = c .count; marks = marks; table = record { old = at; list = list; len = n } })
         input-laid {t₃} {n} e =
-            let far : Same (list + length glyphs / 4) (marks .at + marks .mask + 1) t₂ t₃ = after-same (marks .at + marks .mask + 1) (e .elsewhere) in
+            let good = map-good (a .map) in
+            let far : Same (c .map .at) (marks .at + marks .mask + 1) t₂ t₃ = after-same (marks .at + marks .mask + 1) (e .elsewhere) in
             let first : Kept list t₀ t₁ = w .kept in
             let second : Kept list t₁ t₂ = record { size = v .kept .size; same = λ i h. v .kept .same i (omega (arith, classes .place)) } in
             record {
@@ -116,16 +128,17 @@ module _ (noted : Noted) {s : List ℕ} {at : ℕ} {glyphs : List ℕ} {list : �
               few = w .few;
               room = λ h y. z y;
               alike = m;
-              place = λ y. omega (arith, classes .place);
+              low = λ y. omega (arith, classes .place);
+              near = λ y. omega (arith, classes .near);
               behind = λ y. p;
-              before = λ y. omega (arith, classes .place, e .few);
+              before = λ y. e .few;
               side = λ y cov up told. record {
-                holds = holds-same far (c .map) (omega (arith, classes .place)) (omega arith) (classes₂ .holds);
-                held = present-same far (c .map) (omega (arith, classes .place)) (omega arith) ∙ present-held (mapEntries glyphs) (classesAt s at) (classes₂ .direct) (classes₂ .holds);
+                holds = holds-same far (c .map) (omega arith) (omega arith) (classes₂ .holds);
+                held = present-same far (c .map) (omega arith) (omega arith) ∙ present-held g (classesAt s at) (classes₂ .direct) (classes₂ .holds);
                 count = classes .count;
-                inside = inside-same far marks (omega (arith, classes .place)) (omega arith) (v .direct .inside);
-                marked = present-same far marks (omega (arith, classes .place)) (omega arith)
-                    ∙ v .classes (classesAt s at) cov (classes .lists) up (ap (map (λ x. x % 65536)) (part-alike (kept-same first) (noted .at) (noted .len) (omega arith) (omega arith)) ∙ told);
-                table = entered (a .map) classes₂ e;
+                inside = inside-same far marks (omega arith) (omega arith) (v .direct .inside);
+                marked = present-same far marks (omega arith) (omega arith)
+                    ∙ v .classes (classesAt s at) g cov good (classes .lists) up (ap (map (λ x. x % 65536)) (part-alike (kept-same first) (noted .at) (noted .len) (omega arith) (omega arith)) ∙ told);
+                table = entered good classes₂ e;
               };
             }

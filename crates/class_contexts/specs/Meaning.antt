@@ -1,5 +1,5 @@
 -- Format 2 as its source says it, and what the definitions say is left of it.
-use Prim.Native.Nat.{ℕ, _+_, _-_, _*_, _≤_, _<_}
+use Prim.Native.Nat.{ℕ, _+_, _*_, _≤_, _<_}
 use mathlib.Core.Path.{_≡_, refl, sym, ap, _∙_, subst}
 use mathlib.Core.Bool.{Bool, true, false, cond, _&&_}
 use mathlib.Core.Option.{Option, none, some}
@@ -15,12 +15,10 @@ use Rattle.meaning.specs.Tables.{Table, Rule, reach, reaches, ruleSet, classCon
 use Rattle.meaning.specs.Fault.{ruleFault, setFault}
 use Rattle.meaning.specs.Cut.{RuleMaps, cut, cutSet, heldBy, classMap, classMap?, newClasses?, newCoverage, retained, slots, trim, keptByClass}
 use Rattle.meaning.specs.Layout.{offsets, blocks, block, coverageWords, classWords, ruleWords, setWords, tableWords, wordsFit}
-use Rattle.meaning.specs.Subset.{Outcome, refused, limit, written}
-use Rattle.laws.specs.Stands.{All, Word}
-use Rattle.laws.specs.Runs.{Up}
+use Rattle.meaning.specs.Subset.{refused, limit, written}
 use Rattle.laws.specs.Through.{Opt}
 use Rattle.laws.specs.ReadsBack.{Good, kindOf, ruleSetKind}
-use Rattle.laws.specs.CutGood.{GoodMap, Values, GoodOf}
+use Rattle.laws.specs.CutGood.{GoodMap, Values, GoodOf, up-length}
 use Rattle.laws.specs.CutTables.{cut-good}
 use Rattle.laws.specs.FitsExactly.{shortTables, coverAt, offsets-exactly, by-class-exactly}
 use Rattle.room.specs.Laid.{laid-words}
@@ -70,11 +68,6 @@ tailOf false cov b i a = some cov ∷ i ∷ []
 tailOf true cov b i a = some cov ∷ b ∷ i ∷ a ∷ []
 
 -- Words that fit.
-
--- ascending words are at most 65,536
-up-length : (low : ℕ) (gs : List ℕ) → low ≤ 65536 → Up low gs → All Word gs → low + length gs ≤ 65536
-up-length low [] l u b = omega arith
-up-length low (g ∷ gs) l u b = omega (arith, up-length (g + 1) gs (omega arith) (u .1) (b .1))
 
 -- class tables that are short, as blocks
 tables-short : (cs : List (Option (List (ℕ × ℕ)))) → shortTables cs ≡ shortBlocks (map (block classWords) cs)

@@ -1,5 +1,5 @@
 -- Class tables in cells: the class map of one, and the entries of the new one; for the input, also the marks of the classes that covered glyphs hold.
-use Prim.Native.Nat.{ℕ, _+_, _/_, _≤_, _<_}
+use Prim.Native.Nat.{ℕ, _+_, _≤_, _<_}
 use mathlib.Core.Path.{_≡_, refl, sym, ap, _∙_}
 use mathlib.Core.Bool.{Bool, true, false}
 use mathlib.Core.Option.{Option, some}
@@ -8,13 +8,13 @@ use lib.ListN.{length}
 use lib.Dec.{eqb}
 use borrow.Author.Tests.{eqb-true, eqb-false}
 use Rattle.meaning.specs.Words.{keys}
-use Rattle.meaning.specs.Maps.{mapEntries, goodGlyphs}
 use Rattle.meaning.specs.Parts.{classes}
 use Rattle.meaning.specs.Cut.{heldBy, classMap, classMap?, newClasses, newClasses?, newCoverage, retained}
 use Rattle.meaning.specs.Layout.{block, classWords}
 use Rattle.laws.specs.Runs.{Up}
 use Rattle.fold.specs.Cells.{Inside, Holds, Kept}
 use Rattle.area.specs.Part.{news, notes}
+use Rattle.glyph_runs.specs.Runs.{GlyphMap}
 use Rattle.class_lists.specs.Tables.{tableAt, classesAt, NullOrSound, null-table, table-there, lists-there}
 use Rattle.class_maps.specs.Present.{present}
 use Rattle.class_layouts.specs.Tail.{tableBlock, block-null, block-there, TableIn}
@@ -27,15 +27,10 @@ use Rattle.class_contexts.specs.declared.Input.{Input}
 abbrev pub newTable : List (ℕ × ℕ) → List ℕ → ℕ → Option (List ℕ)
 newTable g s at = block classWords (newClasses? g (tableAt s at))
 
--- a glyph map: old and new numbers ascend, and there are no more entries than numbers
-pub record Glyphs (glyphs : List ℕ) : Type 0 where
-  pub good : goodGlyphs glyphs ≡ true
-  pub few : length glyphs / 4 ≤ 65536
-
--- n has the entries of the new class table for the one at `at`
-pub record TableFor (glyphs s : List ℕ) (at : ℕ) (t : List ℕ) (n : NewTable) : Type 0 where
+-- n has the entries of the new class table for the one at `at`, under the glyph map g
+pub record TableFor (g : List (ℕ × ℕ)) (s : List ℕ) (at : ℕ) (t : List ℕ) (n : NewTable) : Type 0 where
   pub in-cells : TableIn t n
-  pub is : tableBlock t n ≡ newTable (mapEntries glyphs) s at
+  pub is : tableBlock t n ≡ newTable g s at
 
 -- the block is the one of these entries
 pub table-is : (g : List (ℕ × ℕ)) (s : List ℕ) (at : ℕ) (t : List ℕ) (n : NewTable) → n .old ≡ at → notes t (n .list) (n .len) ≡ newClasses g (classesAt s at) → tableBlock t n ≡ newTable g s at
@@ -51,42 +46,43 @@ table-is g s at t n o e = step (eqb at 0) refl
         block-there t n (λ w. z (sym o ∙ w)) ∙ ap (λ (es : List (ℕ × ℕ)). some (classWords es)) (e ∙ ap (newClasses g) (lists-there s z)) ∙ sym (rw (table-there s z) refl)
 
 -- what is asked to lay a class table into cells from `list` on
-pub record Asks (s : List ℕ) (at : ℕ) (glyphs : List ℕ) (list : ℕ) : Type 0 where
+pub record Asks (s : List ℕ) (at form : ℕ) (glyphs : List ℕ) (list : ℕ) : Type 0 where
   pub sound : NullOrSound s at
-  pub map : Glyphs glyphs
+  pub map : GlyphMap form glyphs
   pub near : list ≤ 0x1_0000_0000
 
 -- the class map of the class table at `at`, and the entries of the new one
-pub record SideIn (glyphs s : List ℕ) (at : ℕ) (t : List ℕ) (r : Side) : Type 0 where
-  pub holds : Holds t (r .map) (classMap? (mapEntries glyphs) (tableAt s at))
-  pub table : TableFor glyphs s at t (r .table)
+pub record SideIn (g : List (ℕ × ℕ)) (s : List ℕ) (at : ℕ) (t : List ℕ) (r : Side) : Type 0 where
+  pub holds : Holds t (r .map) (classMap? g (tableAt s at))
+  pub table : TableFor g s at t (r .table)
 
 -- They are laid into cells from `list` on, or the mask is 0, since there are too few cells; the cells before `list` are as before.
-pub record Sided (s : List ℕ) (at : ℕ) (glyphs t₀ t : List ℕ) (list : ℕ) (r : Side) : Type 0 where
+pub record Sided (s : List ℕ) (at : ℕ) (g : List (ℕ × ℕ)) (t₀ t : List ℕ) (list : ℕ) (r : Side) : Type 0 where
   pub kept : Kept list t₀ t
   pub few : r .map .mask < 65536
-  pub room : list + length glyphs / 4 + 65536 ≤ length t₀ → r .map .mask ≡ 0 → ⊥
+  pub room : list + 131072 ≤ length t₀ → r .map .mask ≡ 0 → ⊥
   pub low : (r .map .mask ≡ 0 → ⊥) → list ≤ r .map .at
-  pub near : (r .map .mask ≡ 0 → ⊥) → r .map .at ≤ list + length glyphs / 4
+  pub near : (r .map .mask ≡ 0 → ⊥) → r .map .at ≤ list + 65536
   pub before : (r .map .mask ≡ 0 → ⊥) → r .table .list + r .table .len ≤ r .map .at
-  pub side : (r .map .mask ≡ 0 → ⊥) → SideIn glyphs s at t r
+  pub side : (r .map .mask ≡ 0 → ⊥) → SideIn g s at t r
 
 -- the same for the input, with marks of the classes that the retained glyphs of a coverage hold
-pub record InputIn (glyphs s : List ℕ) (at : ℕ) (cov t : List ℕ) (r : Input) : Type 0 where
-  pub holds : Holds t (r .map) (classMap (mapEntries glyphs) (classesAt s at))
-  pub held : present t (r .map) ≡ heldBy (classesAt s at) (keys (mapEntries glyphs))
-  pub count : r .classes ≡ length (heldBy (classesAt s at) (keys (mapEntries glyphs)))
+pub record InputIn (g : List (ℕ × ℕ)) (s : List ℕ) (at : ℕ) (cov t : List ℕ) (r : Input) : Type 0 where
+  pub holds : Holds t (r .map) (classMap g (classesAt s at))
+  pub held : present t (r .map) ≡ heldBy (classesAt s at) (keys g)
+  pub count : r .classes ≡ length (heldBy (classesAt s at) (keys g))
   pub inside : Inside t (r .marks)
-  pub marked : present t (r .marks) ≡ heldBy (classesAt s at) (retained (mapEntries glyphs) cov)
-  pub table : TableFor glyphs s at t (r .table)
+  pub marked : present t (r .marks) ≡ heldBy (classesAt s at) (retained g cov)
+  pub table : TableFor g s at t (r .table)
 
 -- The cells up to the notes of the coverage's glyphs are as before; the mask is 0 where there are too few cells.
-pub record InputLaid (s : List ℕ) (at : ℕ) (glyphs : List ℕ) (noted : Noted) (t₀ t : List ℕ) (r : Input) : Type 0 where
+pub record InputLaid (s : List ℕ) (at : ℕ) (g : List (ℕ × ℕ)) (noted : Noted) (t₀ t : List ℕ) (r : Input) : Type 0 where
   pub kept : Kept (noted .at + noted .len) t₀ t
   pub few : r .map .mask < 65536
-  pub room : noted .at + noted .len + length glyphs / 4 + 131072 ≤ length t₀ → r .map .mask ≡ 0 → ⊥
+  pub room : noted .at + noted .len + 196608 ≤ length t₀ → r .map .mask ≡ 0 → ⊥
   pub alike : r .marks .mask ≡ r .map .mask
-  pub place : (r .map .mask ≡ 0 → ⊥) → r .map .at ≡ noted .at + noted .len + length glyphs / 4
+  pub low : (r .map .mask ≡ 0 → ⊥) → noted .at + noted .len ≤ r .map .at
+  pub near : (r .map .mask ≡ 0 → ⊥) → r .map .at ≤ noted .at + noted .len + 65536
   pub behind : (r .map .mask ≡ 0 → ⊥) → r .marks .at ≡ r .map .at + r .map .mask + 1
   pub before : (r .map .mask ≡ 0 → ⊥) → r .table .list + r .table .len ≤ r .map .at
-  pub side : (r .map .mask ≡ 0 → ⊥) → (cov : List ℕ) → Up 0 cov → news t₀ (noted .at) (noted .len) ≡ newCoverage (mapEntries glyphs) cov → InputIn glyphs s at cov t r
+  pub side : (r .map .mask ≡ 0 → ⊥) → (cov : List ℕ) → Up 0 cov → news t₀ (noted .at) (noted .len) ≡ newCoverage g cov → InputIn g s at cov t r

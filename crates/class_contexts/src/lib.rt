@@ -10,7 +10,9 @@ use class_maps::mark_covered;
 use class_maps::new_entries;
 use fold::Map;
 use fold::lay;
-use meet::meet;
+use fold::lay_glyphs;
+use meet_runs::meet;
+use meet_runs::most;
 use room::Laid;
 use rule_sets::Maps;
 use tried::Tried;
@@ -18,7 +20,7 @@ use wire::word_at;
 ghost use mathlib.Core.Path.{_≡_};
 ghost use Prim.Native.Nat.{_+_, _≤_, _<_};
 ghost use lib.ListN.{length};
-ghost use Rattle.meaning.specs.Maps.{mapEntries};
+ghost use Rattle.meaning.specs.Maps.{mapEntries, glyphEntries};
 ghost use Rattle.meaning.specs.Tables.{classContext};
 ghost use Rattle.meaning.specs.Cut.{cut};
 ghost use Rattle.meaning.specs.Subset.{written};
@@ -28,8 +30,21 @@ ghost use Rattle.class_contexts.specs.Sides.{Asks, Sided, InputLaid};
 ghost use Rattle.class_contexts.specs.Meaning.{backAt, inputAt, aheadAt};
 ghost use Rattle.class_contexts.specs.Cutting.{enoughCells, preparedOf, Sound, Begins, Cuts, CutsInto, Least};
 
-// The number of cells that is enough for any source: two maps of 65,536 cells each and a note for each glyph, three class maps with a class for each glyph, and marks.
+// The number of cells that is enough for any source: 65,536 for each of both maps, for the notes of the covered glyphs and for the marks; and for each of three class tables as many for the classes of the glyphs, and for the class map.
+// 4 * 65,536 + 3 * 131,072.
 pub const CELLS: usize = 655360;
+
+// Both maps in cells, that of the glyphs behind that of the lookups.
+pub struct BothMaps {
+    pub lookups: Map,
+    pub glyphs: Map,
+}
+
+// The lookup map in cells, and behind it the notes of the covered glyphs.
+pub struct Begun {
+    pub lookups: Map,
+    pub cover: Noted,
+}
 
 // A class table in cells: its class map, and the new one.
 pub struct Side {
@@ -46,11 +61,11 @@ pub struct Input {
 }
 
 // The class map of the class table at `at`, which may be null, at 0, and the entries of the new one, in cells from `list` on. The mask is 0 where there are too few cells.
-fn class_side(src: &[u8], at: usize, glyphs: &[u8], t: &mut [u32], list: usize) -> Side
-    requires { ⌜ Asks (now src) at (now glyphs) list ⌝ }
-    ensures { λ r. ⌜ Sided (now (src .entry)) at (now (glyphs .entry)) (now (t .entry)) (now (t .exit)) list r ⌝ }
+fn class_side(src: &[u8], at: usize, form: usize, glyphs: &[u8], t: &mut [u32], list: usize) -> Side
+    requires { ⌜ Asks (now src) at form (now glyphs) list ⌝ }
+    ensures { λ r. ⌜ Sided (now (src .entry)) at (glyphEntries form (now (glyphs .entry))) (now (t .entry)) (now (t .exit)) list r ⌝ }
 {
-    let c = class_map(src, at, glyphs, t, list);
+    let c = class_map(src, at, glyphs, form, t, list);
     let map = c.map;
     if map.mask == 0 {
         return Side {
@@ -62,7 +77,7 @@ fn class_side(src: &[u8], at: usize, glyphs: &[u8], t: &mut [u32], list: usize) 
             },
         };
     }
-    let len = new_entries(glyphs, t, list, map);
+    let len = new_entries(t, list, map);
     Side {
         map,
         table: NewTable { old: at, list, len },
@@ -86,12 +101,19 @@ fn no_input() -> Input
 }
 
 // The same for the input's class table, in the cells behind the notes of the covered glyphs, with marks of the classes that these hold.
-fn class_input(src: &[u8], at: usize, glyphs: &[u8], noted: Noted, t: &mut [u32]) -> Input
-    requires { ⌜ Asks (now src) at (now glyphs) (noted .at + noted .len) × (length (now t) ≤ 0x1_0000_0000) ⌝ }
-    ensures { λ r. ⌜ InputLaid (now (src .entry)) at (now (glyphs .entry)) noted (now (t .entry)) (now (t .exit)) r ⌝ }
+fn class_input(
+    src: &[u8],
+    at: usize,
+    form: usize,
+    glyphs: &[u8],
+    noted: Noted,
+    t: &mut [u32],
+) -> Input
+    requires { ⌜ Asks (now src) at form (now glyphs) (noted .at + noted .len) × (length (now t) ≤ 0x1_0000_0000) ⌝ }
+    ensures { λ r. ⌜ InputLaid (now (src .entry)) at (glyphEntries form (now (glyphs .entry))) noted (now (t .entry)) (now (t .exit)) r ⌝ }
 {
     let list = noted.at + noted.len;
-    let c = class_map(src, at, glyphs, t, list);
+    let c = class_map(src, at, glyphs, form, t, list);
     let map = c.map;
     if map.mask == 0 {
         return no_input();
@@ -103,8 +125,8 @@ fn class_input(src: &[u8], at: usize, glyphs: &[u8], noted: Noted, t: &mut [u32]
     if t.len() <= marks.at + marks.mask {
         return no_input();
     }
-    mark_covered(glyphs, t, noted.at, noted.len, list, marks);
-    let len = new_entries(glyphs, t, list, map);
+    mark_covered(t, noted.at, noted.len, list, map.at - list, marks);
+    let len = new_entries(t, list, map);
     Input {
         map,
         classes: c.count,
@@ -176,71 +198,80 @@ fn prepare(lookups: Map, cover: Noted, input: Input, back: Side, ahead: Side) ->
 fn cut_noted(
     chained: bool,
     src: &[u8],
+    form: usize,
     glyphs: &[u8],
-    l: Map,
-    noted: Noted,
+    begun: Begun,
     t: &mut [u32],
     area: &mut [u8],
     out: &mut [u8],
 ) -> Tried
-    requires { ⌜ Cuts chained (now src) (now glyphs) l noted (now t) (now area) ⌝ }
-    ensures { λ r. ⌜ CutsInto chained (now (src .entry)) (now (glyphs .entry)) l (now (t .entry)) (now (area .entry)) r (now (out .entry)) (now (out .exit)) ⌝ }
+    requires { ⌜ Cuts chained (now src) form (now glyphs) begun (now t) (now area) ⌝ }
+    ensures { λ r. ⌜ CutsInto chained (now (src .entry)) (glyphEntries form (now (glyphs .entry))) (begun .lookups) (now (t .entry)) (now (area .entry)) r (now (out .entry)) (now (out .exit)) ⌝ }
 {
-    let input = class_input(src, input_at(chained, src), glyphs, noted, t);
+    let noted = begun.cover;
+    let input = class_input(src, input_at(chained, src), form, glyphs, noted, t);
     if input.map.mask == 0 {
         return Tried::FewCells;
     }
     let behind = input.marks.at + input.marks.mask + 1;
-    let back = class_side(src, back_at(chained, src), glyphs, t, behind);
+    let back = class_side(src, back_at(chained, src), form, glyphs, t, behind);
     if back.map.mask == 0 {
         return Tried::FewCells;
     }
     let last = back.map.at + back.map.mask + 1;
-    let ahead = class_side(src, ahead_at(chained, src), glyphs, t, last);
+    let ahead = class_side(src, ahead_at(chained, src), form, glyphs, t, last);
     if ahead.map.mask == 0 {
         return Tried::FewCells;
     }
-    let prepared = prepare(l, noted, input, back, ahead);
-    write_left(chained, src, t, prepared, glyphs.len() % 4, area, out)
+    let prepared = prepare(begun.lookups, noted, input, back, ahead);
+    write_left(chained, src, t, prepared, glyphs.len() % form, area, out)
 }
 
 // What is left of a sound context, with both maps in cells, handed over if there is room.
 fn cut_maps(
     chained: bool,
     src: &[u8],
+    form: usize,
     glyphs: &[u8],
-    l: Map,
-    m: Map,
+    maps: BothMaps,
     t: &mut [u32],
     area: &mut [u8],
     out: &mut [u8],
 ) -> Tried
-    requires { ⌜ Begins chained (now src) (now glyphs) l m (now t) (now area) ⌝ }
-    ensures { λ r. ⌜ CutsInto chained (now (src .entry)) (now (glyphs .entry)) l (now (t .entry)) (now (area .entry)) r (now (out .entry)) (now (out .exit)) ⌝ }
+    requires { ⌜ Begins chained (now src) form (now glyphs) maps (now t) (now area) ⌝ }
+    ensures { λ r. ⌜ CutsInto chained (now (src .entry)) (glyphEntries form (now (glyphs .entry))) (maps .lookups) (now (t .entry)) (now (area .entry)) r (now (out .entry)) (now (out .exit)) ⌝ }
 {
+    let m = maps.glyphs;
     let at = m.at + m.mask + 1;
-    if t.len() <= at + glyphs.len() / 4 {
+    let cover = word_at(src, 2);
+    if t.len() <= at + most(src, cover, glyphs, form) {
         return Tried::FewCells;
     }
-    let len = meet(src, word_at(src, 2), glyphs, m, t, at);
+    let len = meet(src, cover, glyphs, form, m, t, at);
     if len == 0 {
         return Tried::Became(Laid::Nothing);
     }
-    cut_noted(chained, src, glyphs, l, Noted { at, len }, t, area, out)
+    let lookups = maps.lookups;
+    let begun = Begun {
+        lookups,
+        cover: Noted { at, len },
+    };
+    cut_noted(chained, src, form, glyphs, begun, t, area, out)
 }
 
 // The same from the maps' lists, with lent scratch whose content is arbitrary.
 fn cut_in(
     chained: bool,
     src: &[u8],
+    form: usize,
     glyphs: &[u8],
     lookups: &[u8],
     t: &mut [u32],
     area: &mut [u8],
     out: &mut [u8],
 ) -> Tried
-    requires { ⌜ Sound chained (now src) (now glyphs) (now lookups) × (length (now t) ≤ 0x1_0000_0000) × (length (now area) ≤ 0x1_0000_0000) ⌝ }
-    ensures { λ r. ⌜ Tries (length (now (t .entry)) < enoughCells) (length (now (area .entry)) < enoughBytes) r (now (out .entry)) (now (out .exit)) (written (now (out .entry)) (cut (mapEntries (now (glyphs .entry))) (mapEntries (now (lookups .entry))) (classContext chained (now (src .entry))))) ⌝ }
+    requires { ⌜ Sound chained (now src) form (now glyphs) (now lookups) × (length (now t) ≤ 0x1_0000_0000) × (length (now area) ≤ 0x1_0000_0000) ⌝ }
+    ensures { λ r. ⌜ Tries (length (now (t .entry)) < enoughCells) (length (now (area .entry)) < enoughBytes) r (now (out .entry)) (now (out .exit)) (written (now (out .entry)) (cut (glyphEntries form (now (glyphs .entry))) (mapEntries (now (lookups .entry))) (classContext chained (now (src .entry))))) ⌝ }
 {
     if word_at(src, 2) == 0 {
         return Tried::Became(Laid::Nothing);
@@ -252,11 +283,15 @@ fn cut_in(
     if l.mask == 0 {
         return Tried::FewCells;
     }
-    let m = lay(glyphs, t, l.mask + 1);
+    let m = lay_glyphs(glyphs, form, t, l.mask + 1);
     if m.mask == 0 {
         return Tried::FewCells;
     }
-    cut_maps(chained, src, glyphs, l, m, t, area, out)
+    let maps = BothMaps {
+        lookups: l,
+        glyphs: m,
+    };
+    cut_maps(chained, src, form, glyphs, maps, t, area, out)
 }
 
 // The lesser of two numbers.
@@ -274,19 +309,21 @@ pub fn by_class(
     chained: bool,
     src: &[u8],
     glyphs: &[u8],
+    form: usize,
     lookups: &[u8],
     t: &mut [u32],
     area: &mut [u8],
     out: &mut [u8],
 ) -> Tried
-    requires { ⌜ Sound chained (now src) (now glyphs) (now lookups) ⌝ }
-    ensures { λ r. ⌜ Tries (length (now (t .entry)) < enoughCells) (length (now (area .entry)) < enoughBytes) r (now (out .entry)) (now (out .exit)) (written (now (out .entry)) (cut (mapEntries (now (glyphs .entry))) (mapEntries (now (lookups .entry))) (classContext chained (now (src .entry))))) ⌝ }
+    requires { ⌜ Sound chained (now src) form (now glyphs) (now lookups) ⌝ }
+    ensures { λ r. ⌜ Tries (length (now (t .entry)) < enoughCells) (length (now (area .entry)) < enoughBytes) r (now (out .entry)) (now (out .exit)) (written (now (out .entry)) (cut (glyphEntries form (now (glyphs .entry))) (mapEntries (now (lookups .entry))) (classContext chained (now (src .entry))))) ⌝ }
 {
     let cells = least(t.len(), CELLS);
     let bytes = least(area.len(), BYTES);
     cut_in(
         chained,
         src,
+        form,
         glyphs,
         lookups,
         &mut t[..cells],

@@ -8,32 +8,47 @@ use native.Mathlib.Omega.{arith}
 use lib.ListN.{getD, List·getD-eq-default}
 use lib.Dec.{leb}
 use Rattle.meaning.specs.Words.{word, words, triples, find}
-use Rattle.meaning.specs.Parts.{rangesAscend, rangeClasses, classOf, listed, classIn}
+use Rattle.meaning.specs.Parts.{rangesAscend, rangeClasses, classOf}
 use Rattle.laws.specs.Runs.{both}
 use Rattle.laws.specs.Left.{words-length, words-at, triples-left, triples-all, triples-none}
 use Rattle.laws.specs.ClassesLeft.{array-low, array-at, ranges-rest, range-after, range-in, range-before}
 use Rattle.halving.specs.Rising as halving
 use Rattle.halving.specs.Columns.{ranges-least, end-place}
+use Rattle.class_lists.specs.Tables.{classesAt, NullOrSound, arrayAt, null-lists, by-array, by-ranges, ranges-sound}
+use Rattle.class_lists.specs.Stretches.{Ranges, Passed, Ended, Stretched, Ranged, Hint, Found}
 use Rattle.class_lists.specs.declared.Stretch.{Stretch}
-use Rattle.class_lists.specs.Tables.{tableAt, NullOrSound, arrayAt, null-table, by-array, by-ranges}
-use Rattle.class_lists.specs.Stretches.{Ranges, Passed, Reached, Stretched, Begins, Holding}
 
--- the class of a glyph in the array of the table at `at`: before it, past it, and in it
+-- the stretch that begins with the glyph x in the array of the table at `at`: before it, past it, and in it
 module _ (s : List ℕ) (at : ℕ) {first x : ℕ} (f : first ≡ word s (at + 2)) where
-  pub array-before : x < first → (0 ≡ classOf (arrayAt s at) x) × (0 < 65536)
-  array-before h = (rw (← f) (sym (array-low first (words s (at + 6) (word s (at + 4))) x h)), omega arith)
+  pub array-before : x < first → first < 65536 → Stretched (arrayAt s at) x (record { last = first - 1; class = 0; next = 0 })
+  array-before h k = record {
+    holds = omega arith;
+    end = omega arith;
+    same = λ y a b. rw (← f) (sym (array-low first (words s (at + 6) (word s (at + 4))) y (omega arith)));
+    small = omega arith;
+  }
 
   module _ {n : ℕ} (e : n ≡ word s (at + 4)) (h : first ≤ x) where
-    at-place : classOf (arrayAt s at) x ≡ getD (words s (at + 6) n) (x - first) 0
-    at-place =
-        let d : first + (x - first) ≡ x = omega arith in
-        rw (← f, ← e) (rw d at (array-at first (words s (at + 6) n) (x - first)))
+    at-place : (y : ℕ) → x ≤ y → classOf (arrayAt s at) y ≡ getD (words s (at + 6) n) (y - first) 0
+    at-place y l =
+        let d : first + (y - first) ≡ y = omega arith in
+        rw (← f, ← e) (rw d at (array-at first (words s (at + 6) n) (y - first)))
 
-    pub array-past : n ≤ x - first → (0 ≡ classOf (arrayAt s at) x) × (0 < 65536)
-    array-past l = (sym (at-place ∙ List·getD-eq-default (words s (at + 6) n) 0 (omega (arith, words-length s (at + 6) n))), omega arith)
+    pub array-past : x < 65536 → n ≤ x - first → Stretched (arrayAt s at) x (record { last = 65535; class = 0; next = 0 })
+    array-past k l = record {
+      holds = omega arith;
+      end = omega arith;
+      same = λ y a b. sym (at-place y a ∙ List·getD-eq-default (words s (at + 6) n) 0 (omega (arith, words-length s (at + 6) n)));
+      small = omega arith;
+    }
 
-    pub array-in : {c : ℕ} → x - first < n → (c ≡ word s (at + 6 + 2 * (x - first))) × (c < 65536) → (c ≡ classOf (arrayAt s at) x) × (c < 65536)
-    array-in l g = (g .0 ∙ sym (at-place ∙ words-at s (at + 6) n (x - first) l), g .1)
+    pub array-in : {c : ℕ} → x < 65536 → x - first < n → (c ≡ word s (at + 6 + 2 * (x - first))) × (c < 65536) → Stretched (arrayAt s at) x (record { last = x; class = c; next = 0 })
+    array-in {c} k l g = record {
+      holds = omega arith;
+      end = k;
+      same = λ y a b. let q : y ≡ x = omega arith in rw q (g .0 ∙ sym (at-place x (omega arith) ∙ words-at s (at + 6) n (x - first) l));
+      small = g .1;
+    }
 
 -- What is kept where ranges are passed: those that are left ascend, and say of the glyph x what all say.
 pub record Walking (s : List ℕ) (at n x i : ℕ) : Type 0 where
@@ -107,7 +122,7 @@ walking-to {s} {at} {n} {x} h (suc d) l p =
     rw e at (walking-far d (walking-all h) (omega arith) after)
 
 -- the stretch that begins with the glyph x, if the r-th range is the first that ends there or later: there is none, it starts after the glyph, or it holds it
-module _ {s : List ℕ} {at n x r : ℕ} (h : Ranges s at n) (k : Reached s at n x r) where
+module _ {s : List ℕ} {at n x r : ℕ} (h : Ranges s at n) (k : Ended s at n x r) where
   -- the same ranges are passed for glyphs after x
   later : (y : ℕ) → x ≤ y → Passed s at y r
   later y l i e = omega (arith, k .passed i e)
@@ -115,41 +130,32 @@ module _ {s : List ℕ} {at n x r : ℕ} (h : Ranges s at n) (k : Reached s at n
   walk : (y : ℕ) → x ≤ y → Walking s at n y r
   walk y l = walking-to (h .rise) r (k .within) (later y l)
 
-  pub reached-none : x < 65536 → n ≤ r → Stretched s at n x (record { last = 65535; class = 0; next = r })
-  reached-none w l = record {
-    holds = omega arith;
-    low = omega arith;
-    same = λ y g m. walking-end (walk y g) l;
-    small = omega arith;
+  pub ended-none : x < 65536 → n ≤ r → Ranged s at n x (record { last = 65535; class = 0; next = r })
+  ended-none w l = record {
+    stretch = record { holds = omega arith; end = omega arith; same = λ y g m. walking-end (walk y g) l; small = omega arith };
     within = k .within;
     passed = λ y g. later y (omega arith);
   }
 
   module _ {first : ℕ} (l : r < n) (f : first ≡ word s (at + 6 * r)) where
-    pub reached-gap : first < 65536 → x < first → Stretched s at n x (record { last = first - 1; class = 0; next = r })
-    reached-gap w g = record {
-      holds = omega arith;
-      low = omega arith;
-      same = λ y a m. walking-before (walk y a) l refl f (omega arith);
-      small = omega arith;
+    pub ended-gap : first < 65536 → x < first → Ranged s at n x (record { last = first - 1; class = 0; next = r })
+    ended-gap w g = record {
+      stretch = record { holds = omega arith; end = omega arith; same = λ y a m. walking-before (walk y a) l refl f (omega arith); small = omega arith };
       within = k .within;
       passed = λ y m. later y (omega arith);
     }
 
-    pub reached-in : {last c : ℕ} → first ≤ x → (last ≡ word s (at + 6 * r + 2)) × (last < 65536) → (c ≡ word s (at + 6 * r + 4)) × (c < 65536)
-        → Stretched s at n x (record { last = last; class = c; next = r + 1 })
-    reached-in g e c = record {
-      holds = omega (arith, k .ends l, e .0);
-      low = e .1;
-      same = λ y a m. c .0 ∙ walking-in (walk y a) l (e .0) f m (omega arith);
-      small = c .1;
+    pub ended-in : {last c : ℕ} → first ≤ x → (last ≡ word s (at + 6 * r + 2)) × (last < 65536) → (c ≡ word s (at + 6 * r + 4)) × (c < 65536)
+        → Ranged s at n x (record { last = last; class = c; next = r + 1 })
+    ended-in g e c = record {
+      stretch = record { holds = omega (arith, e .0, k .ends l); end = e .1; same = λ y a m. c .0 ∙ walking-in (walk y a) l (e .0) f m (omega arith); small = c .1 };
       within = omega arith;
       passed = λ y m i q. let d : i ≡ r = omega arith in rw (d, ← e .0) m;
     }
 
 -- what the search answers, where the range before the `from`-th ends before the glyph
-pub range-reached : {s : List ℕ} {at n from x r : ℕ} → Passed s at x from → halving.Reached s (at + 2) 6 n from x r → Reached s at n x r
-range-reached {s} {at} {n} {from} {x} {r} p h = record {
+pub range-ended : {s : List ℕ} {at n from x r : ℕ} → Passed s at x from → halving.Reached s (at + 2) 6 n from x r → Ended s at n x r
+range-ended {s} {at} {n} {from} {x} {r} p h = record {
   within = h .most;
   passed = λ k e. step k e (decLt k from);
   ends = λ l. omega (arith, end-place s at r, h .above l);
@@ -159,45 +165,30 @@ range-reached {s} {at} {n} {from} {x} {r} p h = record {
     step k e (yes l) = p k (omega (arith, h .least))
     step k e (no l) = omega (arith, end-place s at k, h .below k (omega arith) (omega arith))
 
--- The ways through the stretch of a class table by its offset.
+-- a null table lists no class
+no-class : (s : List ℕ) {at : ℕ} (x : ℕ) → at ≡ 0 → 0 ≡ classOf (classesAt s at) x
+unfolding classOf find
+no-class s x h = rw (null-lists s h)
 
--- each search may begin with the first range
-pub begins-first : (s : List ℕ) (at x : ℕ) → Begins s at x 0
-begins-first s at x = record { begins = λ z f. (omega arith, λ k e. absurd (omega arith)) }
+-- the stretch by the format of the table at `at`: a null one, an array, and ranges
+module _ (s : List ℕ) {at x : ℕ} where
+  pub found-null : at ≡ 0 → x < 65536 → Found s at x (record { last = 65535; class = 0; next = 0 })
+  found-null z h = record {
+    stretch = record { holds = omega arith; end = omega arith; same = λ y a b. no-class s y z; small = omega arith };
+    hint = λ y l. record { ranges = λ n f. absurd (n z) };
+  }
 
-pub holding-null : (s : List ℕ) {at x : ℕ} → x < 65536 → at ≡ 0 → Holding s at x (record { last = 65535; class = 0; next = 0 }) × (x ≤ 65535)
-unfolding classIn listed classOf find
-holding-null s {at} {x} w h = (
-  record {
-    low = omega arith;
-    same = λ y a m. rw (null-table s h);
-    small = omega arith;
-    later = λ y m. begins-first s at y;
-  },
-  omega arith,
-)
+  module _ {format : ℕ} (z : at ≡ 0 → ⊥) (k : NullOrSound s at) (f : format ≡ word s at) where
+    pub found-array : {r : Stretch} → format ≡ 1 → Stretched (arrayAt s at) x r → Found s at x r
+    found-array e w = record { stretch = rw (by-array z k f e) w; hint = λ y l. record { ranges = λ n o. absurd (o (sym f ∙ e)) } }
 
-module _ {s : List ℕ} {at x : ℕ} (k : NullOrSound s at) (z : at ≡ 0 → ⊥) {format : ℕ} (f : format ≡ word s at) where
-  pub holding-array : {c : ℕ} → x < 65536 → format ≡ 1 → (c ≡ classOf (arrayAt s at) x) × (c < 65536) → Holding s at x (record { last = x; class = c; next = 0 }) × (x ≤ x)
-  unfolding classIn
-  holding-array {c} w e h = (
-    record {
-      low = w;
-      same = λ y a m. let q : y ≡ x = omega arith in rw (q, by-array z k f e) (h .0);
-      small = h .1;
-      later = λ y m. begins-first s at y;
-    },
-    omega arith,
-  )
+    module _ {n : ℕ} (g : n ≡ word s (at + 2)) (e : format ≡ 1 → ⊥) where
+      pub found-ranges : {r : Stretch} → Ranged s (at + 4) n x r → Found s at x r
+      found-ranges w = record { stretch = rw (by-ranges z k f g e) (w .stretch); hint = λ y l. record { ranges = λ a b. (rw g at (w .within), w .passed y l) } }
 
-  pub holding-ranges : {n : ℕ} {r : Stretch} → (format ≡ 1 → ⊥) → n ≡ word s (at + 2) → Stretched s (at + 4) n x r → Holding s at x r × (x ≤ r .last)
-  unfolding classIn
-  holding-ranges e g h = (
-    record {
-      low = h .low;
-      same = λ y a m. rw (by-ranges z k f g e) (h .same y a m);
-      small = h .small;
-      later = λ y m. record { begins = λ p q. (omega (arith, h .within), h .passed y m) };
-    },
-    h .holds,
-  )
+      -- the search may begin with `next`
+      pub ranges-ready : {next : ℕ} → Hint s at x next → Ranges s (at + 4) n × (next ≤ n) × Passed s (at + 4) x next
+      ranges-ready h =
+          let r = ranges-sound z k f g e in
+          let p = h .ranges z (λ q. e (f ∙ q)) in
+          (record { inside = r .0; rise = r .1 }, omega (arith, p .0), p .1)

@@ -1,4 +1,5 @@
 pub mod Tables
 pub mod Stretches
 pub mod Elsewhere
+pub mod From
 pub mod Listed

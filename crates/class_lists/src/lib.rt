@@ -1,59 +1,20 @@
-// The class of a glyph, and the class of each retained glyph, in cells: one for each entry of the glyph map, in order.
-// Map and class table both ascend, so that one walk over the map finds the classes: each search begins where the last one ended, and halves. It costs the map's entries, never a range's glyphs, and of the ranges only those that a search looks at.
+// The class of a glyph, and the classes of the retained glyphs, in cells: one for each whose class is not 0, its new number times 65,536, plus the class, ascending.
+// Map and class table both ascend, so that one walk over both finds the classes: each search begins where the last one ended, and halves. It costs the retained glyphs that have a class other than 0 and the stretches of one class that are met, never the glyphs of a run or of a range.
+use glyph_runs::count_runs;
+use glyph_runs::reach;
+use glyph_runs::run_at;
 use wire::word_inside;
 ghost use mathlib.Core.Path.{_≡_};
-ghost use mathlib.Core.Bool.{true};
-ghost use Prim.Native.Nat.{_+_, _*_, _/_, _≤_, _<_};
-ghost use lib.ListN.{length};
-ghost use Rattle.meaning.specs.Words.{triples, ascends, keys};
-ghost use Rattle.meaning.specs.Parts.{rangeClasses, classOf, classIn};
-ghost use Rattle.meaning.specs.Maps.{mapEntries};
+ghost use mathlib.Core.Bool.{_||_};
+ghost use Prim.Native.Nat.{_+_, _≤_, _<_};
+ghost use lib.Dec.{eqb};
+ghost use Rattle.meaning.specs.Words.{triples};
+ghost use Rattle.meaning.specs.Parts.{rangeClasses, classIn};
+ghost use Rattle.meaning.specs.Maps.{glyphEntries};
+ghost use Rattle.glyph_runs.specs.Runs.{GlyphMap};
 ghost use Rattle.class_lists.specs.Tables.{tableAt, classesAt, NullOrSound, arrayAt, ArrayInside};
-ghost use Rattle.class_lists.specs.Stretches.{Ranges, Passed, Reached, Stretched, Begins, Holding};
-ghost use Rattle.class_lists.specs.Listed.{Filled, Listed};
-
-// The class of a glyph in the class array of the table at `at`: class 0 before the array and past it.
-fn array_class(src: &[u8], at: usize, glyph: usize) -> usize
-    requires { ⌜ ArrayInside (now src) at ⌝ }
-    ensures { λ r. ⌜ (r ≡ classOf (arrayAt (now (src .entry)) at) glyph) × (r < 65536) ⌝ }
-{
-    let first = word_inside(src, at + 2);
-    if glyph < first {
-        return 0;
-    }
-    let i = glyph - first;
-    if word_inside(src, at + 4) <= i {
-        return 0;
-    }
-    word_inside(src, at + 6 + 2 * i)
-}
-
-// The higher of two classes.
-fn higher(a: usize, b: usize) -> usize
-    requires { ⌜ (a < 65536) × (b < 65536) ⌝ }
-    ensures { λ r. ⌜ (a ≤ r) × (b ≤ r) × (r < 65536) ⌝ }
-{
-    if a < b {
-        return b;
-    }
-    a
-}
-
-// The class of each glyph of the map, from `list` on, by the class array of the table at `at`; a class that none is above.
-fn list_array(src: &[u8], at: usize, glyphs: &[u8], t: &mut [u32], list: usize) -> usize
-    requires { ⌜ ArrayInside (now src) at × (list + length (now glyphs) / 4 ≤ length (now t)) ⌝ }
-    ensures { λ r. ⌜ Listed (arrayAt (now (src .entry)) at) (now (glyphs .entry)) (now (t .entry)) (now (t .exit)) list r ⌝ }
-{
-    let mut high = 0;
-    let mut e = 0;
-    while e < glyphs.len() / 4 {
-        let class = array_class(src, at, word_inside(glyphs, 4 * e));
-        t[list + e] = class as u32;
-        high = higher(high, class);
-        e += 1;
-    }
-    high
-}
+ghost use Rattle.class_lists.specs.Stretches.{Ranges, Passed, Ended, Stretched, Ranged, Hint, Found};
+ghost use Rattle.class_lists.specs.Listed.{Greater, PutRun, ToFill, Filled, Passes, Listed};
 
 // Glyphs up to `last` that hold one class. The search for a later glyph begins with the class range `next`.
 pub struct Stretch {
@@ -62,21 +23,62 @@ pub struct Stretch {
     pub next: usize,
 }
 
+// Where a walk stands: at the first run that is not done, and behind the cells that are.
+pub struct Place {
+    pub run: usize,
+    pub cell: usize,
+}
+
+// What was listed: how many cells, a class that none is above, and whether a retained glyph holds class 0.
+pub struct ClassList {
+    pub len: usize,
+    pub high: usize,
+    pub zero: bool,
+}
+
+// The stretch that begins with the glyph in the class array of the table at `at`: class 0 before the array and past it, and in it one glyph.
+fn array_stretch(src: &[u8], at: usize, glyph: usize) -> Stretch
+    requires { ⌜ ArrayInside (now src) at × (glyph < 65536) ⌝ }
+    ensures { λ r. ⌜ Stretched (arrayAt (now (src .entry)) at) glyph r ⌝ }
+{
+    let first = word_inside(src, at + 2);
+    if glyph < first {
+        return Stretch {
+            last: first - 1,
+            class: 0,
+            next: 0,
+        };
+    }
+    let i = glyph - first;
+    if word_inside(src, at + 4) <= i {
+        return Stretch {
+            last: 65535,
+            class: 0,
+            next: 0,
+        };
+    }
+    Stretch {
+        last: glyph,
+        class: word_inside(src, at + 6 + 2 * i),
+        next: 0,
+    }
+}
+
 // The first of the `n` class ranges from `at` on that ends at the glyph or later; `n` if none does. Those before `from` end before it.
 // It is mostly close: the search looks at four ranges one by one, then it halves.
-fn reach(src: &[u8], at: usize, n: usize, from: usize, glyph: usize) -> usize
+fn reach_range(src: &[u8], at: usize, n: usize, from: usize, glyph: usize) -> usize
     requires { ⌜ Ranges (now src) at n × (from ≤ n) × Passed (now src) at glyph from ⌝ }
-    ensures { λ r. ⌜ Reached (now (src .entry)) at n glyph r ⌝ }
+    ensures { λ r. ⌜ Ended (now (src .entry)) at n glyph r ⌝ }
 {
     halving::reach(src, at + 2, 6, n, from, from + 4, glyph)
 }
 
 // The stretch that begins with the glyph, by the first of the `n` class ranges from `at` on that ends there or later. Those before `from` end before it.
-fn stretch_from(src: &[u8], at: usize, n: usize, from: usize, glyph: usize) -> Stretch
+fn range_stretch(src: &[u8], at: usize, n: usize, from: usize, glyph: usize) -> Stretch
     requires { ⌜ Ranges (now src) at n × (from ≤ n) × Passed (now src) at glyph from × (glyph < 65536) ⌝ }
-    ensures { λ r. ⌜ Stretched (now (src .entry)) at n glyph r ⌝ }
+    ensures { λ r. ⌜ Ranged (now (src .entry)) at n glyph r ⌝ }
 {
-    let i = reach(src, at, n, from, glyph);
+    let i = reach_range(src, at, n, from, glyph);
     if n <= i {
         return Stretch {
             last: 65535,
@@ -99,10 +101,10 @@ fn stretch_from(src: &[u8], at: usize, n: usize, from: usize, glyph: usize) -> S
     }
 }
 
-// The stretch that begins with the glyph, by the class table at `at`; those of its class ranges before `from` end before the glyph. With a null table, at 0, all hold class 0.
-pub fn stretch_at(src: &[u8], at: usize, from: usize, glyph: usize) -> Stretch
-    requires { ⌜ NullOrSound (now src) at × Begins (now src) at glyph from × (glyph < 65536) ⌝ }
-    ensures { λ r. ⌜ Holding (now (src .entry)) at glyph r × (glyph ≤ r .last) ⌝ }
+// The stretch that begins with the glyph in the class table at `at`; with a null table, at 0, all glyphs hold class 0. The class ranges before `next` end before the glyph.
+pub fn stretch_from(src: &[u8], at: usize, next: usize, glyph: usize) -> Stretch
+    requires { ⌜ NullOrSound (now src) at × Hint (now src) at glyph next × (glyph < 65536) ⌝ }
+    ensures { λ r. ⌜ Found (now (src .entry)) at glyph r ⌝ }
 {
     if at == 0 {
         return Stretch {
@@ -112,14 +114,10 @@ pub fn stretch_at(src: &[u8], at: usize, from: usize, glyph: usize) -> Stretch
         };
     }
     if word_inside(src, at) == 1 {
-        return Stretch {
-            last: glyph,
-            class: array_class(src, at, glyph),
-            next: 0,
-        };
+        return array_stretch(src, at, glyph);
     }
     let n = word_inside(src, at + 2);
-    stretch_from(src, at + 4, n, from, glyph)
+    range_stretch(src, at + 4, n, next, glyph)
 }
 
 // The class of a glyph in the class table at `at`; with a null table, at 0, it is class 0.
@@ -127,56 +125,140 @@ pub fn class_of(src: &[u8], at: usize, glyph: usize) -> usize
     requires { ⌜ NullOrSound (now src) at × (glyph < 65536) ⌝ }
     ensures { λ r. ⌜ (r ≡ classIn (tableAt (now (src .entry)) at) glyph) × (r < 65536) ⌝ }
 {
-    let found = stretch_at(src, at, 0, glyph);
+    let found = stretch_from(src, at, 0, glyph);
     found.class
 }
 
-// The class `class` for each glyph of the map from the entry `from` on that is `last` at most; the entry after them.
-fn fill(glyphs: &[u8], from: usize, last: usize, class: usize, t: &mut [u32], list: usize) -> usize
-    requires { ⌜ (from ≤ length (now glyphs) / 4) × (list + length (now glyphs) / 4 ≤ length (now t)) × (class < 65536) ⌝ }
-    ensures { λ r. ⌜ Filled (now (glyphs .entry)) from last class (now (t .entry)) (now (t .exit)) list r ⌝ }
+// The greater of two numbers.
+fn greater(a: usize, b: usize) -> usize
+    ensures { λ r. ⌜ Greater a b r ⌝ }
 {
-    let mut e = from;
-    while e < glyphs.len() / 4 {
-        if last < word_inside(glyphs, 4 * e) {
-            return e;
+    if a < b {
+        return b;
+    }
+    a
+}
+
+// New numbers in step, `n` from `new` on, each with the class, in the cells from `cell` on, if there is room for them all; the cell after them.
+fn put_run(t: &mut [u32], cell: usize, new: usize, n: usize, class: usize) -> usize
+    requires { ⌜ (cell < 0x2_0000_0000_0000) × (new + n ≤ 65536) × (class < 65536) ⌝ }
+    ensures { λ r. ⌜ PutRun (now (t .entry)) (now (t .exit)) cell new n class r ⌝ }
+{
+    let past = cell + n;
+    if t.len() < past {
+        return past;
+    }
+    let mut i = 0;
+    while i < n {
+        t[cell + i] = ((new + i) * 65536 + class) as u32;
+        i += 1;
+    }
+    past
+}
+
+// The retained glyphs of a stretch, which begins with the glyph and holds a class other than 0, in the cells from `cell` on. The first of them is in the run `run`.
+fn fill(
+    glyphs: &[u8],
+    form: usize,
+    run: usize,
+    glyph: usize,
+    found: Stretch,
+    t: &mut [u32],
+    cell: usize,
+) -> Place
+    requires { ⌜ ToFill form (now glyphs) run glyph found cell ⌝ }
+    ensures { λ r. ⌜ Filled form (now (glyphs .entry)) glyph found (now (t .entry)) (now (t .exit)) cell r ⌝ }
+{
+    let n = count_runs(glyphs, form);
+    let end = found.last + 1;
+    let mut e = run;
+    let mut from = glyph;
+    let mut to = cell;
+    while e < n {
+        let r = run_at(glyphs, form, e);
+        let first = greater(r.old, from);
+        if end <= first {
+            return Place { run: e, cell: to };
         }
-        t[list + e] = class as u32;
+        let past = r.old + r.count;
+        let new = r.new + (first - r.old);
+        if end < past {
+            to = put_run(t, to, new, end - first, found.class);
+            return Place { run: e, cell: to };
+        }
+        to = put_run(t, to, new, past - first, found.class);
+        from = past;
         e += 1;
     }
-    e
+    Place { run: e, cell: to }
 }
 
-// The class of each glyph of the map, from `list` on, by the `n` class ranges from `at` on; a class that none is above.
-fn list_ranges(src: &[u8], at: usize, n: usize, glyphs: &[u8], t: &mut [u32], list: usize) -> usize
-    requires { ⌜ Ranges (now src) at n × (ascends (keys (mapEntries (now glyphs))) ≡ true) × (list + length (now glyphs) / 4 ≤ length (now t)) ⌝ }
-    ensures { λ r. ⌜ Listed (rangeClasses (triples (now (src .entry)) at n)) (now (glyphs .entry)) (now (t .entry)) (now (t .exit)) list r ⌝ }
+// The same for any class: where it is 0, nothing is listed, and the walk goes on behind the stretch.
+fn list_stretch(
+    glyphs: &[u8],
+    form: usize,
+    run: usize,
+    glyph: usize,
+    found: Stretch,
+    t: &mut [u32],
+    cell: usize,
+) -> Place
+    requires { ⌜ ToFill form (now glyphs) run glyph found cell ⌝ }
+    ensures { λ r. ⌜ Passes form (now (glyphs .entry)) glyph found (now (t .entry)) (now (t .exit)) cell r ⌝ }
 {
+    if found.class == 0 {
+        return Place {
+            run: reach(glyphs, form, run, found.last + 1),
+            cell,
+        };
+    }
+    fill(glyphs, form, run, glyph, found, t, cell)
+}
+
+// Whether class 0 was met, with one class more.
+fn met_zero(zero: bool, class: usize) -> bool
+    ensures { λ r. ⌜ r ≡ zero || eqb class 0 ⌝ }
+{
+    if zero {
+        return true;
+    }
+    class == 0
+}
+
+// The classes of the retained glyphs in the class table at `at`, which may be null, at 0, from `list` on, if there is room for them all.
+pub fn list_classes(
+    src: &[u8],
+    at: usize,
+    glyphs: &[u8],
+    form: usize,
+    t: &mut [u32],
+    list: usize,
+) -> ClassList
+    requires { ⌜ NullOrSound (now src) at × GlyphMap form (now glyphs) × (list < 0x1_0000_0000_0000) ⌝ }
+    ensures { λ r. ⌜ Listed (classesAt (now (src .entry)) at) (glyphEntries form (now (glyphs .entry))) (now (t .entry)) (now (t .exit)) list r ⌝ }
+{
+    let n = count_runs(glyphs, form);
     let mut high = 0;
+    let mut zero = false;
     let mut next = 0;
-    let mut e = 0;
-    while e < glyphs.len() / 4 {
-        let found = stretch_from(src, at, n, next, word_inside(glyphs, 4 * e));
-        let class = found.class;
-        e = fill(glyphs, e, found.last, class, t, list);
+    let mut from = 0;
+    let mut run = 0;
+    let mut cell = list;
+    while run < n {
+        let r = run_at(glyphs, form, run);
+        let glyph = greater(r.old, from);
+        let found = stretch_from(src, at, next, glyph);
+        let place = list_stretch(glyphs, form, run, glyph, found, t, cell);
+        high = greater(high, found.class);
+        zero = met_zero(zero, found.class);
         next = found.next;
-        high = higher(high, class);
+        from = found.last + 1;
+        run = place.run;
+        cell = place.cell;
     }
-    high
-}
-
-// The class of each glyph of the map in the class table at `at`, from `list` on; a class that none is above. With a null table, at 0, each holds class 0.
-pub fn list_classes(src: &[u8], at: usize, glyphs: &[u8], t: &mut [u32], list: usize) -> usize
-    requires { ⌜ NullOrSound (now src) at × (ascends (keys (mapEntries (now glyphs))) ≡ true) × (list + length (now glyphs) / 4 ≤ length (now t)) ⌝ }
-    ensures { λ r. ⌜ Listed (classesAt (now (src .entry)) at) (now (glyphs .entry)) (now (t .entry)) (now (t .exit)) list r ⌝ }
-{
-    if at == 0 {
-        fill(glyphs, 0, 65535, 0, t, list);
-        return 0;
+    ClassList {
+        len: cell - list,
+        high,
+        zero,
     }
-    if word_inside(src, at) == 1 {
-        return list_array(src, at, glyphs, t, list);
-    }
-    let n = word_inside(src, at + 2);
-    list_ranges(src, at + 4, n, glyphs, t, list)
 }

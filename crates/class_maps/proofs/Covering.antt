@@ -1,72 +1,153 @@
 -- The way through the marks of the classes that covered glyphs hold.
 use Prim.Native.Nat.{ℕ, _+_, _-_, _*_, _/_, _%_, _≤_, _<_}
-use mathlib.Core.Path.{_≡_, refl, sym, ap, _∙_}
-use mathlib.Core.Bool.{Bool, true, false, _||_, true≢false}
+use mathlib.Core.Path.{_≡_, refl, sym, ap, subst, _∙_}
+use mathlib.Core.Bool.{Bool, true, false, cond, _||_}
+use mathlib.Core.Option.{Option, none, some}
 use mathlib.Core.List.{List, [], _∷_, map}
 use native.Mathlib.Decide.{decLt}
 use native.Mathlib.Omega.{arith}
 use lib.ListN.{length, getD, set}
-use lib.Dec.{eqb}
-use borrow.Author.Tests.{eq-eqb, ne-eqb, eqb-true, eqb-false}
-use Rattle.meaning.specs.Words.{word, keys, values, member}
+use lib.Dec.{ltb, eqb}
+use borrow.Author.Tests.{lt-ltb, le-ltb, eq-eqb, ne-eqb, eqb-true, eqb-false}
+use Rattle.meaning.specs.Words.{keys, values, find, isSome, push, mapSome, member}
 use Rattle.meaning.specs.Parts.{classOf}
-use Rattle.meaning.specs.Maps.{mapEntries}
-use Rattle.meaning.specs.Cut.{insertUp, heldBy}
+use Rattle.meaning.specs.Cut.{insertUp, heldBy, newCoverage, retained}
 use Rattle.laws.specs.Runs.{Up}
-use Rattle.laws.specs.Ascends.{glyphs-ascend}
-use Rattle.laws.specs.SoundGood.{ascends-up}
+use Rattle.laws.specs.CutGood.{GoodMap, rises, mapSome-up₀, itself, map-same}
 use Rattle.laws.specs.CutCells.{held-up}
-use Rattle.laws.specs.ClassesLeft.{entriesFrom, from-all, from-left, from-none, glyph-values}
 use Rattle.fold.specs.Cells.{Inside, Odd, Holds, Kept, kept-all, kept-more, kept-set}
 use Rattle.fold.specs.Laid.{power-even}
 use Rattle.fold.specs.declared.Map.{Map}
-use Rattle.area.specs.Part.{news, part-all, part-left, part-none}
-use Rattle.class_lists.specs.Listed.{Lists}
+use Rattle.area.specs.Part.{news, notes, part-all, part-left, part-none}
+use Rattle.area.specs.Stored.{part-same}
+use Rattle.class_lists.specs.From.{fromOld}
+use Rattle.class_lists.specs.Listed.{classed}
 use Rattle.class_maps.specs.Once.{same-members, insert-member}
 use Rattle.class_maps.specs.Present.{present, Direct, present-up, direct-set, present-set}
-use Rattle.class_maps.specs.Covered.{matched, matched-none, matched-retained, firstIs, Before, ToCover, Coverable, Met, Covered}
+use Rattle.class_maps.specs.Mapped.{lists-kept}
+use Rattle.class_maps.specs.Covered.{firstClass, Passes, Before, ToCover, Coverable, Met, Covered}
 use Rattle.class_maps.proofs.Marking.{cleared-direct, cleared-free}
-use Rattle.class_maps.proofs.Entering.{part-same}
 
--- The new numbers of the notes from the j-th on.
-module _ (t : List ℕ) (noted n : ℕ) where
+-- Listed cells from the front.
+module _ (t : List ℕ) (at n : ℕ) where
+  abbrev pub notesFrom : ℕ → List (ℕ × ℕ)
+  notesFrom k = notes t (at + k) (n - k)
+
+  notes-left : (k : ℕ) → k < n → notesFrom k ≡ (getD t (at + k) 0 / 65536, getD t (at + k) 0 % 65536) ∷ notesFrom (k + 1)
+  notes-left k h = ap (map (λ c. (c / 65536, c % 65536))) (part-left t at n k h)
+
+  notes-none : (k : ℕ) → n ≤ k → notesFrom k ≡ []
+  notes-none k h = ap (map (λ c. (c / 65536, c % 65536))) (part-none t at n k h)
+
   abbrev pub newsFrom : ℕ → List ℕ
-  newsFrom j = news t (noted + j) (n - j)
+  newsFrom j = news t (at + j) (n - j)
 
-  news-left : (j : ℕ) → j < n → newsFrom j ≡ getD t (noted + j) 0 % 65536 ∷ newsFrom (j + 1)
-  news-left j h = ap (map (λ c. c % 65536)) (part-left t noted n j h)
+  news-left : (j : ℕ) → j < n → newsFrom j ≡ getD t (at + j) 0 % 65536 ∷ newsFrom (j + 1)
+  news-left j h = ap (map (λ c. c % 65536)) (part-left t at n j h)
 
   news-none : (j : ℕ) → n ≤ j → newsFrom j ≡ []
-  news-none j h = ap (map (λ c. c % 65536)) (part-none t noted n j h)
+  news-none j h = ap (map (λ c. c % 65536)) (part-none t at n j h)
 
-  pub noted-none : (j v : ℕ) → n ≤ j → false ≡ firstIs v (newsFrom j)
-  unfolding firstIs
-  noted-none j v h = rw (news-none j h)
+from-pass : (v a b : ℕ) (es : List (ℕ × ℕ)) → a < v → fromOld v ((a, b) ∷ es) ≡ fromOld v es
+unfolding fromOld
+from-pass v a b es h = rw (lt-ltb a v h)
 
-  pub noted-first : (j v : ℕ) → j < n → eqb (getD t (noted + j) 0 % 65536) v ≡ firstIs v (newsFrom j)
-  unfolding firstIs
-  noted-first j v h = rw (news-left j h)
+from-stop : (v a b : ℕ) (es : List (ℕ × ℕ)) → v ≤ a → fromOld v ((a, b) ∷ es) ≡ (a, b) ∷ es
+unfolding fromOld
+from-stop v a b es h = rw (le-ltb a v h)
 
--- An entry and the new numbers that are left: the first is the entry's, or it is not.
-module _ (k v : ℕ) (g : List (ℕ × ℕ)) where
-  matched-off : (vs : List ℕ) → firstIs v vs ≡ false → matched ((k, v) ∷ g) vs ≡ matched g vs
-  unfolding matched firstIs
-  matched-off [] h = sym (matched-none g)
-  matched-off (w ∷ vs) h = rw (ne-eqb v w (λ e. eqb-false w v h (sym e)))
+from-none : (v : ℕ) → fromOld v [] ≡ []
+unfolding fromOld
+from-none v = refl
 
-  matched-on : (w : ℕ) (vs : List ℕ) → firstIs v (w ∷ vs) ≡ true → matched ((k, v) ∷ g) (w ∷ vs) ≡ k ∷ matched g vs
-  unfolding matched firstIs
-  matched-on w vs h = rw (eq-eqb v w (sym (eqb-true w v h)))
+-- What the loop of `pass_below` keeps: the cells up to k are passed.
+pub record Passing (t : List ℕ) (list n from new k : ℕ) : Type 0 where
+  pub within : k ≤ n
+  pub rest : fromOld new (notesFrom t list n k) ≡ fromOld new (notesFrom t list n from)
 
-or-move : (a b c : Bool) → (a || b) || c ≡ b || (a || c)
-or-move true true c = refl
-or-move true false c = refl
-or-move false b c = refl
+module _ {t : List ℕ} {list n from new : ℕ} where
+  pub passing-all : from ≤ n → Passing t list n from new from
+  passing-all h = record { within = h; rest = refl }
 
-or-none : (a : Bool) → a || false ≡ a
-or-none true = refl
-or-none false = refl
+  module _ {k : ℕ} (w : Passing t list n from new k) where
+    pub passing-next : k < n → getD t (list + k) 0 / 65536 < new → Passing t list n from new (k + 1)
+    passing-next h l = record {
+      within = omega arith;
+      rest = sym (ap (fromOld new) (notes-left t list n k h) ∙ from-pass new (getD t (list + k) 0 / 65536) (getD t (list + k) 0 % 65536) (notesFrom t list n (k + 1)) l) ∙ w .rest;
+    }
 
+    pub passing-stop : k < n → new ≤ getD t (list + k) 0 / 65536 → Passes t list n from new k
+    passing-stop h l = record {
+      within = w .within;
+      rest = notes-left t list n k h ∙ sym (from-stop new (getD t (list + k) 0 / 65536) (getD t (list + k) 0 % 65536) (notesFrom t list n (k + 1)) l) ∙ ap (fromOld new) (sym (notes-left t list n k h)) ∙ w .rest;
+    }
+
+    pub passing-end : n ≤ k → Passes t list n from new k
+    passing-end h = record { within = w .within; rest = notes-none t list n k h ∙ sym (from-none new) ∙ ap (fromOld new) (sym (notes-none t list n k h)) ∙ w .rest }
+
+-- The class of the first of the cells that are left.
+module _ (t : List ℕ) (list n k new : ℕ) where
+  pub class-none : n ≤ k → 0 ≡ firstClass new (notesFrom t list n k)
+  unfolding firstClass
+  class-none h = rw (notes-none t list n k h)
+
+  pub class-other : k < n → (getD t (list + k) 0 / 65536 ≡ new → ⊥) → 0 ≡ firstClass new (notesFrom t list n k)
+  unfolding firstClass
+  class-other h o = rw (notes-left t list n k h, ne-eqb (getD t (list + k) 0 / 65536) new o)
+
+  pub class-own : k < n → getD t (list + k) 0 / 65536 ≡ new → getD t (list + k) 0 % 65536 ≡ firstClass new (notesFrom t list n k)
+  unfolding firstClass
+  class-own h o = rw (notes-left t list n k h, eq-eqb (getD t (list + k) 0 / 65536) new o)
+
+-- a class that is listed, or 0
+first-low : (b v : ℕ) (t : List ℕ) (list n k : ℕ) → ((j : ℕ) → j < n → getD t (list + j) 0 % 65536 ≤ b) → firstClass v (notesFrom t list n k) ≤ b
+first-low b v t list n k h = step (decLt k n)
+  where
+    step : Dec (k < n) → firstClass v (notesFrom t list n k) ≤ b
+    step (no d) = omega (arith, class-none t list n k v (omega arith))
+    step (yes d) = pick (eqb (getD t (list + k) 0 / 65536) v) refl
+      where
+        pick : (c : Bool) → eqb (getD t (list + k) 0 / 65536) v ≡ c → firstClass v (notesFrom t list n k) ≤ b
+        pick true e = omega (arith, class-own t list n k v d (eqb-true (getD t (list + k) 0 / 65536) v e), h k d)
+        pick false e = omega (arith, class-other t list n k v d (eqb-false (getD t (list + k) 0 / 65536) v e))
+
+-- Classes of new numbers in a list that ascends.
+class-miss : (a b v : ℕ) (es : List (ℕ × ℕ)) → (a ≡ v → ⊥) → classOf ((a, b) ∷ es) v ≡ classOf es v
+unfolding classOf find
+class-miss a b v es h = rw (ne-eqb a v h)
+
+class-hit : (a b v : ℕ) (es : List (ℕ × ℕ)) → a ≡ v → classOf ((a, b) ∷ es) v ≡ b
+unfolding classOf find
+class-hit a b v es h = rw (eq-eqb a v h)
+
+class-low : (low v : ℕ) (es : List (ℕ × ℕ)) → Up low (keys es) → v < low → classOf es v ≡ 0
+unfolding classOf find keys
+class-low low v [] u h = refl
+class-low low v (e ∷ es) u h = rw (ne-eqb (e .0) v (λ q. omega (arith, u .0))) (class-low (e .0 + 1) v es (u .1) (omega (arith, u .0)))
+
+-- that of v is the first one that is not below it
+class-first : (low v : ℕ) (es : List (ℕ × ℕ)) → Up low (keys es) → firstClass v (fromOld v es) ≡ classOf es v
+unfolding fromOld keys firstClass
+class-first low v [] u = sym (class-low (v + 1) v [] tt (omega arith))
+class-first low v (e ∷ es) u = step (decLt (e .0) v) (eqb (e .0) v) refl (class-first (e .0 + 1) v es (u .1))
+  where
+    step : Dec (e .0 < v) → (b : Bool) → eqb (e .0) v ≡ b → firstClass v (fromOld v es) ≡ classOf es v → firstClass v (cond (ltb (e .0) v) (fromOld v es) (e ∷ es)) ≡ classOf (e ∷ es) v
+    step (yes d) b q k = rw (lt-ltb (e .0) v d) (k ∙ sym (class-miss (e .0) (e .1) v es (λ z. omega arith)))
+    step (no d) true q k = rw (le-ltb (e .0) v (omega arith), q) (sym (class-hit (e .0) (e .1) v es (eqb-true (e .0) v q)))
+    step (no d) false q k =
+        rw (le-ltb (e .0) v (omega arith), q) (sym (class-miss (e .0) (e .1) v es (eqb-false (e .0) v q) ∙ class-low (e .0 + 1) v es (u .1) (omega (arith, eqb-false (e .0) v q))))
+
+-- what is passed for v is passed for each later number
+from-later : (v w : ℕ) (es : List (ℕ × ℕ)) → v ≤ w → fromOld w (fromOld v es) ≡ fromOld w es
+unfolding fromOld
+from-later v w [] h = refl
+from-later v w (e ∷ es) h = step (decLt (e .0) v) (from-later v w es h)
+  where
+    step : Dec (e .0 < v) → fromOld w (fromOld v es) ≡ fromOld w es → fromOld w (cond (ltb (e .0) v) (fromOld v es) (e ∷ es)) ≡ cond (ltb (e .0) w) (fromOld w es) (e ∷ es)
+    step (yes d) k = rw (lt-ltb (e .0) v d, lt-ltb (e .0) w (omega arith)) k
+    step (no d) k = rw (le-ltb (e .0) v (omega arith))
+
+-- The classes that numbers hold, one by one.
 held-one : (cs : List (ℕ × ℕ)) (k x : ℕ) (gs : List ℕ) → member x (heldBy cs (k ∷ gs)) ≡ eqb (classOf cs k) x || member x (heldBy cs gs)
 unfolding heldBy
 held-one cs k x gs = insert-member x (classOf cs k) (heldBy cs gs)
@@ -79,130 +160,171 @@ no-member : (x : ℕ) → member x [] ≡ false
 unfolding member
 no-member x = refl
 
-no-match : (vs : List ℕ) → matched [] vs ≡ []
-unfolding matched
-no-match vs = refl
+or-none : (a : Bool) → a || false ≡ a
+or-none true = refl
+or-none false = refl
 
--- What the loop of `mark_met` keeps: the marked classes, and those of the entries from e on that the notes from j on meet, are all.
-pub record Covering (glyphs t₀ t : List ℕ) (m : Map) (noted n list j e : ℕ) : Type 0 where
-  pub before : Before glyphs t₀ m noted n list
-  pub within : e ≤ length glyphs / 4
-  pub near : j ≤ e
+or-move : (a b c : Bool) → (a || b) || c ≡ b || (a || c)
+or-move true true c = refl
+or-move true false c = refl
+or-move false b c = refl
+
+first-up : (low v : ℕ) (vs l : List ℕ) → Up low l → l ≡ v ∷ vs → Up (v + 1) vs
+first-up low v vs l u e = subst (Up low) e u .1
+
+-- What the loop of `mark_met` keeps: the marked classes, and those of the notes from the j-th on, are all; the listed cells up to k are below these notes.
+pub record Covering (t₀ t : List ℕ) (m : Map) (noted n list len k j : ℕ) : Type 0 where
+  pub before : Before t₀ m noted n list len
+  pub within : j ≤ n
+  pub near : k ≤ len
   pub direct : Direct t m
   pub kept : Kept (m .at) t₀ t
-  pub left : (cs : List (ℕ × ℕ)) → Lists cs glyphs t₀ list → (x : ℕ)
-      → member x (present t m) || member x (heldBy cs (matched (entriesFrom glyphs e) (newsFrom t₀ noted n j))) ≡ member x (heldBy cs (matched (mapEntries glyphs) (news t₀ noted n)))
+  pub rises : Up 0 (news t₀ noted n) → (low : ℕ) × ((Up low (newsFrom t₀ noted n j)) × ((v : ℕ) → low ≤ v → fromOld v (notesFrom t₀ list len k) ≡ fromOld v (notes t₀ list len)))
+  pub left : Up 0 (news t₀ noted n) → Up 0 (keys (notes t₀ list len)) → (x : ℕ)
+      → member x (present t m) || member x (heldBy (notes t₀ list len) (newsFrom t₀ noted n j)) ≡ member x (heldBy (notes t₀ list len) (news t₀ noted n))
 
-module _ {glyphs t₀ : List ℕ} {m : Map} {noted n list : ℕ} where
-  pub covering-all : ToCover glyphs t₀ m noted n list → Covering glyphs t₀ t₀ m noted n list 0 0
+module _ {t₀ : List ℕ} {m : Map} {noted n list len : ℕ} where
+  pub covering-all : ToCover t₀ m noted n list len → Covering t₀ t₀ m noted n list len 0 0
   covering-all k = record {
     before = k .before;
     within = omega arith;
     near = omega arith;
     direct = k .direct;
     kept = kept-all (m .at) t₀;
-    left = λ cs l x. rw (k .free, no-member x, from-all glyphs, part-all t₀ noted n);
+    rises = λ u. (0, (rw (part-all t₀ noted n) u, λ v h. rw (part-all t₀ list len)));
+    left = λ u w x. rw (k .free, no-member x, part-all t₀ noted n);
   }
 
-  module _ {t : List ℕ} {j e : ℕ} (k : Covering glyphs t₀ t m noted n list j e) where
-    pub covering-notes : noted + n ≤ length t
-    covering-notes = omega (arith, k .before .notes, k .direct .inside .within)
+  module _ {t : List ℕ} {k j : ℕ} (w : Covering t₀ t m noted n list len k j) where
+    pub covering-list : list + len ≤ length t
+    covering-list = omega (arith, w .before .classes, w .direct .inside .within)
 
-    module _ (h : e < length glyphs / 4) where
-      pub covering-inside : list + e < length t
-      covering-inside = omega (arith, k .before .classes, k .direct .inside .within)
+    pub covering-end : n ≤ j → Met t₀ t m noted n list len
+    covering-end h = record {
+      direct = w .direct;
+      kept = w .kept;
+      classes = λ u v. same-members 0 0 (present t m) (heldBy (notes t₀ list len) (news t₀ noted n)) (present-up t (m .at) 0 (m .mask + 1)) (held-up (notes t₀ list len) (news t₀ noted n)) (λ x. sym (last x) ∙ w .left u v x);
+    }
+      where
+        last : (x : ℕ) → member x (present t m) || member x (heldBy (notes t₀ list len) (newsFrom t₀ noted n j)) ≡ member x (present t m)
+        last x = rw (news-none t₀ noted n j h, held-none (notes t₀ list len) x) (or-none (member x (present t m)))
 
-      same : getD t (list + e) 0 ≡ getD t₀ (list + e) 0
-      same = k .kept .same (list + e) (omega (arith, k .before .classes))
+    module _ (h : j < n) where
+      pub covering-inside : noted + j < length t
+      covering-inside = omega (arith, w .before .notes, w .direct .inside .within)
 
-      pub covering-low : getD t (list + e) 0 ≤ m .mask
-      covering-low = omega (arith, same, k .before .low e h)
+      same : getD t (noted + j) 0 ≡ getD t₀ (noted + j) 0
+      same = w .kept .same (noted + j) (omega (arith, w .before .notes))
 
-      module _ {new : ℕ} {b : Bool} (f : new ≡ word glyphs (4 * e + 2)) (q : b ≡ firstIs new (newsFrom t noted n j)) where
-        -- the notes are as before
-        asked : b ≡ firstIs (word glyphs (4 * e + 2)) (newsFrom t₀ noted n j)
-        asked = q ∙ ap (λ (v : ℕ). firstIs v (newsFrom t noted n j)) f
-            ∙ ap (λ (l : List ℕ). firstIs (word glyphs (4 * e + 2)) (map (λ c. c % 65536) l)) (part-same t t₀ (noted + j) (n - j) (λ i a c. k .kept .same i (omega (arith, k .before .notes))))
+      alike : (i : ℕ) → i ≤ len → notesFrom t list len i ≡ notesFrom t₀ list len i
+      alike i l = ap (map (λ c. (c / 65536, c % 65536))) (part-same t t₀ (list + i) (len - i) (λ q a b. w .kept .same q (omega (arith, w .before .classes))))
 
-        -- the entry's glyph is not noted
-        pub covering-off : b ≡ false → Covering glyphs t₀ t m noted n list j (e + 1)
-        covering-off z = record {
-          before = k .before;
+      abbrev v : ℕ
+      v = getD t (noted + j) 0 % 65536
+
+      module _ {r : ℕ} (p : Passes t list len k v r) {class : ℕ} (c : class ≡ firstClass v (notesFrom t list len r)) where
+        pub covering-low : class ≤ m .mask
+        covering-low = omega (arith, c, first-low (m .mask) v t list len r (λ i l. rw (w .kept .same (list + i) (omega (arith, w .before .classes))) (w .before .low i l)))
+
+        -- the cells that are left are those that are not below the note
+        rest : notesFrom t₀ list len r ≡ fromOld v (notesFrom t₀ list len k)
+        rest = sym (alike r (p .within)) ∙ p .rest ∙ ap (fromOld v) (alike k (w .near))
+
+        note : newsFrom t₀ noted n j ≡ v ∷ newsFrom t₀ noted n (j + 1)
+        note = news-left t₀ noted n j h ∙ rw same
+
+        low-first : {low : ℕ} → Up low (newsFrom t₀ noted n j) → low ≤ v
+        low-first {low} u = subst (Up low) note u .0
+
+        all-rest : Up 0 (news t₀ noted n) → notesFrom t₀ list len r ≡ fromOld v (notes t₀ list len)
+        all-rest u =
+            let q = w .rises u in
+            rest ∙ q .1 .1 v (low-first (q .1 .0))
+
+        pub covering-next : Covering t₀ (set t (m .at + class) (class * 65536)) m noted n list len r (j + 1)
+        covering-next = record {
+          before = w .before;
           within = omega arith;
-          near = omega (arith, k .near);
-          direct = k .direct;
-          kept = k .kept;
-          left = λ cs l x.
-              rw (from-left glyphs e h, matched-off (word glyphs (4 * e)) (word glyphs (4 * e + 2)) (entriesFrom glyphs (e + 1)) (newsFrom t₀ noted n j) (sym asked ∙ z)) at (k .left cs l x);
-        }
-
-        -- it is
-        there : b ≡ true → j < n
-        there z = step (decLt j n)
-          where
-            step : Dec (j < n) → j < n
-            step (yes d) = d
-            step (no d) = absurd (true≢false (sym z ∙ asked ∙ sym (noted-none t₀ noted n j (word glyphs (4 * e + 2)) (omega arith))))
-
-        pub covering-on : b ≡ true → Covering glyphs t₀ (set t (m .at + getD t (list + e) 0) (getD t (list + e) 0 * 65536)) m noted n list (j + 1) (e + 1)
-        covering-on z = record {
-          before = k .before;
-          within = omega arith;
-          near = omega (arith, k .near);
-          direct = rw plain at (direct-set (k .direct) class 0 covering-low (omega arith));
-          kept = kept-more (k .kept) (kept-set (m .at) t (m .at + class) (class * 65536) (omega arith));
-          left = λ cs l x. one cs l x;
+          near = p .within;
+          direct = rw plain at (direct-set (w .direct) class 0 covering-low (omega arith));
+          kept = kept-more (w .kept) (kept-set (m .at) t (m .at + class) (class * 65536) (omega arith));
+          rises = λ u. (v + 1, (first-up (w .rises u .0) v (newsFrom t₀ noted n (j + 1)) (newsFrom t₀ noted n j) (w .rises u .1 .0) note, λ y a. ap (fromOld y) (all-rest u) ∙ from-later v y (notes t₀ list len) (omega arith)));
+          left = one;
         }
           where
-            class : ℕ
-            class = getD t (list + e) 0
-
             plain : class * 65536 + 0 ≡ class * 65536
             plain = omega arith
 
             marks : present (set t (m .at + class) (class * 65536)) m ≡ insertUp class (present t m)
-            marks = rw plain at (present-set (k .direct) class 0 covering-low (omega arith))
+            marks = rw plain at (present-set (w .direct) class 0 covering-low (omega arith))
 
-            hit : matched (entriesFrom glyphs e) (newsFrom t₀ noted n j) ≡ word glyphs (4 * e) ∷ matched (entriesFrom glyphs (e + 1)) (newsFrom t₀ noted n (j + 1))
-            hit =
-                let l = news-left t₀ noted n j (there z) in
-                let s : firstIs (word glyphs (4 * e + 2)) (getD t₀ (noted + j) 0 % 65536 ∷ newsFrom t₀ noted n (j + 1)) ≡ true = ap (firstIs (word glyphs (4 * e + 2))) (sym l) ∙ sym asked ∙ z in
-                rw (from-left glyphs e h, l) (matched-on (word glyphs (4 * e)) (word glyphs (4 * e + 2)) (entriesFrom glyphs (e + 1)) (getD t₀ (noted + j) 0 % 65536) (newsFrom t₀ noted n (j + 1)) s)
+            one : Up 0 (news t₀ noted n) → Up 0 (keys (notes t₀ list len)) → (x : ℕ)
+                → member x (present (set t (m .at + class) (class * 65536)) m) || member x (heldBy (notes t₀ list len) (newsFrom t₀ noted n (j + 1))) ≡ member x (heldBy (notes t₀ list len) (news t₀ noted n))
+            one u z x =
+                let es = notes t₀ list len in
+                let vs = newsFrom t₀ noted n (j + 1) in
+                let is : class ≡ classOf es v = c ∙ ap (firstClass v) (alike r (p .within) ∙ all-rest u) ∙ class-first 0 v es z in
+                ap (λ (l : List ℕ). member x l || member x (heldBy es vs)) marks
+                ∙ ap (λ (b : Bool). b || member x (heldBy es vs)) (insert-member x class (present t m))
+                ∙ or-move (eqb class x) (member x (present t m)) (member x (heldBy es vs))
+                ∙ ap (λ (b : ℕ). member x (present t m) || (eqb b x || member x (heldBy es vs))) is
+                ∙ ap (λ (b : Bool). member x (present t m) || b) (sym (held-one es v x vs))
+                ∙ ap (λ (l : List ℕ). member x (present t m) || member x (heldBy es l)) (sym note)
+                ∙ w .left u z x
 
-            one : (cs : List (ℕ × ℕ)) → Lists cs glyphs t₀ list → (x : ℕ)
-                → member x (present (set t (m .at + class) (class * 65536)) m) || member x (heldBy cs (matched (entriesFrom glyphs (e + 1)) (newsFrom t₀ noted n (j + 1))))
-                ≡ member x (heldBy cs (matched (mapEntries glyphs) (news t₀ noted n)))
-            one cs l x =
-                let is : class ≡ classOf cs (word glyphs (4 * e)) = same ∙ l .each e h in
-                let rest = matched (entriesFrom glyphs (e + 1)) (newsFrom t₀ noted n (j + 1)) in
-                ap (λ (p : List ℕ). member x p || member x (heldBy cs rest)) marks
-                ∙ ap (λ (p : Bool). p || member x (heldBy cs rest)) (insert-member x class (present t m))
-                ∙ or-move (eqb class x) (member x (present t m)) (member x (heldBy cs rest))
-                ∙ ap (λ (p : ℕ). member x (present t m) || (eqb p x || member x (heldBy cs rest))) is
-                ∙ ap (λ (p : Bool). member x (present t m) || p) (sym (held-one cs (word glyphs (4 * e)) x rest))
-                ∙ ap (λ (p : List ℕ). member x (present t m) || member x (heldBy cs p)) (sym hit)
-                ∙ k .left cs l x
+-- The classes of retained glyphs, by their new numbers.
+classed-up : (cs : List (ℕ × ℕ)) (low high : ℕ) (g : List (ℕ × ℕ)) → low ≤ high → Up high (values g) → Up low (keys (classed cs g))
+unfolding classed mapSome push keys values
+classed-up cs low high [] h u = tt
+classed-up cs low high (e ∷ g) h u = step (eqb (classOf cs (e .0)) 0) (λ k l. classed-up cs k (e .1 + 1) g l (u .1))
+  where
+    step : (b : Bool) → ((k : ℕ) → k ≤ e .1 + 1 → Up k (keys (classed cs g))) → Up low (keys (push (cond b none (some (e .1, classOf cs (e .0)))) (classed cs g)))
+    step true k = k low (omega (arith, u .0))
+    step false k = (omega (arith, u .0), k (e .1 + 1) (omega arith))
 
-    pub covering-end : length glyphs / 4 ≤ e → Met glyphs t₀ t m noted n list
-    covering-end h = record {
-      direct = k .direct;
-      kept = k .kept;
-      classes = λ cs l. same-members 0 0 (present t m) (heldBy cs all) (present-up t (m .at) 0 (m .mask + 1)) (held-up cs all) (λ x. sym (last cs x) ∙ k .left cs l x);
-    }
-      where
-        all : List ℕ
-        all = matched (mapEntries glyphs) (news t₀ noted n)
+same-some : {x y : ℕ} → some x ≡ some y → x ≡ y
+same-some e = cc
 
-        last : (cs : List (ℕ × ℕ)) (x : ℕ) → member x (present t m) || member x (heldBy cs (matched (entriesFrom glyphs e) (newsFrom t₀ noted n j))) ≡ member x (present t m)
-        last cs x = rw (from-none glyphs e h, no-match (newsFrom t₀ noted n j), held-none cs x) (or-none (member x (present t m)))
+class-new : (cs : List (ℕ × ℕ)) (a b : ℕ) (g : List (ℕ × ℕ)) (c y : ℕ) → Up a (keys g) → Up b (values g) → find g c ≡ some y → (b ≤ y) × (classOf (classed cs g) y ≡ classOf cs c)
+unfolding classed mapSome push keys values find
+class-new cs a b [] c y u v f = absurd (let z : _≡_ {A = ℕ} 0 1 = cc in omega arith)
+class-new cs a b (e ∷ g) c y u v f = step (eqb (e .0) c) refl f (eqb (classOf cs (e .0)) 0) refl (λ k. class-new cs (e .0 + 1) (e .1 + 1) g c y (u .1) (v .1) k)
+  where
+    step : (s : Bool) → eqb (e .0) c ≡ s → cond s (some (e .1)) (find g c) ≡ some y → (z : Bool) → eqb (classOf cs (e .0)) 0 ≡ z
+        → (find g c ≡ some y → (e .1 + 1 ≤ y) × (classOf (classed cs g) y ≡ classOf cs c))
+        → (b ≤ y) × (classOf (push (cond z none (some (e .1, classOf cs (e .0)))) (classed cs g)) y ≡ classOf cs c)
+    step true p q true z k =
+        let d : e .1 ≡ y = same-some q in
+        let o : classOf cs c ≡ 0 = rw (eqb-true (e .0) c p) at (eqb-true (classOf cs (e .0)) 0 z) in
+        (omega (arith, v .0), class-low (y + 1) y (classed cs g) (classed-up cs (y + 1) (e .1 + 1) g (omega arith) (v .1)) (omega arith) ∙ sym o)
+    step true p q false z k =
+        let d : e .1 ≡ y = same-some q in
+        (omega (arith, v .0), class-hit (e .1) (classOf cs (e .0)) y (classed cs g) d ∙ ap (classOf cs) (eqb-true (e .0) c p))
+    step false p q true z k = let r = k q in (omega (arith, v .0, r .0), r .1)
+    step false p q false z k = let r = k q in (omega (arith, v .0, r .0), class-miss (e .1) (classOf cs (e .0)) y (classed cs g) (λ d. omega (arith, r .0)) ∙ r .1)
+
+held-retained : (cs g : List (ℕ × ℕ)) → GoodMap g → (cov : List ℕ) → heldBy (classed cs g) (newCoverage g cov) ≡ heldBy cs (retained g cov)
+unfolding newCoverage retained mapSome push isSome heldBy
+held-retained cs g good [] = refl
+held-retained cs g good (c ∷ cov) = step (find g c) refl (held-retained cs g good cov)
+  where
+    step : (o : Option ℕ) → find g c ≡ o → heldBy (classed cs g) (newCoverage g cov) ≡ heldBy cs (retained g cov)
+        → heldBy (classed cs g) (push o (newCoverage g cov)) ≡ heldBy cs (push (cond (isSome o) (some c) none) (retained g cov))
+    step none e k = k
+    step (some y) e k = rw (class-new cs 0 0 g c y (good .old) (good .new) e .1, k)
+
+-- the new numbers of what ascends ascend
+new-up : (g : List (ℕ × ℕ)) → GoodMap g → (cov : List ℕ) → Up 0 cov → Up 0 (newCoverage g cov)
+unfolding newCoverage
+new-up g good cov u = subst (Up 0) (map-same (mapSome (find g) cov)) (mapSome-up₀ (λ (x : ℕ). x) (λ (x : ℕ). x) (find g) (find g) (rises g good) (λ a. itself (find g a)) cov (subst (Up 0) (sym (map-same cov)) u))
 
 -- The cells are cleared, and what stands before them stays.
-module _ {glyphs t : List ℕ} {m : Map} {noted n list : ℕ} (k : Coverable glyphs t m noted n list) where
+module _ {t : List ℕ} {m : Map} {noted n list len : ℕ} (k : Coverable t m noted n list len) where
   pub covering-clear : Inside t m × Odd m
   covering-clear = (k .inside, record { odd = omega (arith, power-even (k .power) .0) })
 
   module _ {u : List ℕ} (c : Holds u m [] × Kept (m .at) t u) where
-    pub covering-ready : ToCover glyphs u m noted n list
+    pub covering-ready : ToCover u m noted n list len
     covering-ready =
         let d = cleared-direct (c .0) (k .power) (k .few) in
         record {
@@ -211,25 +333,20 @@ module _ {glyphs t : List ℕ} {m : Map} {noted n list : ℕ} (k : Coverable gly
           before = record {
             notes = k .before .notes;
             classes = k .before .classes;
-            low = λ j h. omega (arith, c .1 .same (list + j) (omega (arith, k .before .classes)), k .before .low j h);
+            low = λ j h. rw (c .1 .same (list + j) (omega (arith, k .before .classes))) (k .before .low j h);
           };
         }
 
-    pub covering-done : {v : List ℕ} → Met glyphs u v m noted n list → Covered glyphs t v m noted n list
+    pub covering-done : {v : List ℕ} → Met u v m noted n list len → Covered t v m noted n list len
     covering-done {v} w = record {
       direct = w .direct;
       kept = kept-more (c .1) (w .kept);
-      classes = λ cs cov l up e.
-          w .classes cs (record { each = λ j h. c .1 .same (list + j) (omega (arith, k .before .classes)) ∙ l .each j h })
-          ∙ ap (λ (vs : List ℕ). heldBy cs (matched (mapEntries glyphs) vs)) (stay ∙ e)
-          ∙ ap (heldBy cs) (matched-retained (mapEntries glyphs) 0 0 0 cov old new up);
+      classes = λ cs g cov good l up e.
+          let es : notes u list len ≡ classed cs g = lists-kept l (c .1) (k .before .classes) .each in
+          let vs : news u noted n ≡ newCoverage g cov = stay ∙ e in
+          w .classes (rw vs (new-up g good cov up)) (rw es (classed-up cs 0 0 g (omega arith) (good .new)))
+          ∙ rw (es, vs) (held-retained cs g good cov);
     }
       where
         stay : news u noted n ≡ news t noted n
         stay = ap (map (λ c. c % 65536)) (part-same u t noted n (λ i a b. c .1 .same i (omega (arith, k .before .notes))))
-
-        old : Up 0 (keys (mapEntries glyphs))
-        old = ascends-up 0 (keys (mapEntries glyphs)) (glyphs-ascend glyphs (k .good)) (λ g r e. omega arith)
-
-        new : Up 0 (values (mapEntries glyphs))
-        new = ascends-up 0 (values (mapEntries glyphs)) (glyph-values glyphs (k .good)) (λ g r e. omega arith)

@@ -2,7 +2,7 @@
 use Prim.Native.Nat.{ℕ, _+_, _-_, _*_, _/_, _%_, _≤_, _<_}
 use mathlib.Core.Path.{_≡_, refl, sym, ap, _∙_}
 use mathlib.Core.Option.{none, some}
-use mathlib.Core.List.{List, [], _∷_}
+use mathlib.Core.List.{List, [], _∷_, map}
 use native.Mathlib.Decide.{decLt}
 use native.Mathlib.Omega.{arith}
 use lib.ListN.{length, getD, set}
@@ -12,7 +12,7 @@ use Rattle.meaning.specs.Cut.{insertUp, numbered}
 use Rattle.fold.specs.Cells.{answerIn, folded, Holds, kept-all, kept-more, kept-set, answer-own, answer-other}
 use Rattle.fold.specs.Laid.{Power}
 use Rattle.fold.specs.declared.Map.{Map}
-use Rattle.area.specs.Part.{part, part-all, part-left, part-none}
+use Rattle.area.specs.Part.{part, news, part-all, part-left, part-none}
 use Rattle.class_lists.specs.Elsewhere.{Elsewhere, elsewhere-all, elsewhere-set, elsewhere-more, elsewhere-wide, elsewhere-kept}
 use Rattle.class_maps.specs.Once.{eachOnce, same-members}
 use Rattle.class_maps.specs.Present.{presentFrom, present, Direct, present-up, present-one, present-none, present-end, folded-own, class-inside, found-present, direct-set, cell-same, cell-other, present-set, numbered-low}
@@ -51,7 +51,7 @@ marked-one {t₀} {t} {m} {cs} c k h =
 pub record Marking (t₀ t : List ℕ) (m : Map) (list g e : ℕ) : Type 0 where
   pub ready : ToMark t₀ m list g
   pub within : e ≤ g
-  pub marked : Marked t₀ t m (part t₀ (list + e) (g - e))
+  pub marked : Marked t₀ t m (news t₀ (list + e) (g - e))
 
 module _ {t₀ : List ℕ} {m : Map} {list g : ℕ} where
   pub marking-all : ToMark t₀ m list g → Marking t₀ t₀ m list g g
@@ -65,18 +65,19 @@ module _ {t₀ : List ℕ} {m : Map} {list g : ℕ} where
     same : getD t (list + (e - 1)) 0 ≡ getD t₀ (list + (e - 1)) 0
     same = k .marked .kept .same (list + (e - 1)) (omega (arith, k .within, k .ready .place))
 
-    pub marking-low : getD t (list + (e - 1)) 0 ≤ m .mask
-    marking-low = omega (arith, same, k .ready .low (e - 1) (omega (arith, k .within)))
+    pub marking-low : getD t (list + (e - 1)) 0 % 65536 ≤ m .mask
+    marking-low = rw same (k .ready .low (e - 1) (omega (arith, k .within)))
 
-    pub marking-next : Marking t₀ (set t (m .at + getD t (list + (e - 1)) 0) (getD t (list + (e - 1)) 0 * 65536)) m list g (e - 1)
+    pub marking-next : Marking t₀ (set t (m .at + getD t (list + (e - 1)) 0 % 65536) (getD t (list + (e - 1)) 0 % 65536 * 65536)) m list g (e - 1)
     marking-next =
         let d : e - 1 + 1 ≡ e = omega arith in
-        let l : part t₀ (list + (e - 1)) (g - (e - 1)) ≡ getD t (list + (e - 1)) 0 ∷ part t₀ (list + e) (g - e) =
+        let p : part t₀ (list + (e - 1)) (g - (e - 1)) ≡ getD t (list + (e - 1)) 0 ∷ part t₀ (list + e) (g - e) =
         part-left t₀ list g (e - 1) (omega (arith, k .within)) ∙ rw (d, same)
         in
-        record { ready = k .ready; within = omega (arith, k .within); marked = rw l (marked-one (getD t (list + (e - 1)) 0) (k .marked) marking-low) }
+        let l : news t₀ (list + (e - 1)) (g - (e - 1)) ≡ getD t (list + (e - 1)) 0 % 65536 ∷ news t₀ (list + e) (g - e) = ap (map (λ c. c % 65536)) p in
+        record { ready = k .ready; within = omega (arith, k .within); marked = rw l (marked-one (getD t (list + (e - 1)) 0 % 65536) (k .marked) marking-low) }
 
-  pub marking-end : {t : List ℕ} {e : ℕ} → Marking t₀ t m list g e → e ≤ 0 → Marked t₀ t m (part t₀ list g)
+  pub marking-end : {t : List ℕ} {e : ℕ} → Marking t₀ t m list g e → e ≤ 0 → Marked t₀ t m (news t₀ list g)
   marking-end {t} {e} k h =
       let z : e ≡ 0 = omega arith in
       rw (z, part-all t₀ list g) at (k .marked)

@@ -69,11 +69,11 @@ same-members a b (c ∷ l) (d ∷ r) u v h = step (decLt c d) (decLt d c) (λ e.
         ap₂ (λ (x : ℕ) (y : List ℕ). x ∷ y) e (k e)
 
 -- a number put into an ascending list is one more member
-or-twice : (a b : Bool) → a || b ≡ a || (a || b)
+pub or-twice : (a b : Bool) → a || b ≡ a || (a || b)
 or-twice true b = refl
 or-twice false b = refl
 
-or-swap : (a b c : Bool) → a || (b || c) ≡ b || (a || c)
+pub or-swap : (a b c : Bool) → a || (b || c) ≡ b || (a || c)
 or-swap true true c = refl
 or-swap true false c = refl
 or-swap false true c = refl

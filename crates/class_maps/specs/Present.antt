@@ -8,15 +8,15 @@ use native.Mathlib.Decide.{decLt}
 use native.Mathlib.Omega.{arith}
 use lib.ListN.{length, getD, set, length-set}
 use lib.Seq.{getD-set-same, getD-set-other}
-use lib.Bits.{bitAnd, and-le-r}
+use lib.Bits.{bitAnd}
 use lib.Dec.{eqb}
 use borrow.Author.Tests.{eq-eqb, ne-eqb, eqb-true, eqb-false}
 use Rattle.meaning.specs.Words.{find, isSome, member, keys}
 use Rattle.meaning.specs.Cut.{insertUp, heldBy, numbered, classMap}
 use Rattle.laws.specs.Runs.{Up}
 use Rattle.laws.specs.CutCells.{insert-up, held-up}
-use Rattle.fold.specs.Cells.{cellOf, answerIn, folded, Inside, Holds, Kept, answer-own, answer-other}
-use Rattle.fold.specs.Laid.{Power, own-cell}
+use Rattle.fold.specs.Cells.{cellOf, answerIn, folded, Inside, Odd, Holds, Kept, entry-folded, entry-kept, answer-own, answer-other}
+use Rattle.fold.specs.Laid.{Power, power-even, own-cell}
 use Rattle.fold.specs.declared.Map.{Map}
 use Rattle.class_maps.specs.Once.{up-less, low-none, same-members, insert-member}
 
@@ -116,9 +116,12 @@ module _ {t : List ℕ} {m : Map} (k : Direct t m) where
       let e : m .mask + 1 - 1 ≡ m .mask = omega arith in
       rw e at (own-cell (k .power) x (omega arith))
 
+  odd : Odd m
+  odd = let e = power-even (k .power) in record { odd = omega (arith, e .0) }
+
   -- what it answers
   pub folded-own : (x : ℕ) → x ≤ m .mask → folded t m x ≡ answerIn (getD t (m .at + x) 0) x
-  folded-own x h = ap (λ (i : ℕ). answerIn (getD t (m .at + i) 0) x) (own x h)
+  folded-own x h = ap (λ (e : ℕ). answerIn e x) (entry-folded t m odd x) ∙ ap (λ (i : ℕ). answerIn (getD t (m .at + i) 0) x) (own x h)
 
   pub class-inside : (x : ℕ) → x ≤ m .mask → m .at + x < length t
   class-inside x h = omega (arith, k .inside .within)
@@ -160,12 +163,14 @@ module _ {t : List ℕ} {m : Map} (k : Direct t m) where
         step : (x : ℕ) → m .mask < x → (b : Bool) → eqb (bitAnd x (m .mask)) c ≡ b → folded after m x ≡ none
         step x l true e =
             let f : bitAnd x (m .mask) ≡ c = eqb-true _ _ e in
-            ap (λ (i : ℕ). answerIn (getD after (m .at + i) 0) x) f
+            ap (λ (e : ℕ). answerIn e x) (entry-folded after m odd x)
+            ∙ ap (λ (i : ℕ). answerIn (getD after (m .at + i) 0) x) f
             ∙ ap (λ (w : ℕ). answerIn w x) (getD-set-same t (m .at + c) (c * 65536 + v) 0 (class-inside c h))
             ∙ answer-other (c * 65536 + v) x (λ q. omega arith)
         step x l false e =
             let f : bitAnd x (m .mask) ≡ c → ⊥ = eqb-false _ _ e in
-            ap (λ (w : ℕ). answerIn w x) (getD-set-other t (m .at + c) (cellOf m x) (c * 65536 + v) 0 (λ q. f (omega arith))) ∙ k .above x l
+            ap (λ (w : ℕ). answerIn w x) (entry-folded after m odd x ∙ getD-set-other t (m .at + c) (cellOf m x) (c * 65536 + v) 0 (λ q. f (omega arith)) ∙ sym (entry-folded t m odd x))
+            ∙ k .above x l
 
     -- its cell names it, and the others what they named before
     pub cell-same : getD after (m .at + c) 0 ≡ c * 65536 + v
@@ -227,7 +232,7 @@ module _ {at : ℕ} {t u : List ℕ} (m : Map) (k : Kept at t u) (h : m .at + m 
     power = d .power;
     few = d .few;
     inside = record { within = omega (arith, k .size, d .inside .within) };
-    above = λ x l. ap (λ (e : ℕ). answerIn e x) (k .same (cellOf m x) (omega (arith, and-le-r x (m .mask)))) ∙ d .above x l;
+    above = λ x l. ap (λ (e : ℕ). answerIn e x) (entry-kept k m h x) ∙ d .above x l;
   }
 
   pub present-kept : present u m ≡ present t m

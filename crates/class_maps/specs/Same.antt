@@ -4,8 +4,7 @@ use mathlib.Core.Path.{_≡_, refl, ap, _∙_}
 use mathlib.Core.List.{List}
 use native.Mathlib.Omega.{arith}
 use lib.ListN.{length, getD}
-use lib.Bits.{and-le-r}
-use Rattle.fold.specs.Cells.{cellOf, answerIn, Inside, Holds, Kept}
+use Rattle.fold.specs.Cells.{answerIn, Inside, Holds, Kept, entry-same}
 use Rattle.fold.specs.declared.Map.{Map}
 use Rattle.area.specs.Part.{part}
 use Rattle.area.specs.Stored.{part-same}
@@ -39,7 +38,7 @@ module _ {from to : ℕ} {t u : List ℕ} (k : Same from to t u) where
     pub holds-same : {es : List (ℕ × ℕ)} → Holds t m es → Holds u m es
     holds-same o = record {
       inside = inside-same (o .inside);
-      answers = λ x. ap (λ (e : ℕ). answerIn e x) (k .each (cellOf m x) (omega arith) (omega (arith, and-le-r x (m .mask)))) ∙ o .answers x;
+      answers = λ x. ap (λ (e : ℕ). answerIn e x) (entry-same t u m (λ i c d. k .each i (omega arith) (omega arith)) x) ∙ o .answers x;
     }
 
     pub present-same : present u m ≡ present t m

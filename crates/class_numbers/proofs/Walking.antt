@@ -15,9 +15,9 @@ use Rattle.meaning.specs.Parts.{classIn}
 use Rattle.differences.specs.ClassNumbers.{lowest, strays, classNumber, lowest-within, lowest-held, unheld-stays}
 use Rattle.class_lists.specs.declared.Stretch.{Stretch}
 use Rattle.class_lists.specs.Tables.{tableAt}
-use Rattle.class_lists.specs.Stretches.{Begins, Holding}
+use Rattle.class_lists.specs.Stretches.{Hint, Found}
 use Rattle.class_lists.specs.Elsewhere.{Elsewhere, elsewhere-all, elsewhere-set, elsewhere-more, elsewhere-wide}
-use Rattle.class_numbers.specs.Numbered.{Cleared, firstPut, Lowest, lowestIn, compared, markedWith, Marked, ClassesNumbered}
+use Rattle.class_numbers.specs.Numbered.{Holding, Cleared, firstPut, Lowest, lowestIn, compared, markedWith, Marked, ClassesNumbered}
 
 -- Clearing.
 
@@ -43,6 +43,11 @@ module _ {t₀ : List ℕ} {base : ℕ} where
       rw e at k
 
 -- Stretches of ids that hold one class.
+
+-- what was found holds its class
+pub found-holds : {s : List ℕ} {at x : ℕ} {r : Stretch} → Found s at x r → Holding s at x r × (x ≤ r .last)
+unfolding classIn
+found-holds f = (record { low = f .stretch .end; same = f .stretch .same; small = f .stretch .small; later = f .hint }, f .stretch .holds)
 
 -- a class that the first of them gave no lowest id gets none from the others
 lowest-on : (of : ℕ → ℕ) (c m k : ℕ) → ((y : ℕ) → m ≤ y → y < m + suc k → of y ≡ of m) → lowest of c (m + suc k) ≡ lowest of c (suc m)
@@ -120,7 +125,7 @@ put-full t i v e z = rw (ne-eqb (getD t i 0) 0 (λ q. z (e ∙ q)))
 pub record Finding (s : List ℕ) (at : ℕ) (t₀ t : List ℕ) (base next g : ℕ) : Type 0 where
   pub within : g ≤ 65536
   pub room : base + 65536 ≤ length t₀
-  pub begins : Begins s at g next
+  pub hint : Hint s at g next
   pub lowest : Lowest (classIn (tableAt s at)) g t₀ t base
 
 module _ {s : List ℕ} {at : ℕ} {t₀ : List ℕ} {base : ℕ} where
@@ -128,7 +133,7 @@ module _ {s : List ℕ} {at : ℕ} {t₀ : List ℕ} {base : ℕ} where
   finding-none h k = record {
     within = omega arith;
     room = omega (arith, k .elsewhere .size);
-    begins = record { begins = λ z f. (omega arith, λ i e. absurd (omega arith)) };
+    hint = record { ranges = λ z f. (omega arith, λ i e. absurd (omega arith)) };
     lowest = record { each = λ c l. k .each c l ∙ sym (lowest-none (classIn (tableAt s at)) c); elsewhere = elsewhere-all };
   }
 
@@ -167,7 +172,7 @@ module _ {s : List ℕ} {at : ℕ} {t₀ : List ℕ} {base : ℕ} where
     finding-turn = rw e (record {
       within = omega (arith, w .0 .low);
       room = k .room;
-      begins = w .0 .later (r .last + 1) (omega arith);
+      hint = w .0 .later (r .last + 1) (omega arith);
       lowest = record {
         each = λ c l. cell c l (eqb (r .class) c) refl ∙ sym (all c);
         elsewhere = elsewhere-more (k .lowest .elsewhere) (put-elsewhere t (base + r .class) (g + 1) (omega arith) (omega (arith, w .0 .small)));

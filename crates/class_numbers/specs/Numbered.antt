@@ -8,7 +8,17 @@ use lib.ListN.{getD, set}
 use lib.Dec.{leb, eqb}
 use Rattle.meaning.specs.Parts.{classIn}
 use Rattle.differences.specs.ClassNumbers.{lowest, strays, classNumber}
+use Rattle.class_lists.specs.declared.Stretch.{Stretch}
+use Rattle.class_lists.specs.Tables.{tableAt}
+use Rattle.class_lists.specs.Stretches.{Hint}
 use Rattle.class_lists.specs.Elsewhere.{Elsewhere}
+
+-- the glyphs from x to the last of the stretch r, if there are any, hold its class, and the search for a later one may begin with its next range
+pub record Holding (s : List ℕ) (at x : ℕ) (r : Stretch) : Type 0 where
+  pub low : r .last < 65536
+  pub same : (y : ℕ) → x ≤ y → y ≤ r .last → r .class ≡ classIn (tableAt s at) y
+  pub small : r .class < 65536
+  pub later : (y : ℕ) → r .last < y → Hint s at y (r .next)
 
 -- the n cells from `base` on hold 0, and those elsewhere are as before
 pub record Cleared (n : ℕ) (t₀ t : List ℕ) (base : ℕ) : Type 0 where

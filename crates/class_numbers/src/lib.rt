@@ -3,7 +3,7 @@
 use cells::cell;
 use cells::put_cell;
 use class_lists::Stretch;
-use class_lists::stretch_at;
+use class_lists::stretch_from;
 ghost use mathlib.Core.Path.{_≡_};
 ghost use mathlib.Core.Bool.{cond};
 ghost use Prim.Native.Nat.{_+_, _≤_, _<_};
@@ -11,9 +11,8 @@ ghost use lib.ListN.{length};
 ghost use lib.Dec.{ltb};
 ghost use Rattle.meaning.specs.Parts.{classIn};
 ghost use Rattle.class_lists.specs.Tables.{tableAt, NullOrSound};
-ghost use Rattle.class_lists.specs.Stretches.{Holding};
 ghost use Rattle.class_lists.specs.Elsewhere.{Elsewhere};
-ghost use Rattle.class_numbers.specs.Numbered.{Cleared, firstPut, Lowest, lowestIn, compared, Marked, ClassesNumbered};
+ghost use Rattle.class_numbers.specs.Numbered.{Holding, Cleared, firstPut, Lowest, lowestIn, compared, Marked, ClassesNumbered};
 
 // No class has an id yet: 0 in the 65,536 cells from `base` on.
 fn clear(t: &mut [u32], base: usize)
@@ -46,7 +45,7 @@ fn put_lowest(src: &[u8], at: usize, t: &mut [u32], base: usize)
     let mut next = 0;
     let mut g = 0;
     while g < 65536 {
-        let s = stretch_at(src, at, next, g);
+        let s = stretch_from(src, at, next, g);
         put_first(t, base + s.class, g + 1);
         next = s.next;
         g = s.last + 1;
@@ -61,7 +60,7 @@ fn onward(src: &[u8], at: usize, last: Stretch, glyph: usize) -> Stretch
     if glyph <= last.last {
         return last;
     }
-    stretch_at(src, at, last.next, glyph)
+    stretch_from(src, at, last.next, glyph)
 }
 
 // The lowest id of a class, plus 1, by its cell: a class that strays has 65,536 or 131,072 more.
@@ -105,8 +104,8 @@ fn mark_strays(left: &[u8], at: usize, right: &[u8], to: usize, t: &mut [u32], b
     requires { ⌜ NullOrSound (now left) at × NullOrSound (now right) to × (base + 131072 ≤ length (now t)) × Marked (classIn (tableAt (now left) at)) (classIn (tableAt (now right) to)) 65536 0 (now t) base ⌝ }
     ensures { λ _. ⌜ Marked (classIn (tableAt (now (left .entry)) at)) (classIn (tableAt (now (right .entry)) to)) 65536 65536 (now (t .exit)) base × Elsewhere base (base + 131072) (now (t .entry)) (now (t .exit)) ⌝ }
 {
-    let mut l = stretch_at(left, at, 0, 0);
-    let mut r = stretch_at(right, to, 0, 0);
+    let mut l = stretch_from(left, at, 0, 0);
+    let mut r = stretch_from(right, to, 0, 0);
     let mut g = 0;
     while g < 65536 {
         l = onward(left, at, l, g);

@@ -1,3 +1,4 @@
 pub mod Lays
 pub mod Rows
 pub mod Parts
+pub mod Notes

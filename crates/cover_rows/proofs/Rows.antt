@@ -11,7 +11,7 @@ use lib.Seq.{sets, length-sets}
 use lib.Dec.{eqb}
 use borrow.Author.Tests.{eq-eqb, ne-eqb}
 use Rattle.meaning.specs.Words.{word, bytes2, isSome, bind, mapAll, find}
-use Rattle.meaning.specs.Maps.{mapEntries}
+use Rattle.meaning.specs.Maps.{glyphEntries}
 use Rattle.meaning.specs.Parts.{coverage, coverageSound}
 use Rattle.meaning.specs.Tables.{reach, reaches}
 use Rattle.meaning.specs.Fault.{faultThrough, coverageFault}
@@ -23,7 +23,7 @@ use Rattle.fold.specs.declared.Map.{Map}
 use Rattle.area.specs.Extends.{Tried}
 use Rattle.area.specs.Part.{news, part}
 use Rattle.meet.specs.Met.{Met, met-news}
-use Rattle.meet.specs.Answered.{Seeks}
+use Rattle.meet_runs.specs.Either.{SeeksGlyphs}
 use Rattle.cover_rows.specs.Rows.{blockLeft, blocksLeft, slotLeft, rowLeft, Lays, LaysLeft, Passes, SoundRow, WritesSlot, WritesRow}
 use Rattle.cover_rows.specs.declared.Row.{Row}
 use Rattle.cover_rows.proofs.Lays.{some-none, some-same, fits-one, lays-none, lays-one, lays-over, lays-past, lays-more, laid-some, laid-none, laid-zero}
@@ -40,7 +40,7 @@ through-none faultAt s slot (suc n) (suc i) h l z =
     rw e (through-none faultAt s (slot + 2) n i (lowest-none (cond (eqb (word s slot) 0) none (faultAt (0 + word s slot))) _ h .1) (omega arith) (rw e at z))
 
 -- the coverage at a non-null offset of a row is sound
-sound-at : {s : List ℕ} {row : Row} → SoundRow s row → {i at : ℕ} → i < row .len → at ≡ word s (row .at + 2 * i) → (at ≡ 0 → ⊥) → coverageSound s at ≡ true
+pub sound-at : {s : List ℕ} {row : Row} → SoundRow s row → {i at : ℕ} → i < row .len → at ≡ word s (row .at + 2 * i) → (at ≡ 0 → ⊥) → coverageSound s at ≡ true
 unfolding coverageFault
 sound-at {s} {row} k {i} h e z = rw e (part-sound _ _ none (through-none (coverageFault s) s (row .at) (row .len) i (k .sound) h (λ q. z (e ∙ q))) .0)
 
@@ -89,16 +89,16 @@ module _ (g : List (ℕ × ℕ)) (cov : List ℕ) where
       step [] h = absurd (some-none (sym e ∙ one-gone h))
       step (n ∷ ns) h = fits-one p (coverageWords (newCoverage g cov)) (subst (λ (cs : List (Option (List ℕ))). wordsFit (offsets p cs) ≡ true) (some-same (sym e ∙ one-left n ns h)) f)
 
-module _ {s : List ℕ} {cover : ℕ} {glyphs : List ℕ} {m : Map} {t : List ℕ} (a : Seeks s cover glyphs m t) (p : ℕ) {r : Bool} (e : r ≡ isSome (unlessEmpty (newCoverage (mapEntries glyphs) (coverage s cover)))) where
-  pub over-met : r ≡ true → Passes (slotLeft (mapEntries glyphs) s cover) p p
-  over-met h = passes-on (mapEntries glyphs) (coverage s cover) p (sym e ∙ h)
+module _ {form : ℕ} {s : List ℕ} {cover : ℕ} {glyphs : List ℕ} {m : Map} {t : List ℕ} (a : SeeksGlyphs form s cover glyphs m t) (p : ℕ) {r : Bool} (e : r ≡ isSome (unlessEmpty (newCoverage (glyphEntries form glyphs) (coverage s cover)))) where
+  pub over-met : r ≡ true → Passes (slotLeft (glyphEntries form glyphs) s cover) p p
+  over-met h = passes-on (glyphEntries form glyphs) (coverage s cover) p (sym e ∙ h)
 
-  pub over-gone : r ≡ false → Passes (slotLeft (mapEntries glyphs) s cover) p 0
-  over-gone h = passes-gone (mapEntries glyphs) (coverage s cover) p (sym e ∙ h)
+  pub over-gone : r ≡ false → Passes (slotLeft (glyphEntries form glyphs) s cover) p 0
+  over-gone h = passes-gone (glyphEntries form glyphs) (coverage s cover) p (sym e ∙ h)
 
-module _ {s : List ℕ} {cover : ℕ} {glyphs : List ℕ} {m : Map} {t area : List ℕ} {slot p : ℕ} (a : WritesSlot s cover glyphs m t area slot p) where
+module _ {form : ℕ} {s : List ℕ} {cover : ℕ} {glyphs : List ℕ} {m : Map} {t area : List ℕ} {slot p : ℕ} (a : WritesSlot form s cover glyphs m t area slot p) where
   -- the area has ended
-  pub slot-over : {r : ℕ} → length area < p → Passes (slotLeft (mapEntries glyphs) s cover) p r → LaysLeft (slotLeft (mapEntries glyphs) s cover) m t t area slot p area r
+  pub slot-over : {r : ℕ} → length area < p → Passes (slotLeft (glyphEntries form glyphs) s cover) p r → LaysLeft (slotLeft (glyphEntries form glyphs) s cover) m t t area slot p area r
   slot-over {r} l h = record {
     cells = kept-all (m .at + m .mask + 1) t;
     same = refl;
@@ -107,25 +107,40 @@ module _ {s : List ℕ} {cover : ℕ} {glyphs : List ℕ} {m : Map} {t area : Li
   }
 
   -- no offset can say the place
-  pub slot-past : {q r : ℕ} → 65535 < p → length area < q → Passes (slotLeft (mapEntries glyphs) s cover) q r → LaysLeft (slotLeft (mapEntries glyphs) s cover) m t t area slot p area r
+  pub slot-past : {q r : ℕ} → 65535 < p → length area < q → Passes (slotLeft (glyphEntries form glyphs) s cover) q r → LaysLeft (slotLeft (glyphEntries form glyphs) s cover) m t t area slot p area r
   slot-past {q} {r} n l h = record {
     cells = kept-all (m .at + m .mask + 1) t;
     same = refl;
     gone = h .gone;
-    stays = λ {bs = bs} e. subst (λ (x : ℕ). Lays area slot p bs area x) (sym (h .stays e)) (lays-past bs (λ f. omega (arith, left-near (mapEntries glyphs) (coverage s cover) p e f)) l);
+    stays = λ {bs = bs} e. subst (λ (x : ℕ). Lays area slot p bs area x) (sym (h .stays e)) (lays-past bs (λ f. omega (arith, left-near (glyphEntries form glyphs) (coverage s cover) p e f)) l);
   }
 
-  module _ {next : List ℕ} {k : ℕ} (h : Met (find (mapEntries glyphs)) (coverage s cover) t (m .at + m .mask + 1) next k) where
+  module _ {next : List ℕ} {k : ℕ} (h : Met (find (glyphEntries form glyphs)) (coverage s cover) t (m .at + m .mask + 1) next k) where
     -- no glyph is retained, or the coverage is written
-    pub slot-gone : k ≡ 0 → LaysLeft (slotLeft (mapEntries glyphs) s cover) m t next area slot p area 0
-    slot-gone z = laid-none (h .kept) refl (news-gone (mapEntries glyphs) (coverage s cover) next (m .at + m .mask + 1) k (met-news (mapEntries glyphs) h) z)
+    pub slot-gone : k ≡ 0 → LaysLeft (slotLeft (glyphEntries form glyphs) s cover) m t next area slot p area 0
+    slot-gone z = laid-none (h .kept) refl (news-gone (glyphEntries form glyphs) (coverage s cover) next (m .at + m .mask + 1) k (met-news (glyphEntries form glyphs) h) z)
 
     pub slot-written : {mid after : List ℕ} {r : ℕ} → (k ≡ 0 → ⊥) → p ≤ 65535 → mid ≡ sets area slot (bytes2 p) → Tried mid p (coverageWords (news next (m .at + m .mask + 1) k)) after r
-        → LaysLeft (slotLeft (mapEntries glyphs) s cover) m t next area slot p after r
+        → LaysLeft (slotLeft (glyphEntries form glyphs) s cover) m t next area slot p after r
     slot-written {mid} {after} {r} z n e w =
-        let f = met-news (mapEntries glyphs) h in
+        let f = met-news (glyphEntries form glyphs) h in
         let l = ap length e ∙ length-sets area slot (bytes2 p) in
-        laid-some (h .kept) (w .same ∙ l) (news-left (mapEntries glyphs) (coverage s cover) next (m .at + m .mask + 1) k f z) (lays-one (coverageWords (newCoverage (mapEntries glyphs) (coverage s cover))) e n (rw f at w))
+        laid-some (h .kept) (w .same ∙ l) (news-left (glyphEntries form glyphs) (coverage s cover) next (m .at + m .mask + 1) k f z) (lays-one (coverageWords (newCoverage (glyphEntries form glyphs) (coverage s cover))) e n (rw f at w))
+
+-- what a row asks stays where the area changes
+pub writes-same : {form : ℕ} {s : List ℕ} {row : Row} {glyphs : List ℕ} {m : Map} {t area next : List ℕ} {pos : ℕ} → WritesRow form s row glyphs m t area pos → length next ≡ length area → WritesRow form s row glyphs m t next pos
+writes-same a e = record {
+  row = a .row;
+  ready = a .ready;
+  most = a .most;
+  bounds = a .bounds;
+  room = a .room;
+  inside = omega (arith, a .inside);
+  before = a .before;
+  start = a .start;
+  short = omega (arith, a .short);
+  cells = a .cells;
+}
 
 -- Coverages from the front.
 module _ (g : List (ℕ × ℕ)) (s : List ℕ) (slot n : ℕ) where
@@ -170,8 +185,8 @@ unfolding bind
 bind-more done b none = refl
 bind-more done b (some bs) = ap some (sym (append-assoc done (b ∷ []) bs))
 
-module _ {s : List ℕ} {row : Row} {glyphs : List ℕ} {m : Map} {t₀ before : List ℕ} {pos : ℕ} (a : WritesRow s row glyphs m t₀ before pos) where
-  pub rowing-all : Rowing (mapEntries glyphs) s row m t₀ before pos t₀ before pos 0
+module _ {form : ℕ} {s : List ℕ} {row : Row} {glyphs : List ℕ} {m : Map} {t₀ before : List ℕ} {pos : ℕ} (a : WritesRow form s row glyphs m t₀ before pos) where
+  pub rowing-all : Rowing (glyphEntries form glyphs) s row m t₀ before pos t₀ before pos 0
   rowing-all =
       let e : row .at + 2 * 0 ≡ row .at = omega arith in
       let f : row .len - 0 ≡ row .len = omega arith in
@@ -182,52 +197,53 @@ module _ {s : List ℕ} {row : Row} {glyphs : List ℕ} {m : Map} {t₀ before :
         start = a .start;
         done = [];
         count = refl;
-        whole = rw (e, f) (bind-some (rowLeft (mapEntries glyphs) s row));
+        whole = rw (e, f) (bind-some (rowLeft (glyphEntries form glyphs) s row));
         lays = lays-none;
       }
 
-  module _ {t area : List ℕ} {p i cover : ℕ} (c : Rowing (mapEntries glyphs) s row m t₀ before pos t area p i) (h : i < row .len) (e : cover ≡ word s (row .at + 2 * i)) where
+  module _ {t area : List ℕ} {p i cover : ℕ} (c : Rowing (glyphEntries form glyphs) s row m t₀ before pos t area p i) (h : i < row .len) (e : cover ≡ word s (row .at + 2 * i)) where
     -- a null offset
-    pub rowing-null : cover ≡ 0 → LaysLeft (rowLeft (mapEntries glyphs) s row) m t₀ t before (row .at) pos area 0
+    pub rowing-null : cover ≡ 0 → LaysLeft (rowLeft (glyphEntries form glyphs) s row) m t₀ t before (row .at) pos area 0
     unfolding bind
-    rowing-null z = laid-none (c .cells) (c .same) (c .whole ∙ rw (null-left (mapEntries glyphs) s (row .at) (row .len) h e z))
+    rowing-null z = laid-none (c .cells) (c .same) (c .whole ∙ rw (null-left (glyphEntries form glyphs) s (row .at) (row .len) h e z))
 
     -- what the writing of one coverage asks
-    pub rowing-asks : (cover ≡ 0 → ⊥) → WritesSlot s cover glyphs m t area (row .at + 2 * i) p
+    pub rowing-asks : (cover ≡ 0 → ⊥) → WritesSlot form s cover glyphs m t area (row .at + 2 * i) p
     rowing-asks z = record {
       sound = sound-at (a .row) h e z;
-      ready = record { ascend = a .ready .ascend; holds = holds-kept (c .cells) (omega arith) (a .ready .holds); room = omega (arith, a .ready .room, c .cells .size) };
+      ready = record { map = a .ready .map; holds = holds-kept (c .cells) (omega arith) (a .ready .holds) };
+      room = rw e (omega (arith, a .bounds i h (λ q. z (e ∙ q)), a .room, c .cells .size));
       inside = omega (arith, a .inside, c .same);
       short = omega (arith, a .short, c .same);
       cells = omega (arith, a .cells, c .cells .size);
     }
 
-    module _ {next after : List ℕ} {r : ℕ} (z : cover ≡ 0 → ⊥) (d : LaysLeft (slotLeft (mapEntries glyphs) s cover) m t next area (row .at + 2 * i) p after r) where
+    module _ {next after : List ℕ} {r : ℕ} (z : cover ≡ 0 → ⊥) (d : LaysLeft (slotLeft (glyphEntries form glyphs) s cover) m t next area (row .at + 2 * i) p after r) where
       -- what is left of the row, by what is left of this coverage
-      row-is : rowLeft (mapEntries glyphs) s row ≡ bind (bind (blockLeft (mapEntries glyphs) (some (coverage s cover))) (λ b. bind (leftFrom (mapEntries glyphs) s (row .at) (row .len) (i + 1)) (λ bs. some (b ∷ bs)))) (λ bs. some (c .done ++ bs))
-      row-is = c .whole ∙ ap (λ (o : Option (List (Option (List ℕ)))). bind o (λ bs. some (c .done ++ bs))) (there-left (mapEntries glyphs) s (row .at) (row .len) h e z)
+      row-is : rowLeft (glyphEntries form glyphs) s row ≡ bind (bind (blockLeft (glyphEntries form glyphs) (some (coverage s cover))) (λ b. bind (leftFrom (glyphEntries form glyphs) s (row .at) (row .len) (i + 1)) (λ bs. some (b ∷ bs)))) (λ bs. some (c .done ++ bs))
+      row-is = c .whole ∙ ap (λ (o : Option (List (Option (List ℕ)))). bind o (λ bs. some (c .done ++ bs))) (there-left (glyphEntries form glyphs) s (row .at) (row .len) h e z)
 
-      slot-is : slotLeft (mapEntries glyphs) s cover ≡ bind (blockLeft (mapEntries glyphs) (some (coverage s cover))) (λ b. some (b ∷ []))
+      slot-is : slotLeft (glyphEntries form glyphs) s cover ≡ bind (blockLeft (glyphEntries form glyphs) (some (coverage s cover))) (λ b. some (b ∷ []))
       unfolding blocksLeft mapAll bind
       slot-is = refl
 
-      pub rowing-gone : r ≡ 0 → LaysLeft (rowLeft (mapEntries glyphs) s row) m t₀ next before (row .at) pos after 0
+      pub rowing-gone : r ≡ 0 → LaysLeft (rowLeft (glyphEntries form glyphs) s row) m t₀ next before (row .at) pos after 0
       unfolding bind
       rowing-gone y = laid-none (kept-more (c .cells) (d .cells)) (d .same ∙ c .same)
-          (row-is ∙ step (blockLeft (mapEntries glyphs) (some (coverage s cover))) (sym slot-is ∙ laid-zero (slotLeft (mapEntries glyphs) s cover) d (c .start) y))
+          (row-is ∙ step (blockLeft (glyphEntries form glyphs) (some (coverage s cover))) (sym slot-is ∙ laid-zero (slotLeft (glyphEntries form glyphs) s cover) d (c .start) y))
         where
           step : (o : Option (Option (List ℕ))) → bind o (λ b. some (b ∷ [])) ≡ none
-              → bind (bind o (λ b. bind (leftFrom (mapEntries glyphs) s (row .at) (row .len) (i + 1)) (λ bs. some (b ∷ bs)))) (λ bs. some (c .done ++ bs)) ≡ none
+              → bind (bind o (λ b. bind (leftFrom (glyphEntries form glyphs) s (row .at) (row .len) (i + 1)) (λ bs. some (b ∷ bs)))) (λ bs. some (c .done ++ bs)) ≡ none
           step none q = refl
           step (some b) q = absurd (some-none q)
 
-      pub rowing-turn : (r ≡ 0 → ⊥) → Rowing (mapEntries glyphs) s row m t₀ before pos next after r (i + 1)
+      pub rowing-turn : (r ≡ 0 → ⊥) → Rowing (glyphEntries form glyphs) s row m t₀ before pos next after r (i + 1)
       unfolding bind
-      rowing-turn y = step (blockLeft (mapEntries glyphs) (some (coverage s cover))) slot-is row-is
+      rowing-turn y = step (blockLeft (glyphEntries form glyphs) (some (coverage s cover))) slot-is row-is
         where
-          step : (o : Option (Option (List ℕ))) → slotLeft (mapEntries glyphs) s cover ≡ bind o (λ b. some (b ∷ []))
-              → rowLeft (mapEntries glyphs) s row ≡ bind (bind o (λ b. bind (leftFrom (mapEntries glyphs) s (row .at) (row .len) (i + 1)) (λ bs. some (b ∷ bs)))) (λ bs. some (c .done ++ bs))
-              → Rowing (mapEntries glyphs) s row m t₀ before pos next after r (i + 1)
+          step : (o : Option (Option (List ℕ))) → slotLeft (glyphEntries form glyphs) s cover ≡ bind o (λ b. some (b ∷ []))
+              → rowLeft (glyphEntries form glyphs) s row ≡ bind (bind o (λ b. bind (leftFrom (glyphEntries form glyphs) s (row .at) (row .len) (i + 1)) (λ bs. some (b ∷ bs)))) (λ bs. some (c .done ++ bs))
+              → Rowing (glyphEntries form glyphs) s row m t₀ before pos next after r (i + 1)
           step none q w = absurd (y (d .gone q))
           step (some b) q w = record {
             within = omega arith;
@@ -236,11 +252,11 @@ module _ {s : List ℕ} {row : Row} {glyphs : List ℕ} {m : Map} {t₀ before :
             start = omega arith;
             done = c .done ++ (b ∷ []);
             count = omega (arith, length-append (c .done) (b ∷ []), c .count);
-            whole = w ∙ bind-more (c .done) b (leftFrom (mapEntries glyphs) s (row .at) (row .len) (i + 1));
+            whole = w ∙ bind-more (c .done) b (leftFrom (glyphEntries form glyphs) s (row .at) (row .len) (i + 1));
             lays = lays-more (row .at + 2 * i) (omega (arith, c .count)) (omega (arith, a .before)) (c .same) (c .lays) (d .stays q);
           }
 
-  pub rowing-end : {t area : List ℕ} {p i : ℕ} → Rowing (mapEntries glyphs) s row m t₀ before pos t area p i → row .len ≤ i → LaysLeft (rowLeft (mapEntries glyphs) s row) m t₀ t before (row .at) pos area p
+  pub rowing-end : {t area : List ℕ} {p i : ℕ} → Rowing (glyphEntries form glyphs) s row m t₀ before pos t area p i → row .len ≤ i → LaysLeft (rowLeft (glyphEntries form glyphs) s row) m t₀ t before (row .at) pos area p
   unfolding blocksLeft mapAll reaches bind
   rowing-end {t} {area} {p} {i} c h =
       let e : row .len - i ≡ 0 = omega arith in

@@ -1,21 +1,23 @@
 -- Rows of offsets that reach coverages: what is left of the coverages, and how it is laid into the area.
-use Prim.Native.Nat.{ℕ, _+_, _*_, _/_, _≤_, _<_}
+use Prim.Native.Nat.{ℕ, _+_, _*_, _≤_, _<_}
 use mathlib.Core.Path.{_≡_}
 use mathlib.Core.Bool.{true}
 use mathlib.Core.Option.{Option, none, some}
 use mathlib.Core.List.{List, [], _∷_}
 use lib.ListN.{length}
 use lib.Seq.{sets}
-use Rattle.meaning.specs.Words.{word, flat, bind, mapAll, keys, ascends}
-use Rattle.meaning.specs.Maps.{mapEntries}
+use Rattle.meaning.specs.Words.{word, flat, bind, mapAll}
+use Rattle.meaning.specs.Maps.{glyphEntries}
 use Rattle.meaning.specs.Parts.{coverage, coverageSound}
 use Rattle.meaning.specs.Tables.{reaches}
 use Rattle.meaning.specs.Fault.{faultThrough, coverageFault}
 use Rattle.meaning.specs.Cut.{unlessEmpty, newCoverage}
 use Rattle.meaning.specs.Layout.{offsets, blocks, coverageWords, wordsFit}
+use Rattle.glyph_runs.specs.Runs.{GlyphMap}
 use Rattle.fold.specs.Cells.{Holds, Kept}
 use Rattle.fold.specs.declared.Map.{Map}
 use Rattle.area.specs.Extends.{Extends}
+use Rattle.meet_runs.specs.Either.{mostNotes}
 use Rattle.cover_rows.specs.declared.Row.{Row}
 
 -- the block of a coverage that is not null and keeps a glyph
@@ -52,16 +54,16 @@ pub record Passes (left : Option (List (Option (List ℕ)))) (p r : ℕ) : Type 
   pub gone : left ≡ none → r ≡ 0
   pub stays : {bs : List (Option (List ℕ))} → left ≡ some bs → r ≡ p
 
--- what the cutting of a coverage asks of the scratch: m holds the glyph map, whose old numbers ascend, and behind its cells there is one cell more than the map has entries
-pub record Ready (glyphs : List ℕ) (m : Map) (t : List ℕ) : Type 0 where
-  pub ascend : ascends (keys (mapEntries glyphs)) ≡ true
-  pub holds : Holds t m (mapEntries glyphs)
-  pub room : m .at + m .mask + 1 + length glyphs / 4 < length t
+-- what the cutting of a coverage asks of the scratch: m holds the good glyph map
+pub record Ready (form : ℕ) (glyphs : List ℕ) (m : Map) (t : List ℕ) : Type 0 where
+  pub map : GlyphMap form glyphs
+  pub holds : Holds t m (glyphEntries form glyphs)
 
--- what is asked where it is written: it is sound, its offset's place lies in the area, and no scratch is over 4 GB
-pub record WritesSlot (s : List ℕ) (cover : ℕ) (glyphs : List ℕ) (m : Map) (t area : List ℕ) (slot p : ℕ) : Type 0 where
+-- what is asked where it is written: it is sound, behind the map's cells there is one cell more than glyphs that can be noted, its offset's place lies in the area, and no scratch is over 4 GB
+pub record WritesSlot (form : ℕ) (s : List ℕ) (cover : ℕ) (glyphs : List ℕ) (m : Map) (t area : List ℕ) (slot p : ℕ) : Type 0 where
   pub sound : coverageSound s cover ≡ true
-  pub ready : Ready glyphs m t
+  pub ready : Ready form glyphs m t
+  pub room : m .at + m .mask + 1 + mostNotes form glyphs s cover < length t
   pub inside : slot + 2 ≤ length area
   pub short : length area ≤ 0x1_0000_0000
   pub cells : length t ≤ 0x1_0000_0000
@@ -71,10 +73,29 @@ pub record SoundRow (s : List ℕ) (r : Row) : Type 0 where
   pub inside : r .at + 2 * r .len ≤ length s
   pub sound : faultThrough (coverageFault s) s 0 (r .at) (r .len) ≡ none
 
--- the same for a row: the places of its offsets end before `pos`
-pub record WritesRow (s : List ℕ) (r : Row) (glyphs : List ℕ) (m : Map) (t area : List ℕ) (pos : ℕ) : Type 0 where
+-- n is a bound for the glyphs that can be noted of any coverage that the row reaches
+abbrev pub Bounds : ℕ → List ℕ → List ℕ → Row → ℕ → Type 0
+Bounds form glyphs s row n = (i : ℕ) → i < row .len → (word s (row .at + 2 * i) ≡ 0 → ⊥) → mostNotes form glyphs s (word s (row .at + 2 * i)) ≤ n
+
+-- r is no less than `least`, nor than what can be noted of the coverage at `cover` if it is not null; at most 65,536 if `least` is
+pub record MoreNotes (form : ℕ) (glyphs s : List ℕ) (cover least r : ℕ) : Type 0 where
+  pub above : least ≤ r
+  pub enough : (cover ≡ 0 → ⊥) → mostNotes form glyphs s cover ≤ r
+  pub small : least ≤ 65536 → r ≤ 65536
+
+-- the same of the coverages that a row reaches
+pub record MostRow (form : ℕ) (glyphs s : List ℕ) (row : Row) (least r : ℕ) : Type 0 where
+  pub above : least ≤ r
+  pub bounds : Bounds form glyphs s row r
+  pub small : least ≤ 65536 → r ≤ 65536
+
+-- what is asked where a row is written: the places of its offsets end before `pos`
+pub record WritesRow (form : ℕ) (s : List ℕ) (r : Row) (glyphs : List ℕ) (m : Map) (t area : List ℕ) (pos : ℕ) : Type 0 where
   pub row : SoundRow s r
-  pub ready : Ready glyphs m t
+  pub ready : Ready form glyphs m t
+  pub most : ℕ
+  pub bounds : Bounds form glyphs s r most
+  pub room : m .at + m .mask + 1 + most < length t
   pub inside : r .at + 2 * r .len ≤ length area
   pub before : r .at + 2 * r .len ≤ pos
   pub start : 0 < pos

@@ -3,8 +3,9 @@ use area::over;
 use area::put;
 use area::write_cover;
 use fold::Map;
-use meet::meet;
-use meet::meets;
+use meet_runs::meet;
+use meet_runs::meets;
+use meet_runs::most;
 use room::HIGHEST;
 use wire::word_at;
 use wire::word_inside;
@@ -15,16 +16,24 @@ ghost use Prim.Native.Nat.{_-_, _≤_};
 ghost use lib.ListN.{length};
 ghost use lib.Seq.{sets};
 ghost use Rattle.meaning.specs.Words.{bytes2};
-ghost use Rattle.meaning.specs.Maps.{mapEntries};
+ghost use Rattle.meaning.specs.Maps.{glyphEntries};
+ghost use Rattle.meaning.specs.Parts.{coverageSound};
 ghost use Rattle.meaning.specs.Fault.{coversFault};
 ghost use Rattle.cover_rows.specs.Parts.{IsContext};
-ghost use Rattle.cover_rows.specs.Rows.{Passes, WritesSlot, WritesRow, slotLeft, rowLeft, LaysLeft};
-ghost use Rattle.meet.specs.Answered.{Seeks};
+ghost use Rattle.cover_rows.specs.Rows.{SoundRow, Passes, WritesSlot, WritesRow, MoreNotes, MostRow, slotLeft, rowLeft, LaysLeft};
+ghost use Rattle.meet_runs.specs.Either.{SeeksGlyphs};
+ghost use Rattle.glyph_runs.specs.Runs.{GlyphMap};
 
 // Offsets or records in a row: where the first stands, and how many there are.
 pub struct Row {
     pub at: usize,
     pub len: usize,
+}
+
+// An offset: where it stands, and where the coverage stands that it reaches.
+pub struct Slot {
+    pub at: usize,
+    pub cover: usize,
 }
 
 // Where the parts of a context stand: the offsets of its coverages, and its records.
@@ -91,43 +100,80 @@ pub fn cover_parts(chained: bool, src: &[u8]) -> CoverParts
     plain_parts(src)
 }
 
-// The place `p`, and 0 if no glyph of the coverage at `cover` is retained.
-fn pass_over(src: &[u8], cover: usize, glyphs: &[u8], m: Map, t: &[u32], p: usize) -> usize
-    requires { ⌜ Seeks (now src) cover (now glyphs) m (now t) ⌝ }
-    ensures { λ r. ⌜ Passes (slotLeft (mapEntries (now (glyphs .entry))) (now (src .entry)) cover) p r ⌝ }
+// `least`, or how many glyphs can be noted of the coverage at `cover` if they are more; of a null one there are none.
+fn more_notes(src: &[u8], cover: usize, glyphs: &[u8], form: usize, least: usize) -> usize
+    requires { ⌜ ((cover ≡ 0 → ⊥) → coverageSound (now src) cover ≡ true) × GlyphMap form (now glyphs) ⌝ }
+    ensures { λ r. ⌜ MoreNotes form (now (glyphs .entry)) (now (src .entry)) cover least r ⌝ }
 {
-    if meets(src, cover, glyphs, m, t) {
+    if cover == 0 {
+        return least;
+    }
+    let n = most(src, cover, glyphs, form);
+    if n < least {
+        return least;
+    }
+    n
+}
+
+// `least`, or how many glyphs can be noted of a coverage that the row reaches if they are more.
+pub fn most_row(src: &[u8], row: Row, glyphs: &[u8], form: usize, least: usize) -> usize
+    requires { ⌜ SoundRow (now src) row × GlyphMap form (now glyphs) ⌝ }
+    ensures { λ r. ⌜ MostRow form (now (glyphs .entry)) (now (src .entry)) row least r ⌝ }
+{
+    let mut r = least;
+    let mut i = 0;
+    while i < row.len {
+        r = more_notes(src, word_inside(src, row.at + 2 * i), glyphs, form, r);
+        i += 1;
+    }
+    r
+}
+
+// The place `p`, and 0 if no glyph of the coverage at `cover` is retained.
+fn pass_over(
+    src: &[u8],
+    cover: usize,
+    glyphs: &[u8],
+    form: usize,
+    m: Map,
+    t: &[u32],
+    p: usize,
+) -> usize
+    requires { ⌜ SeeksGlyphs form (now src) cover (now glyphs) m (now t) ⌝ }
+    ensures { λ r. ⌜ Passes (slotLeft (glyphEntries form (now (glyphs .entry))) (now (src .entry)) cover) p r ⌝ }
+{
+    if meets(src, cover, glyphs, form, m, t) {
         return p;
     }
     0
 }
 
-// What is left of the coverage at `cover`: its offset at `slot`, and itself at `p`; the place after it, and 0 if no glyph is retained. Where `p` is past the area, or no offset can say it, nothing is noted or written, and the answer is past the area.
+// What is left of the coverage that an offset reaches: the offset at its place, and itself at `p`; the place after it, and 0 if no glyph is retained. Where `p` is past the area, or no offset can say it, nothing is noted or written, and the answer is past the area.
 fn write_slot(
     src: &[u8],
-    cover: usize,
+    slot: Slot,
     glyphs: &[u8],
+    form: usize,
     m: Map,
     t: &mut [u32],
     area: &mut [u8],
-    slot: usize,
     p: usize,
 ) -> usize
-    requires { ⌜ WritesSlot (now src) cover (now glyphs) m (now t) (now area) slot p ⌝ }
-    ensures { λ r. ⌜ LaysLeft (slotLeft (mapEntries (now (glyphs .entry))) (now (src .entry)) cover) m (now (t .entry)) (now (t .exit)) (now (area .entry)) slot p (now (area .exit)) r ⌝ }
+    requires { ⌜ WritesSlot form (now src) (slot .cover) (now glyphs) m (now t) (now area) (slot .at) p ⌝ }
+    ensures { λ r. ⌜ LaysLeft (slotLeft (glyphEntries form (now (glyphs .entry))) (now (src .entry)) (slot .cover)) m (now (t .entry)) (now (t .exit)) (now (area .entry)) (slot .at) p (now (area .exit)) r ⌝ }
 {
     if area.len() < p {
-        return pass_over(src, cover, glyphs, m, t, p);
+        return pass_over(src, slot.cover, glyphs, form, m, t, p);
     }
     if HIGHEST < p {
-        return pass_over(src, cover, glyphs, m, t, over(area));
+        return pass_over(src, slot.cover, glyphs, form, m, t, over(area));
     }
     let notes = m.at + m.mask + 1;
-    let k = meet(src, cover, glyphs, m, t, notes);
+    let k = meet(src, slot.cover, glyphs, form, m, t, notes);
     if k == 0 {
         return 0;
     }
-    put(area, slot, p);
+    put(area, slot.at, p);
     write_cover(t, notes, k, area, p)
 }
 
@@ -136,23 +182,24 @@ pub fn write_row(
     src: &[u8],
     row: Row,
     glyphs: &[u8],
+    form: usize,
     m: Map,
     t: &mut [u32],
     area: &mut [u8],
     pos: usize,
 ) -> usize
-    requires { ⌜ WritesRow (now src) row (now glyphs) m (now t) (now area) pos ⌝ }
-    ensures { λ r. ⌜ LaysLeft (rowLeft (mapEntries (now (glyphs .entry))) (now (src .entry)) row) m (now (t .entry)) (now (t .exit)) (now (area .entry)) (row .at) pos (now (area .exit)) r ⌝ }
+    requires { ⌜ WritesRow form (now src) row (now glyphs) m (now t) (now area) pos ⌝ }
+    ensures { λ r. ⌜ LaysLeft (rowLeft (glyphEntries form (now (glyphs .entry))) (now (src .entry)) row) m (now (t .entry)) (now (t .exit)) (now (area .entry)) (row .at) pos (now (area .exit)) r ⌝ }
 {
     let mut p = pos;
     let mut i = 0;
     while i < row.len {
-        let slot = row.at + 2 * i;
-        let cover = word_inside(src, slot);
+        let at = row.at + 2 * i;
+        let cover = word_inside(src, at);
         if cover == 0 {
             return 0;
         }
-        p = write_slot(src, cover, glyphs, m, t, area, slot, p);
+        p = write_slot(src, Slot { at, cover }, glyphs, form, m, t, area, p);
         if p == 0 {
             return 0;
         }
@@ -166,14 +213,15 @@ pub fn write_counted_row(
     src: &[u8],
     row: Row,
     glyphs: &[u8],
+    form: usize,
     m: Map,
     t: &mut [u32],
     area: &mut [u8],
     pos: usize,
 ) -> usize
-    requires { ⌜ WritesRow (now src) row (now glyphs) m (now t) (now area) pos × (2 ≤ row .at) × (row .at ≤ length (now area)) ⌝ }
-    ensures { λ r. ⌜ LaysLeft (rowLeft (mapEntries (now (glyphs .entry))) (now (src .entry)) row) m (now (t .entry)) (now (t .exit)) (sets (now (area .entry)) (row .at - 2) (bytes2 (row .len))) (row .at) pos (now (area .exit)) r ⌝ }
+    requires { ⌜ WritesRow form (now src) row (now glyphs) m (now t) (now area) pos × (2 ≤ row .at) × (row .at ≤ length (now area)) ⌝ }
+    ensures { λ r. ⌜ LaysLeft (rowLeft (glyphEntries form (now (glyphs .entry))) (now (src .entry)) row) m (now (t .entry)) (now (t .exit)) (sets (now (area .entry)) (row .at - 2) (bytes2 (row .len))) (row .at) pos (now (area .exit)) r ⌝ }
 {
     put(area, row.at - 2, row.len);
-    write_row(src, row, glyphs, m, t, area, pos)
+    write_row(src, row, glyphs, form, m, t, area, pos)
 }

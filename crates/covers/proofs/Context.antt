@@ -9,7 +9,7 @@ use native.Mathlib.Omega.{arith}
 use lib.ListN.{length, length-append}
 use lib.Seq.{sets, length-sets}
 use Rattle.meaning.specs.Words.{bytes2, flat, twos, bind, mapAll}
-use Rattle.meaning.specs.Maps.{mapEntries}
+use Rattle.meaning.specs.Maps.{glyphEntries}
 use Rattle.meaning.specs.Tables.{reaches}
 use Rattle.meaning.specs.Cut.{cutRecords}
 use Rattle.meaning.specs.Layout.{offsets, blocks, coversLayout, wordsFit}
@@ -21,7 +21,7 @@ use Rattle.fold.specs.declared.Map.{Map}
 use Rattle.area.specs.Extends.{Extends}
 use Rattle.numbers.specs.Entries.{entriesIn}
 use Rattle.numbers.specs.Leaves.{Leaves, leaves-room}
-use Rattle.cover_rows.specs.Rows.{blocksLeft, rowLeft, Lays, LaysLeft, SoundRow, WritesRow}
+use Rattle.cover_rows.specs.Rows.{blocksLeft, rowLeft, Lays, LaysLeft, SoundRow, WritesRow, Bounds}
 use Rattle.cover_rows.specs.Parts.{recordsAt, Plain, Chained}
 use Rattle.covers.specs.Context.{contextLeft, offsetsFit, contextFit, Settles, Asks, Writes}
 use Rattle.cover_rows.specs.declared.Row.{Row}
@@ -172,17 +172,20 @@ chained-grown R area ps rs B I A ab ai aa nb ni na {mid} {next} {a₁} {a₂} {a
 abbrev keptAt : List ℕ → Map → List ℕ → CoverParts → List (ℕ × ℕ)
 keptAt t l s r = cutRecords (entriesIn t l) (recordsAt s (r .records))
 
-module _ {s : List ℕ} {r : CoverParts} {glyphs : List ℕ} {m l : Map} {t area : List ℕ} where
-  module _ (a : Asks false s r glyphs m l t area) where
+module _ {form : ℕ} {s : List ℕ} {r : CoverParts} {glyphs : List ℕ} {m l : Map} {t area : List ℕ} where
+  module _ (a : Asks false form s r glyphs m l t area) where
     -- what the row of a plain context asks, after the records and the counts
     pub plain-asks : {mid next : List ℕ} {p : ℕ} → Extends area (r .records .at) (twos (keptAt t l s r)) mid p
-        → next ≡ sets mid 0 (flat (3 ∷ r .input .len ∷ (p - r .records .at) / 4 ∷ [])) → WritesRow s (r .input) glyphs m t next p
+        → next ≡ sets mid 0 (flat (3 ∷ r .input .len ∷ (p - r .records .at) / 4 ∷ [])) → WritesRow form s (r .input) glyphs m t next p
     plain-asks {mid} {next} {p} w f =
         let q = a .parts .plain refl in
         let e : length next ≡ length mid = ap length f ∙ length-sets mid 0 (flat (3 ∷ r .input .len ∷ (p - r .records .at) / 4 ∷ [])) in
         record {
           row = a .parts .input;
           ready = a .ready;
+          most = a .most;
+          bounds = a .notes .input;
+          room = a .room;
           inside = omega (arith, a .header, q .input, q .records, e, w .same);
           before = omega (arith, q .input, q .records, w .place);
           start = omega (arith, q .records, w .place);
@@ -191,45 +194,48 @@ module _ {s : List ℕ} {r : CoverParts} {glyphs : List ℕ} {m l : Map} {t area
         }
 
     pub plain-settles : {mid next after t₁ : List ℕ} {p end : ℕ} → Extends area (r .records .at) (twos (keptAt t l s r)) mid p
-        → next ≡ sets mid 0 (flat (3 ∷ r .input .len ∷ (p - r .records .at) / 4 ∷ [])) → LaysLeft (rowLeft (mapEntries glyphs) s (r .input)) m t t₁ next (r .input .at) p after end
-        → Writes false s r glyphs l t area after end
+        → next ≡ sets mid 0 (flat (3 ∷ r .input .len ∷ (p - r .records .at) / 4 ∷ [])) → LaysLeft (rowLeft (glyphEntries form glyphs) s (r .input)) m t t₁ next (r .input .at) p after end
+        → Writes false form s r glyphs l t area after end
     unfolding bind
     plain-settles {mid} {next} {after} {t₁} {p} {end} w e d = record {
       same = d .same ∙ ap length e ∙ length-sets mid 0 (flat (3 ∷ r .input .len ∷ (p - r .records .at) / 4 ∷ [])) ∙ w .same;
-      settled = step (rowLeft (mapEntries glyphs) s (r .input)) refl d;
+      settled = step (rowLeft (glyphEntries form glyphs) s (r .input)) refl d;
     }
       where
         q : Plain r
         q = a .parts .plain refl
 
-        step : (o : Option (List (Option (List ℕ)))) → rowLeft (mapEntries glyphs) s (r .input) ≡ o → LaysLeft o m t t₁ next (r .input .at) p after end
-            → Settles (contextLeft false (mapEntries glyphs) (entriesIn t l) s r) (contextFit false (mapEntries glyphs) (entriesIn t l) s r) area after end
-        step none o d = subst (λ (n : ℕ). Settles (contextLeft false (mapEntries glyphs) (entriesIn t l) s r) (contextFit false (mapEntries glyphs) (entriesIn t l) s r) area after n) (sym (d .gone refl)) (settles-none (plain-left (mapEntries glyphs) (entriesIn t l) s r q ∙ rw o refl))
+        step : (o : Option (List (Option (List ℕ)))) → rowLeft (glyphEntries form glyphs) s (r .input) ≡ o → LaysLeft o m t t₁ next (r .input .at) p after end
+            → Settles (contextLeft false (glyphEntries form glyphs) (entriesIn t l) s r) (contextFit false (glyphEntries form glyphs) (entriesIn t l) s r) area after end
+        step none o d = subst (λ (n : ℕ). Settles (contextLeft false (glyphEntries form glyphs) (entriesIn t l) s r) (contextFit false (glyphEntries form glyphs) (entriesIn t l) s r) area after n) (sym (d .gone refl)) (settles-none (plain-left (glyphEntries form glyphs) (entriesIn t l) s r q ∙ rw o refl))
         step (some i) o d =
             let rs = keptAt t l s r in
-            let c : length i ≡ r .input .len = row-length (mapEntries glyphs) s (r .input) i o in
+            let c : length i ≡ r .input .len = row-length (glyphEntries form glyphs) s (r .input) i o in
             let k : (p - r .records .at) / 4 ≡ length rs = omega (arith, w .place, twos-length rs) in
             let f : next ≡ sets mid 0 (flat (3 ∷ r .input .len ∷ length rs ∷ [])) = e ∙ ap (λ (n : ℕ). sets mid 0 (flat (3 ∷ r .input .len ∷ n ∷ []))) k in
             let g = grows-words (grows-start w) (3 ∷ r .input .len ∷ length rs ∷ []) refl (omega (arith, q .records)) f in
             let j = grows-row g i (omega (arith, q .input)) (omega (arith, q .input, q .records)) (d .same) (d .stays refl) in
             let first : r .records .at + 2 * length (twos rs) ≡ 6 + 2 * length i + 4 * length rs = omega (arith, q .records, twos-length rs) in
             let v = grows-end j (omega (arith, q .records, offsets-length (r .records .at + 2 * length (twos rs)) i)) in
-            settles-some (coversLayout false [] i [] rs) (plain-left (mapEntries glyphs) (entriesIn t l) s r q ∙ rw o refl) (layout-long false [] i [] rs)
+            settles-some (coversLayout false [] i [] rs) (plain-left (glyphEntries form glyphs) (entriesIn t l) s r q ∙ rw o refl) (layout-long false [] i [] rs)
             (said-otherwise _ (coversLayout false [] i [] rs) (plain-layout i rs (r .input .len) (r .records .at + 2 * length (twos rs)) c first)
-            (ap (λ (n : ℕ). wordsFit (offsets n i)) first ∙ sym (plain-fit (mapEntries glyphs) (entriesIn t l) s r q o)) v)
+            (ap (λ (n : ℕ). wordsFit (offsets n i)) first ∙ sym (plain-fit (glyphEntries form glyphs) (entriesIn t l) s r q o)) v)
 
-  module _ (a : Asks true s r glyphs m l t area) where
+  module _ (a : Asks true form s r glyphs m l t area) where
     -- how the parts follow each other
     link : Chained r
     link = a .parts .chain refl
 
     -- what a row of a chained context asks
-    row-asks : (row : Row) → SoundRow s row → 2 ≤ row .at → row .at + 2 * row .len + 2 ≤ r .records .at → {t₁ next : List ℕ} {p : ℕ} → Kept (m .at + m .mask + 1) t t₁ → length next ≡ length area → r .records .at - 2 ≤ p
-        → WritesRow s row glyphs m t₁ next p × (2 ≤ row .at) × (row .at ≤ length next)
-    row-asks row sound low high k e h = (
+    row-asks : (row : Row) → SoundRow s row → Bounds form glyphs s row (a .most) → 2 ≤ row .at → row .at + 2 * row .len + 2 ≤ r .records .at → {t₁ next : List ℕ} {p : ℕ} → Kept (m .at + m .mask + 1) t t₁ → length next ≡ length area → r .records .at - 2 ≤ p
+        → WritesRow form s row glyphs m t₁ next p × (2 ≤ row .at) × (row .at ≤ length next)
+    row-asks row sound bounds low high k e h = (
       record {
         row = sound;
-        ready = record { ascend = a .ready .ascend; holds = holds-kept k (omega arith) (a .ready .holds); room = omega (arith, a .ready .room, k .size) };
+        ready = record { map = a .ready .map; holds = holds-kept k (omega arith) (a .ready .holds) };
+        most = a .most;
+        bounds = bounds;
+        room = omega (arith, a .room, k .size);
         inside = omega (arith, a .header);
         before = omega arith;
         start = omega arith;
@@ -241,14 +247,14 @@ module _ {s : List ℕ} {r : CoverParts} {glyphs : List ℕ} {m l : Map} {t area
     )
 
     -- the rows in their order
-    pub back-asks : {next : List ℕ} {p : ℕ} → length next ≡ length area → r .records .at - 2 ≤ p → WritesRow s (r .back) glyphs m t next p × (2 ≤ r .back .at) × (r .back .at ≤ length next)
-    back-asks e h = row-asks (r .back) (a .parts .back) (omega (arith, link .back)) (omega (arith, link .back, link .input, link .ahead, link .records)) (kept-all (m .at + m .mask + 1) t) e h
+    pub back-asks : {next : List ℕ} {p : ℕ} → length next ≡ length area → r .records .at - 2 ≤ p → WritesRow form s (r .back) glyphs m t next p × (2 ≤ r .back .at) × (r .back .at ≤ length next)
+    back-asks e h = row-asks (r .back) (a .parts .back) (a .notes .back) (omega (arith, link .back)) (omega (arith, link .back, link .input, link .ahead, link .records)) (kept-all (m .at + m .mask + 1) t) e h
 
-    pub input-asks : {t₁ next : List ℕ} {p : ℕ} → Kept (m .at + m .mask + 1) t t₁ → length next ≡ length area → r .records .at - 2 ≤ p → WritesRow s (r .input) glyphs m t₁ next p × (2 ≤ r .input .at) × (r .input .at ≤ length next)
-    input-asks k e h = row-asks (r .input) (a .parts .input) (omega (arith, link .input)) (omega (arith, link .ahead, link .records)) k e h
+    pub input-asks : {t₁ next : List ℕ} {p : ℕ} → Kept (m .at + m .mask + 1) t t₁ → length next ≡ length area → r .records .at - 2 ≤ p → WritesRow form s (r .input) glyphs m t₁ next p × (2 ≤ r .input .at) × (r .input .at ≤ length next)
+    input-asks k e h = row-asks (r .input) (a .parts .input) (a .notes .input) (omega (arith, link .input)) (omega (arith, link .ahead, link .records)) k e h
 
-    pub ahead-asks : {t₁ next : List ℕ} {p : ℕ} → Kept (m .at + m .mask + 1) t t₁ → length next ≡ length area → r .records .at - 2 ≤ p → WritesRow s (r .ahead) glyphs m t₁ next p × (2 ≤ r .ahead .at) × (r .ahead .at ≤ length next)
-    ahead-asks k e h = row-asks (r .ahead) (a .parts .ahead) (omega (arith, link .ahead)) (omega (arith, link .records)) k e h
+    pub ahead-asks : {t₁ next : List ℕ} {p : ℕ} → Kept (m .at + m .mask + 1) t t₁ → length next ≡ length area → r .records .at - 2 ≤ p → WritesRow form s (r .ahead) glyphs m t₁ next p × (2 ≤ r .ahead .at) × (r .ahead .at ≤ length next)
+    ahead-asks k e h = row-asks (r .ahead) (a .parts .ahead) (a .notes .ahead) (omega (arith, link .ahead)) (omega (arith, link .records)) k e h
 
     -- the records with their number: there is room for them
     pub counted-written : {mid : List ℕ} {p : ℕ} → Leaves area (r .records .at - 2) (some (length (keptAt t l s r) ∷ twos (keptAt t l s r))) (2 + 4 * r .records .len) mid p → Extends area (r .records .at - 2) (length (keptAt t l s r) ∷ twos (keptAt t l s r)) mid p
@@ -259,54 +265,54 @@ module _ {s : List ℕ} {r : CoverParts} {glyphs : List ℕ} {m l : Map} {t area
       pub next-same : length next ≡ length area
       next-same = ap length e ∙ length-sets mid 0 (bytes2 3) ∙ w .same
 
-      module _ {t₁ a₁ : List ℕ} {q : ℕ} (d : LaysLeft (rowLeft (mapEntries glyphs) s (r .back)) m t t₁ (sets next (r .back .at - 2) (bytes2 (r .back .len))) (r .back .at) p a₁ q) where
+      module _ {t₁ a₁ : List ℕ} {q : ℕ} (d : LaysLeft (rowLeft (glyphEntries form glyphs) s (r .back)) m t t₁ (sets next (r .back .at - 2) (bytes2 (r .back .len))) (r .back .at) p a₁ q) where
         pub back-same : length a₁ ≡ length area
         back-same = d .same ∙ length-sets next (r .back .at - 2) (bytes2 (r .back .len)) ∙ next-same
 
-        pub back-gone : q ≡ 0 → Writes true s r glyphs l t area a₁ 0
+        pub back-gone : q ≡ 0 → Writes true form s r glyphs l t area a₁ 0
         back-gone z = record {
           same = back-same;
-          settled = settles-none (first-none true (mapEntries glyphs) (entriesIn t l) s r (laid-zero (rowLeft (mapEntries glyphs) s (r .back)) d (omega (arith, w .place)) z));
+          settled = settles-none (first-none true (glyphEntries form glyphs) (entriesIn t l) s r (laid-zero (rowLeft (glyphEntries form glyphs) s (r .back)) d (omega (arith, w .place)) z));
         }
 
         pub back-least : (q ≡ 0 → ⊥) → r .records .at - 2 ≤ q
-        back-least z = laid-least (rowLeft (mapEntries glyphs) s (r .back)) d (r .records .at - 2) (omega (arith, w .place)) (omega (arith, a .header, next-same, length-sets next (r .back .at - 2) (bytes2 (r .back .len)))) z
+        back-least z = laid-least (rowLeft (glyphEntries form glyphs) s (r .back)) d (r .records .at - 2) (omega (arith, w .place)) (omega (arith, a .header, next-same, length-sets next (r .back .at - 2) (bytes2 (r .back .len)))) z
 
-        module _ (z : q ≡ 0 → ⊥) {t₂ a₂ : List ℕ} {u : ℕ} (f : LaysLeft (rowLeft (mapEntries glyphs) s (r .input)) m t₁ t₂ (sets a₁ (r .input .at - 2) (bytes2 (r .input .len))) (r .input .at) q a₂ u) where
+        module _ (z : q ≡ 0 → ⊥) {t₂ a₂ : List ℕ} {u : ℕ} (f : LaysLeft (rowLeft (glyphEntries form glyphs) s (r .input)) m t₁ t₂ (sets a₁ (r .input .at - 2) (bytes2 (r .input .len))) (r .input .at) q a₂ u) where
           pub input-same : length a₂ ≡ length area
           input-same = f .same ∙ length-sets a₁ (r .input .at - 2) (bytes2 (r .input .len)) ∙ back-same
 
-          pub input-gone : u ≡ 0 → Writes true s r glyphs l t area a₂ 0
+          pub input-gone : u ≡ 0 → Writes true form s r glyphs l t area a₂ 0
           input-gone y = record {
             same = input-same;
-            settled = settles-none (second-none true (mapEntries glyphs) (entriesIn t l) s r (laid-zero (rowLeft (mapEntries glyphs) s (r .input)) f (omega arith) y));
+            settled = settles-none (second-none true (glyphEntries form glyphs) (entriesIn t l) s r (laid-zero (rowLeft (glyphEntries form glyphs) s (r .input)) f (omega arith) y));
           }
 
           pub input-least : (u ≡ 0 → ⊥) → r .records .at - 2 ≤ u
-          input-least y = laid-least (rowLeft (mapEntries glyphs) s (r .input)) f (r .records .at - 2) (back-least z) (omega (arith, a .header, back-same, length-sets a₁ (r .input .at - 2) (bytes2 (r .input .len)))) y
+          input-least y = laid-least (rowLeft (glyphEntries form glyphs) s (r .input)) f (r .records .at - 2) (back-least z) (omega (arith, a .header, back-same, length-sets a₁ (r .input .at - 2) (bytes2 (r .input .len)))) y
 
-          module _ (y : u ≡ 0 → ⊥) {t₃ a₃ : List ℕ} {end : ℕ} (j : LaysLeft (rowLeft (mapEntries glyphs) s (r .ahead)) m t₂ t₃ (sets a₂ (r .ahead .at - 2) (bytes2 (r .ahead .len))) (r .ahead .at) u a₃ end) where
+          module _ (y : u ≡ 0 → ⊥) {t₃ a₃ : List ℕ} {end : ℕ} (j : LaysLeft (rowLeft (glyphEntries form glyphs) s (r .ahead)) m t₂ t₃ (sets a₂ (r .ahead .at - 2) (bytes2 (r .ahead .len))) (r .ahead .at) u a₃ end) where
             ahead-same : length a₃ ≡ length area
             ahead-same = j .same ∙ length-sets a₂ (r .ahead .at - 2) (bytes2 (r .ahead .len)) ∙ input-same
 
             -- all three rows are left
-            all-rows : (B I A : List (Option (List ℕ))) → rowLeft (mapEntries glyphs) s (r .back) ≡ some B → rowLeft (mapEntries glyphs) s (r .input) ≡ some I → rowLeft (mapEntries glyphs) s (r .ahead) ≡ some A
-                → Settles (contextLeft true (mapEntries glyphs) (entriesIn t l) s r) (contextFit true (mapEntries glyphs) (entriesIn t l) s r) area a₃ end
+            all-rows : (B I A : List (Option (List ℕ))) → rowLeft (glyphEntries form glyphs) s (r .back) ≡ some B → rowLeft (glyphEntries form glyphs) s (r .input) ≡ some I → rowLeft (glyphEntries form glyphs) s (r .ahead) ≡ some A
+                → Settles (contextLeft true (glyphEntries form glyphs) (entriesIn t l) s r) (contextFit true (glyphEntries form glyphs) (entriesIn t l) s r) area a₃ end
             all-rows B I A eb ei ea =
                 let R = r .records .at - 2 in
-                let cb = row-length (mapEntries glyphs) s (r .back) B eb in
-                let ci = row-length (mapEntries glyphs) s (r .input) I ei in
-                let ca = row-length (mapEntries glyphs) s (r .ahead) A ea in
-                settles-some (coversLayout true B I A (keptAt t l s r)) (all-some true (mapEntries glyphs) (entriesIn t l) s r eb ei ea) (layout-long true B I A (keptAt t l s r))
-                (subst (λ (fit : Bool). Ends area (coversLayout true B I A (keptAt t l s r)) fit a₃ end) (sym (all-fit true (mapEntries glyphs) (entriesIn t l) s r eb ei ea))
+                let cb = row-length (glyphEntries form glyphs) s (r .back) B eb in
+                let ci = row-length (glyphEntries form glyphs) s (r .input) I ei in
+                let ca = row-length (glyphEntries form glyphs) s (r .ahead) A ea in
+                settles-some (coversLayout true B I A (keptAt t l s r)) (all-some true (glyphEntries form glyphs) (entriesIn t l) s r eb ei ea) (layout-long true B I A (keptAt t l s r))
+                (subst (λ (fit : Bool). Ends area (coversLayout true B I A (keptAt t l s r)) fit a₃ end) (sym (all-fit true (glyphEntries form glyphs) (entriesIn t l) s r eb ei ea))
                 (chained-grown R area (length (keptAt t l s r) ∷ twos (keptAt t l s r)) (keptAt t l s r) B I A (r .back .at) (r .input .at) (r .ahead .at) (r .back .len) (r .input .len) (r .ahead .len) refl (link .back) (link .input) (link .ahead) (omega (arith, link .records)) cb ci ca w e (d .same) (d .stays eb) (f .same) (f .stays ei) (j .same) (j .stays ea)))
 
-            pub ahead-settles : Writes true s r glyphs l t area a₃ end
-            ahead-settles = record { same = ahead-same; settled = step (rowLeft (mapEntries glyphs) s (r .back)) (rowLeft (mapEntries glyphs) s (r .input)) (rowLeft (mapEntries glyphs) s (r .ahead)) refl refl refl }
+            pub ahead-settles : Writes true form s r glyphs l t area a₃ end
+            ahead-settles = record { same = ahead-same; settled = step (rowLeft (glyphEntries form glyphs) s (r .back)) (rowLeft (glyphEntries form glyphs) s (r .input)) (rowLeft (glyphEntries form glyphs) s (r .ahead)) refl refl refl }
               where
-                step : (o p′ v : Option (List (Option (List ℕ)))) → rowLeft (mapEntries glyphs) s (r .back) ≡ o → rowLeft (mapEntries glyphs) s (r .input) ≡ p′ → rowLeft (mapEntries glyphs) s (r .ahead) ≡ v
-                    → Settles (contextLeft true (mapEntries glyphs) (entriesIn t l) s r) (contextFit true (mapEntries glyphs) (entriesIn t l) s r) area a₃ end
+                step : (o p′ v : Option (List (Option (List ℕ)))) → rowLeft (glyphEntries form glyphs) s (r .back) ≡ o → rowLeft (glyphEntries form glyphs) s (r .input) ≡ p′ → rowLeft (glyphEntries form glyphs) s (r .ahead) ≡ v
+                    → Settles (contextLeft true (glyphEntries form glyphs) (entriesIn t l) s r) (contextFit true (glyphEntries form glyphs) (entriesIn t l) s r) area a₃ end
                 step none p′ v eb ei ea = absurd (z (d .gone eb))
                 step (some B) none v eb ei ea = absurd (y (f .gone ei))
-                step (some B) (some I) none eb ei ea = subst (λ (n : ℕ). Settles (contextLeft true (mapEntries glyphs) (entriesIn t l) s r) (contextFit true (mapEntries glyphs) (entriesIn t l) s r) area a₃ n) (sym (j .gone ea)) (settles-none (third-none true (mapEntries glyphs) (entriesIn t l) s r ea))
+                step (some B) (some I) none eb ei ea = subst (λ (n : ℕ). Settles (contextLeft true (glyphEntries form glyphs) (entriesIn t l) s r) (contextFit true (glyphEntries form glyphs) (entriesIn t l) s r) area a₃ n) (sym (j .gone ea)) (settles-none (third-none true (glyphEntries form glyphs) (entriesIn t l) s r ea))
                 step (some B) (some I) (some A) eb ei ea = all-rows B I A eb ei ea

@@ -8,7 +8,7 @@ use native.Mathlib.Omega.{arith}
 use lib.ListN.{length}
 use Rattle.meaning.specs.Words.{flat, bind, push, mapSome, mapAll}
 use Rattle.meaning.specs.Parts.{coverage}
-use Rattle.meaning.specs.Maps.{mapEntries}
+use Rattle.meaning.specs.Maps.{glyphEntries}
 use Rattle.meaning.specs.Tables.{Table, coverContext}
 use Rattle.meaning.specs.Cut.{unlessEmpty, newCoverage, coversLeft, cutRecords, cut}
 use Rattle.meaning.specs.Layout.{block, coverageWords, coversLayout, tableWords, wordsFit}
@@ -21,20 +21,21 @@ use Rattle.laws.specs.CutGood.{GoodMap, Values, GoodOf}
 use Rattle.laws.specs.CutTables.{cut-good}
 use Rattle.laws.specs.SoundGood.{reaches-length, covers-context-good}
 use Rattle.laws.specs.FitsExactly.{covers-exactly, chained-covers-exactly}
+use Rattle.glyph_runs.specs.Runs.{map-good}
 use Rattle.fold.specs.Cells.{Holds}
 use Rattle.fold.specs.declared.Map.{Map}
 use Rattle.area.specs.Part.{part, take-part}
 use Rattle.room.specs.Laid.{outcomeOf, laidAs, laid-words, laid-over, laid-unfit}
 use Rattle.room.specs.declared.Laid.{Laid}
 use Rattle.room.specs.declared.Laid.the-variants.{Nothing, TooBig}
-use Rattle.tried.specs.Tries.{Tries}
+use Rattle.tried.specs.Tries.{Tries, tries-less}
 use Rattle.tried.specs.declared.Tried.{Tried}
-use Rattle.tried.specs.declared.Tried.the-variants.{Short, Became}
+use Rattle.tried.specs.declared.Tried.the-variants.{FewCells, Short, Became}
 use Rattle.numbers.specs.Entries.{entriesIn}
 use Rattle.numbers.specs.Alike.{holds-alike, records-alike}
-use Rattle.cover_rows.specs.Rows.{blockLeft, blocksLeft}
+use Rattle.cover_rows.specs.Rows.{blockLeft, blocksLeft, MostRow}
 use Rattle.cover_rows.specs.Parts.{coversAt, recordsAt, IsContext}
-use Rattle.covers.specs.Context.{contextLeft, offsetsFit, contextFit, Settles, Asks, Writes}
+use Rattle.covers.specs.Context.{contextLeft, offsetsFit, contextFit, Settles, MostNotes, Asks, Writes}
 use Rattle.covers.specs.Cutting.{wordsInto, HandsOver, Cuts, CutsInto}
 use Rattle.cover_rows.specs.declared.Row.{Row}
 use Rattle.cover_rows.specs.declared.CoverParts.{CoverParts}
@@ -171,17 +172,31 @@ module _ {end : ℕ} {area out : List ℕ} where
   pub hands-over : {laid : Laid} {after : List ℕ} → (end ≡ 0 → ⊥) → end ≤ length area → outcomeOf laid after ≡ laidAs true out (part area 0 0 ++ part area 0 (end - 0)) → HandsOver end area (Became laid) out after
   hands-over z l e = record { handed = λ {left = left} {fit = fit} {before = before} k s. e ∙ settled-bytes left fit k z (omega arith) out }
 
+-- The rows of a context, one after the other: each bound is no less than the one before it.
+pub most-of : {form : ℕ} {glyphs s : List ℕ} {r : CoverParts} {a b n : ℕ} → MostRow form glyphs s (r .back) 0 a → MostRow form glyphs s (r .input) a b → MostRow form glyphs s (r .ahead) b n → MostNotes form glyphs s r n
+most-of k l m = record {
+  back = λ i h z. omega (arith, k .bounds i h z, l .above, m .above);
+  input = λ i h z. omega (arith, l .bounds i h z, m .above);
+  ahead = m .bounds;
+  small = m .small (l .small (k .small (omega arith)));
+}
+
 -- A whole cut.
-module _ {chained : Bool} {s glyphs : List ℕ} {m l : Map} {t area : List ℕ} (a : Cuts chained s glyphs m l t area) {r : CoverParts} (k : IsContext chained s r) where
-  pub cut-asks : r .records .at + 4 * r .records .len ≤ length area → Asks chained s r glyphs m l t area
-  cut-asks h = record { parts = k; ready = a .ready; lookups = a .lookups; header = h; short = a .short; cells = a .cells }
+module _ {chained : Bool} {form : ℕ} {s glyphs : List ℕ} {m l : Map} {t area : List ℕ} (a : Cuts chained form s glyphs m l t area) {r : CoverParts} (k : IsContext chained s r) {n : ℕ} (c : MostNotes form glyphs s r n) where
+  pub cut-asks : m .at + m .mask + 1 + n < length t → r .records .at + 4 * r .records .len ≤ length area → Asks chained form s r glyphs m l t area
+  cut-asks f h = record { parts = k; ready = a .ready; most = n; notes = c; room = f; lookups = a .lookups; header = h; short = a .short; cells = a .cells }
+
+  -- there are too few cells for the notes
+  pub cut-few : {out : List ℕ} → length t ≤ m .at + m .mask + 1 + n → CutsInto chained form s glyphs m l t area FewCells out out
+  cut-few h = record { cuts = λ {es = es} o v. (omega (arith, c .small), refl) }
 
   -- the header alone is longer than the area
-  pub cut-short : {out : List ℕ} → length area < r .records .at + 4 * r .records .len → CutsInto chained s glyphs l t area Short out out
+  pub cut-short : {out : List ℕ} → length area < r .records .at + 4 * r .records .len → CutsInto chained form s glyphs m l t area Short out out
   cut-short h = record { cuts = λ {es = es} o v. (omega (arith, k .records, a .source), refl) }
 
-  pub cut-into : {next out after : List ℕ} {end : ℕ} {x : Tried} → Writes chained s r glyphs l t area next end → HandsOver end next x out after → CutsInto chained s glyphs l t area x out after
+  pub cut-into : {next out after : List ℕ} {end : ℕ} {x : Tried} → Writes chained form s r glyphs l t area next end → HandsOver end next x out after → CutsInto chained form s glyphs m l t area x out after
   cut-into {next} {out} {after} {end} {x} w h = record {
-    cuts = λ {es = es} o u. subst (λ (v : Outcome). Tries (⊥) (length area < limit) x out after v) (held-is k (covers-context-good s (a .bytes) chained (a .sound)) (mapEntries glyphs) o (a .good) u out)
-        (rw (w .same) at (h .handed (w .settled) (w .same)));
+    cuts = λ {es = es} o u. tries-less ⊥ (length area < limit) (length t ≤ m .at + m .mask + 1 + 65536) (length area < limit) x out after (written out (cut (glyphEntries form glyphs) es (coverContext chained s))) (λ f. absurd f) (λ f. f)
+        (subst (λ (v : Outcome). Tries (⊥) (length area < limit) x out after v) (held-is k (covers-context-good s (a .bytes) chained (a .sound)) (glyphEntries form glyphs) o (map-good (a .ready .map)) u out)
+        (rw (w .same) at (h .handed (w .settled) (w .same))));
   }

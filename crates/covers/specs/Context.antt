@@ -6,14 +6,14 @@ use mathlib.Core.Option.{Option, none, some, Option·getD}
 use mathlib.Core.List.{List}
 use lib.ListN.{length}
 use Rattle.meaning.specs.Words.{bind}
-use Rattle.meaning.specs.Maps.{mapEntries}
+use Rattle.meaning.specs.Maps.{glyphEntries}
 use Rattle.meaning.specs.Cut.{cutRecords}
 use Rattle.meaning.specs.Layout.{offsets, blocks, coversLayout, wordsFit}
 use Rattle.fold.specs.Cells.{Inside}
 use Rattle.fold.specs.declared.Map.{Map}
 use Rattle.area.specs.Extends.{Extends}
 use Rattle.numbers.specs.Entries.{entriesIn}
-use Rattle.cover_rows.specs.Rows.{rowLeft, Ready}
+use Rattle.cover_rows.specs.Rows.{rowLeft, Ready, Bounds}
 use Rattle.cover_rows.specs.Parts.{recordsAt, IsContext}
 use Rattle.cover_rows.specs.declared.CoverParts.{CoverParts}
 
@@ -48,16 +48,26 @@ pub record Settles (left : Option (List ℕ)) (fit : Bool) (before after : List 
   pub near : {ws : List ℕ} → left ≡ some ws → r ≤ length before → fit ≡ true
   pub full : {ws : List ℕ} → left ≡ some ws → length before < r → fit ≡ true → length before < 2 * length ws
 
--- what the functions that write a context ask: its parts are sound, the cells of l lie inside, m holds the glyph map, and the area has room for the header with all records
-pub record Asks (chained : Bool) (s : List ℕ) (r : CoverParts) (glyphs : List ℕ) (m l : Map) (t area : List ℕ) : Type 0 where
+-- n is a bound for the glyphs that can be noted of any coverage of the context, and at most 65,536
+pub record MostNotes (form : ℕ) (glyphs s : List ℕ) (r : CoverParts) (n : ℕ) : Type 0 where
+  pub back : Bounds form glyphs s (r .back) n
+  pub input : Bounds form glyphs s (r .input) n
+  pub ahead : Bounds form glyphs s (r .ahead) n
+  pub small : n ≤ 65536
+
+-- what the functions that write a context ask: its parts are sound, the cells of l lie inside, m holds the glyph map, behind its cells there is one cell more than glyphs that can be noted, and the area has room for the header with all records
+pub record Asks (chained : Bool) (form : ℕ) (s : List ℕ) (r : CoverParts) (glyphs : List ℕ) (m l : Map) (t area : List ℕ) : Type 0 where
   pub parts : IsContext chained s r
-  pub ready : Ready glyphs m t
+  pub ready : Ready form glyphs m t
+  pub most : ℕ
+  pub notes : MostNotes form glyphs s r most
+  pub room : m .at + m .mask + 1 + most < length t
   pub lookups : Inside t l
   pub header : r .records .at + 4 * r .records .len ≤ length area
   pub short : length area ≤ 0x1_0000_0000
   pub cells : length t ≤ 0x1_0000_0000
 
 -- the context is written, under the lookup map that the cells of l hold
-pub record Writes (chained : Bool) (s : List ℕ) (r : CoverParts) (glyphs : List ℕ) (l : Map) (t before after : List ℕ) (end : ℕ) : Type 0 where
+pub record Writes (chained : Bool) (form : ℕ) (s : List ℕ) (r : CoverParts) (glyphs : List ℕ) (l : Map) (t before after : List ℕ) (end : ℕ) : Type 0 where
   pub same : length after ≡ length before
-  pub settled : Settles (contextLeft chained (mapEntries glyphs) (entriesIn t l) s r) (contextFit chained (mapEntries glyphs) (entriesIn t l) s r) before after end
+  pub settled : Settles (contextLeft chained (glyphEntries form glyphs) (entriesIn t l) s r) (contextFit chained (glyphEntries form glyphs) (entriesIn t l) s r) before after end

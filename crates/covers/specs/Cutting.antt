@@ -1,19 +1,20 @@
 -- What is left of a context by coverages, as the definitions say it, and what is handed over.
-use Prim.Native.Nat.{ℕ, _≤_, _<_}
+use Prim.Native.Nat.{ℕ, _+_, _≤_, _<_}
 use mathlib.Core.Path.{_≡_}
 use mathlib.Core.Bool.{Bool, true}
 use mathlib.Core.Option.{Option, none, some}
 use mathlib.Core.List.{List}
 use lib.ListN.{length}
-use Rattle.meaning.specs.Words.{flat, keys, values, ascends}
-use Rattle.meaning.specs.Maps.{mapEntries}
+use Rattle.meaning.specs.Words.{flat, keys, ascends}
+use Rattle.meaning.specs.Maps.{mapEntries, glyphEntries}
 use Rattle.meaning.specs.Tables.{coverContext}
 use Rattle.meaning.specs.Fault.{coversFault}
 use Rattle.meaning.specs.Cut.{cut}
 use Rattle.meaning.specs.Subset.{Outcome, refused, limit, written}
-use Rattle.laws.specs.CutGood.{GoodMap, Values}
+use Rattle.laws.specs.CutGood.{Values}
 use Rattle.laws.specs.SoundGood.{Bytes}
 use Rattle.room.specs.Laid.{laidAs}
+use Rattle.glyph_runs.specs.Runs.{GlyphMap}
 use Rattle.fold.specs.Cells.{Inside, Holds}
 use Rattle.fold.specs.declared.Map.{Map}
 use Rattle.tried.specs.Tries.{Tries}
@@ -30,31 +31,31 @@ wordsInto fit out (some ws) = laidAs fit out (flat ws)
 pub record HandsOver (end : ℕ) (area : List ℕ) (r : Tried) (out after : List ℕ) : Type 0 where
   pub handed : {left : Option (List ℕ)} {fit : Bool} {before : List ℕ} → Settles left fit before area end → length area ≡ length before → Tries (⊥) (length area < limit) r out after (wordsInto fit out left)
 
--- what a cut asks where both maps lie in cells: the source is bytes without a fault and not over the limit, and both columns of the glyph map ascend
-pub record Cuts (chained : Bool) (s glyphs : List ℕ) (m l : Map) (t area : List ℕ) : Type 0 where
+-- what a cut asks where both maps lie in cells: the source is bytes without a fault and not over the limit
+pub record Cuts (chained : Bool) (form : ℕ) (s glyphs : List ℕ) (m l : Map) (t area : List ℕ) : Type 0 where
   pub sound : coversFault chained s ≡ none
   pub bytes : Bytes s
-  pub good : GoodMap (mapEntries glyphs)
   pub source : length s ≤ limit
-  pub ready : Ready glyphs m t
+  pub ready : Ready form glyphs m t
   pub lookups : Inside t l
+  pub near : m .at + m .mask + 1 ≤ 131072
   pub short : length area ≤ 0x1_0000_0000
   pub cells : length t ≤ 0x1_0000_0000
 
--- whatever lookup map of words the cells of l hold, what is left of the context is handed over
-pub record CutsInto (chained : Bool) (s glyphs : List ℕ) (l : Map) (t area : List ℕ) (r : Tried) (out after : List ℕ) : Type 0 where
-  pub cuts : {es : List (ℕ × ℕ)} → Holds t l es → Values es → Tries (⊥) (length area < limit) r out after (written out (cut (mapEntries glyphs) es (coverContext chained s)))
+-- whatever lookup map of words the cells of l hold, what is left of the context is handed over; the cells were too few only if there are no more than 65,536 behind those of m
+pub record CutsInto (chained : Bool) (form : ℕ) (s glyphs : List ℕ) (m l : Map) (t area : List ℕ) (r : Tried) (out after : List ℕ) : Type 0 where
+  pub cuts : {es : List (ℕ × ℕ)} → Holds t l es → Values es
+      → Tries (length t ≤ m .at + m .mask + 1 + 65536) (length area < limit) r out after (written out (cut (glyphEntries form glyphs) es (coverContext chained s)))
 
--- cells that are enough for any source: two maps, and a note for each entry of the glyph map and one more
+-- cells that are enough for any source: two maps, and a note for each glyph and one more
 abbrev pub enoughCells : ℕ
 enoughCells = 196609
 
--- what a cut asks: the source has no fault and is not over the limit, and both columns of the glyph map and the old numbers of the lookup map ascend
-pub record Sound (chained : Bool) (s glyphs lookups : List ℕ) : Type 0 where
+-- what a cut asks: the source has no fault and is not over the limit, the glyph map is good, and the old numbers of the lookup map ascend
+pub record Sound (chained : Bool) (form : ℕ) (s glyphs lookups : List ℕ) : Type 0 where
   pub sound : coversFault chained s ≡ none
   pub source : length s ≤ limit
-  pub glyphs-ascend : ascends (keys (mapEntries glyphs)) ≡ true
-  pub new-ascend : ascends (values (mapEntries glyphs)) ≡ true
+  pub map : GlyphMap form glyphs
   pub lookups-ascend : ascends (keys (mapEntries lookups)) ≡ true
 
 -- r is the lesser of a and b

@@ -8,15 +8,15 @@ use native.Mathlib.Omega.{arith}
 use lib.ListN.{length}
 use lib.Dec.{eqb}
 use borrow.Author.Tests.{ne-eqb, eq-eqb, le-leb}
-use Rattle.meaning.specs.Words.{word, inside, isSome, keys, values, ascends}
+use Rattle.meaning.specs.Words.{word, inside, isSome, keys, ascends}
 use Rattle.meaning.specs.Maps.{mapEntries}
 use Rattle.meaning.specs.Parts.{coverage, classes}
 use Rattle.meaning.specs.Tables.{Table, fieldCount, reach, reaches, pairSet, cellRows, pairTable, classContext, coverContext, context, single, table}
 use Rattle.meaning.specs.Fault.{headerFault, enough, pairFault, fault}
 use Rattle.meaning.specs.Cut.{cut}
 use Rattle.meaning.specs.Subset.{limit, written}
-use Rattle.laws.specs.Ascends.{glyphs-ascend, lookups-ascend}
-use Rattle.laws.specs.ClassesLeft.{glyph-values}
+use Rattle.laws.specs.Ascends.{lookups-ascend}
+use Rattle.glyph_runs.specs.Runs.{GlyphMap}
 use Rattle.checks.proofs.Laws.{context-1, context-3, pairs-1, source-short, source-plain, source-chained, source-ligatures, source-pairs, source-singles}
 use Rattle.kept_sets.specs.Sorts.{setFaultOf}
 use Rattle.kept_sets.specs.declared.Sort.the-variants.{Rules, Ligatures}
@@ -68,16 +68,16 @@ module _ (kind : ℕ) (s : List ℕ) where
 
 -- A context by its format.
 module _ (chained : Bool) (s : List ℕ) {format : ℕ} (e : format ≡ word s 0) where
-  module _ {g l : List ℕ} (a : SoundContext chained s g l) where
-    pub asks-1 : format ≡ 1 → (headerFault (enough s (word s 4)) 0 4 (setFaultOf (Rules chained) s) s ≡ none) × (length s ≤ limit) × (ascends (keys (mapEntries g)) ≡ true) × (ascends (keys (mapEntries l)) ≡ true) × (ascends (values (mapEntries g)) ≡ true)
+  module _ {form : ℕ} {g l : List ℕ} (a : SoundContext chained form s g l) where
+    pub asks-1 : format ≡ 1 → (headerFault (enough s (word s 4)) 0 4 (setFaultOf (Rules chained) s) s ≡ none) × (length s ≤ limit) × GlyphMap form g × (ascends (keys (mapEntries l)) ≡ true)
     unfolding setFaultOf
-    asks-1 f = (sym (context-1 chained s e f) ∙ a .sound, a .source, glyphs-ascend g (a .glyphs-good), lookups-ascend l (a .lookups-good), glyph-values g (a .glyphs-good))
+    asks-1 f = (sym (context-1 chained s e f) ∙ a .sound, a .source, a .map, lookups-ascend l (a .lookups-good))
 
-    pub asks-2 : format ≡ 2 → classes.Sound chained s g l
-    asks-2 f = record { sound = a .sound; format = sym e ∙ f; source = a .source; glyphs-good = a .glyphs-good; lookups-ascend = lookups-ascend l (a .lookups-good) }
+    pub asks-2 : format ≡ 2 → classes.Sound chained s form g l
+    asks-2 f = record { sound = a .sound; format = sym e ∙ f; source = a .source; form-good = a .map .form-good; glyphs-good = a .map .good; lookups-ascend = lookups-ascend l (a .lookups-good) }
 
-    pub asks-3 : (format ≡ 1 → ⊥) → (format ≡ 2 → ⊥) → covers.Sound chained s g l
-    asks-3 f h = record { sound = sym (context-3 chained s e f h) ∙ a .sound; source = a .source; glyphs-ascend = glyphs-ascend g (a .glyphs-good); new-ascend = glyph-values g (a .glyphs-good); lookups-ascend = lookups-ascend l (a .lookups-good) }
+    pub asks-3 : (format ≡ 1 → ⊥) → (format ≡ 2 → ⊥) → covers.Sound chained form s g l
+    asks-3 f h = record { sound = sym (context-3 chained s e f h) ∙ a .sound; source = a .source; map = a .map; lookups-ascend = lookups-ascend l (a .lookups-good) }
 
   says-1 : format ≡ 1 → glyphContext chained s ≡ context chained s
   unfolding context
@@ -114,12 +114,12 @@ sound-inside kind s h = step (inside s 0 2) refl
 
 -- A pair table by its format.
 module _ (s : List ℕ) {format : ℕ} (e : format ≡ word s 0) where
-  module _ {g : List ℕ} (a : SoundPairs s g) where
-    pub asks-glyph-pairs : format ≡ 1 → (glyphPairs.pairFault s ≡ none) × (length s ≤ limit) × (ascends (keys (mapEntries g)) ≡ true) × (ascends (values (mapEntries g)) ≡ true)
-    asks-glyph-pairs f = (sym (pairs-1 s e f) ∙ sym (source-pairs 4 s (sound-inside 4 s (a .sound)) refl) ∙ a .sound, a .source, glyphs-ascend g (a .glyphs-good), glyph-values g (a .glyphs-good))
+  module _ {form : ℕ} {g : List ℕ} (a : SoundPairs form s g) where
+    pub asks-glyph-pairs : format ≡ 1 → (glyphPairs.pairFault s ≡ none) × (length s ≤ limit) × GlyphMap form g
+    asks-glyph-pairs f = (sym (pairs-1 s e f) ∙ sym (source-pairs 4 s (sound-inside 4 s (a .sound)) refl) ∙ a .sound, a .source, a .map)
 
-    pub asks-class-pairs : (format ≡ 1 → ⊥) → classPairs.Sound s g
-    asks-class-pairs f = record { sound = a .sound; format = λ z. f (e ∙ z); glyphs-good = a .glyphs-good }
+    pub asks-class-pairs : (format ≡ 1 → ⊥) → classPairs.Sound s form g
+    asks-class-pairs f = record { sound = a .sound; format = λ z. f (e ∙ z); form-good = a .map .form-good; glyphs-good = a .map .good }
 
   says-glyph-pairs : format ≡ 1 → glyphPairs.pairTable s ≡ pairTable s
   unfolding pairTable
@@ -163,25 +163,25 @@ pair-lookups g l s = step (eqb (word s 0) 1)
 
 -- A source by its kind.
 module _ (kind : ℕ) (s : List ℕ) where
-  module _ {g l : List ℕ} (a : Sound kind s g l) where
+  module _ {form : ℕ} {g l : List ℕ} (a : Sound kind form s g l) where
     starts : inside s 0 2 ≡ true
     starts = sound-inside kind s (a .sound)
 
-    pub asks-plain : kind ≡ 1 → SoundContext false s g l
-    asks-plain e = record { sound = sym (source-plain kind s starts e) ∙ a .sound; source = a .source; glyphs-good = a .glyphs-good; lookups-good = a .lookups-good }
+    pub asks-plain : kind ≡ 1 → SoundContext false form s g l
+    asks-plain e = record { sound = sym (source-plain kind s starts e) ∙ a .sound; source = a .source; map = a .map; lookups-good = a .lookups-good }
 
-    pub asks-chained : kind ≡ 2 → SoundContext true s g l
-    asks-chained e = record { sound = sym (source-chained kind s starts e) ∙ a .sound; source = a .source; glyphs-good = a .glyphs-good; lookups-good = a .lookups-good }
+    pub asks-chained : kind ≡ 2 → SoundContext true form s g l
+    asks-chained e = record { sound = sym (source-chained kind s starts e) ∙ a .sound; source = a .source; map = a .map; lookups-good = a .lookups-good }
 
-    pub asks-ligatures : kind ≡ 3 → (headerFault (enough s (word s 4)) 0 4 (setFaultOf Ligatures s) s ≡ none) × (length s ≤ limit) × (ascends (keys (mapEntries g)) ≡ true) × (ascends (values (mapEntries g)) ≡ true)
+    pub asks-ligatures : kind ≡ 3 → (headerFault (enough s (word s 4)) 0 4 (setFaultOf Ligatures s) s ≡ none) × (length s ≤ limit) × GlyphMap form g
     unfolding setFaultOf
-    asks-ligatures e = (sym (source-ligatures kind s starts e) ∙ a .sound, a .source, glyphs-ascend g (a .glyphs-good), glyph-values g (a .glyphs-good))
+    asks-ligatures e = (sym (source-ligatures kind s starts e) ∙ a .sound, a .source, a .map)
 
-    pub asks-pairs : kind ≡ 4 → SoundPairs s g
-    asks-pairs e = record { sound = subst (λ (k : ℕ). fault k s ≡ none) e (a .sound); source = a .source; glyphs-good = a .glyphs-good }
+    pub asks-pairs : kind ≡ 4 → SoundPairs form s g
+    asks-pairs e = record { sound = subst (λ (k : ℕ). fault k s ≡ none) e (a .sound); source = a .source; map = a .map }
 
-    pub asks-singles : (kind ≡ 1 → ⊥) → (kind ≡ 2 → ⊥) → (kind ≡ 3 → ⊥) → (kind ≡ 4 → ⊥) → singles.Sound s g
-    asks-singles x y z w = record { sound = sym (source-singles kind s starts x y z w) ∙ a .sound; source = a .source; glyphs-ascend = glyphs-ascend g (a .glyphs-good); new-ascend = glyph-values g (a .glyphs-good) }
+    pub asks-singles : (kind ≡ 1 → ⊥) → (kind ≡ 2 → ⊥) → (kind ≡ 3 → ⊥) → (kind ≡ 4 → ⊥) → singles.Sound form s g
+    asks-singles x y z w = record { sound = sym (source-singles kind s starts x y z w) ∙ a .sound; source = a .source; map = a .map }
 
   says-plain : kind ≡ 1 → context false s ≡ table kind s
   unfolding table

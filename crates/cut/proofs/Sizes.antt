@@ -25,14 +25,14 @@ pub cleared-length : (n : ℕ) → length (cleared n) ≡ n
 cleared-length n = length-replicate n 0
 
 -- for any number, so that no scratch is written out
-cleared-enough : (n : ℕ) {k : ℕ} → k ≤ n → k ≤ length (cleared n)
-cleared-enough n h = rw (cleared-length n) h
+enough-cleared : (m n : ℕ) → m ≤ n → m ≤ length (cleared n)
+enough-cleared m n h = rw (cleared-length n) h
 
 -- scratch that is enough, by the format
 module _ (kind : ℕ) (s : List ℕ) where
   pub all-cells : cellsFor kind s ≤ length (cleared classCells)
   unfolding cellsFor
-  all-cells = cleared-enough classCells (step (byClasses kind s))
+  all-cells = enough-cleared (cellsFor kind s) classCells (step (byClasses kind s))
     where
       step : (b : Bool) → cond b classCells otherCells ≤ classCells
       step true = omega arith
@@ -40,10 +40,10 @@ module _ (kind : ℕ) (s : List ℕ) where
 
   pub other-cells : byClasses kind s ≡ false → cellsFor kind s ≤ length (cleared otherCells)
   unfolding cellsFor
-  other-cells e = cleared-enough otherCells (rw e (omega arith))
+  other-cells e = enough-cleared (cellsFor kind s) otherCells (rw e (omega arith))
 
 pub all-bytes : enoughBytes ≤ length (cleared enoughBytes)
-all-bytes = cleared-enough enoughBytes (omega arith)
+all-bytes = enough-cleared enoughBytes enoughBytes (omega arith)
 
 -- what became of it
 pub became : (few short : Type 0) (r : Tried) (before after : List ℕ) (made : Outcome) {laid : Laid} → Tries few short r before after made → r ≡ Became laid → outcomeOf laid after ≡ made

@@ -7,7 +7,8 @@ use mathlib.Core.List.{List}
 use lib.ListN.{length}
 use lib.Dec.{leb, eqb}
 use Rattle.meaning.specs.Words.{word}
-use Rattle.meaning.specs.Maps.{goodGlyphs, goodLookups}
+use Rattle.meaning.specs.Maps.{goodLookups}
+use Rattle.glyph_runs.specs.Runs.{GlyphMap}
 use Rattle.meaning.specs.Fault.{contextFault, fault}
 use Rattle.meaning.specs.Subset.{Outcome, limit}
 use Rattle.tried.specs.Tries.{Tries}
@@ -16,24 +17,24 @@ use Rattle.covers.specs.Cutting as covers
 use Rattle.class_contexts.specs.Cutting as classes
 
 -- what a cut asks: the source has no fault and is not over the limit, and both maps are good
-pub record Sound (kind : ℕ) (s glyphs lookups : List ℕ) : Type 0 where
+pub record Sound (kind form : ℕ) (s glyphs lookups : List ℕ) : Type 0 where
   pub sound : fault kind s ≡ none
   pub source : length s ≤ limit
-  pub glyphs-good : goodGlyphs glyphs ≡ true
+  pub map : GlyphMap form glyphs
   pub lookups-good : goodLookups lookups ≡ true
 
 -- the same of a context
-pub record SoundContext (chained : Bool) (s glyphs lookups : List ℕ) : Type 0 where
+pub record SoundContext (chained : Bool) (form : ℕ) (s glyphs lookups : List ℕ) : Type 0 where
   pub sound : contextFault chained s ≡ none
   pub source : length s ≤ limit
-  pub glyphs-good : goodGlyphs glyphs ≡ true
+  pub map : GlyphMap form glyphs
   pub lookups-good : goodLookups lookups ≡ true
 
 -- and of a pair table
-pub record SoundPairs (s glyphs : List ℕ) : Type 0 where
+pub record SoundPairs (form : ℕ) (s glyphs : List ℕ) : Type 0 where
   pub sound : fault 4 s ≡ none
   pub source : length s ≤ limit
-  pub glyphs-good : goodGlyphs glyphs ≡ true
+  pub map : GlyphMap form glyphs
 
 -- the bytes of an area that are enough for any source
 abbrev pub enoughBytes : ℕ

@@ -16,7 +16,7 @@ ghost use mathlib.Core.Bool.{false};
 ghost use mathlib.Core.List.{[]};
 ghost use Prim.Native.Nat.{_≤_, _<_};
 ghost use lib.ListN.{length};
-ghost use Rattle.meaning.specs.Maps.{mapEntries};
+ghost use Rattle.meaning.specs.Maps.{mapEntries, glyphEntries};
 ghost use Rattle.meaning.specs.Tables.{context, pairTable, table};
 ghost use Rattle.meaning.specs.Cut.{cut};
 ghost use Rattle.meaning.specs.Subset.{limit, written};
@@ -54,31 +54,39 @@ fn context_in(
     chained: bool,
     src: &[u8],
     glyphs: &[u8],
+    form: usize,
     lookups: &[u8],
     t: &mut [u32],
     area: &mut [u8],
     out: &mut [u8],
 ) -> Tried
-    requires { ⌜ SoundContext chained (now src) (now glyphs) (now lookups) ⌝ }
-    ensures { λ r. ⌜ Tries (length (now (t .entry)) < contextCells (now (src .entry))) (length (now (area .entry)) < enoughBytes) r (now (out .entry)) (now (out .exit)) (written (now (out .entry)) (cut (mapEntries (now (glyphs .entry))) (mapEntries (now (lookups .entry))) (context chained (now (src .entry))))) ⌝ }
+    requires { ⌜ SoundContext chained form (now src) (now glyphs) (now lookups) ⌝ }
+    ensures { λ r. ⌜ Tries (length (now (t .entry)) < contextCells (now (src .entry))) (length (now (area .entry)) < enoughBytes) r (now (out .entry)) (now (out .exit)) (written (now (out .entry)) (cut (glyphEntries form (now (glyphs .entry))) (mapEntries (now (lookups .entry))) (context chained (now (src .entry))))) ⌝ }
 {
     let format = word_at(src, 0);
     match format {
-        1 => contexts(chained, src, glyphs, lookups, t, area, out),
-        2 => by_class(chained, src, glyphs, lookups, t, area, out),
-        _ => by_cover(chained, src, glyphs, lookups, t, area, out),
+        1 => contexts(chained, src, glyphs, form, lookups, t, area, out),
+        2 => by_class(chained, src, glyphs, form, lookups, t, area, out),
+        _ => by_cover(chained, src, glyphs, form, lookups, t, area, out),
     }
 }
 
 // What is left of a sound pair table, by its format.
-fn pairs_in(src: &[u8], glyphs: &[u8], t: &mut [u32], area: &mut [u8], out: &mut [u8]) -> Tried
-    requires { ⌜ SoundPairs (now src) (now glyphs) ⌝ }
-    ensures { λ r. ⌜ Tries (length (now (t .entry)) < pairCells (now (src .entry))) (length (now (area .entry)) < enoughBytes) r (now (out .entry)) (now (out .exit)) (written (now (out .entry)) (cut (mapEntries (now (glyphs .entry))) [] (pairTable (now (src .entry))))) ⌝ }
+fn pairs_in(
+    src: &[u8],
+    glyphs: &[u8],
+    form: usize,
+    t: &mut [u32],
+    area: &mut [u8],
+    out: &mut [u8],
+) -> Tried
+    requires { ⌜ SoundPairs form (now src) (now glyphs) ⌝ }
+    ensures { λ r. ⌜ Tries (length (now (t .entry)) < pairCells (now (src .entry))) (length (now (area .entry)) < enoughBytes) r (now (out .entry)) (now (out .exit)) (written (now (out .entry)) (cut (glyphEntries form (now (glyphs .entry))) [] (pairTable (now (src .entry))))) ⌝ }
 {
     let format = word_at(src, 0);
     match format {
-        1 => pairs(src, glyphs, t, area, out),
-        _ => class_pairs(src, glyphs, t, area, out),
+        1 => pairs(src, glyphs, form, t, area, out),
+        _ => class_pairs(src, glyphs, form, t, area, out),
     }
 }
 
@@ -88,31 +96,39 @@ pub fn cut_in(
     kind: usize,
     src: &[u8],
     glyphs: &[u8],
+    form: usize,
     lookups: &[u8],
     t: &mut [u32],
     area: &mut [u8],
     out: &mut [u8],
 ) -> Tried
-    requires { ⌜ Sound kind (now src) (now glyphs) (now lookups) ⌝ }
-    ensures { λ r. ⌜ Tries (length (now (t .entry)) < cellsFor kind (now (src .entry))) (length (now (area .entry)) < enoughBytes) r (now (out .entry)) (now (out .exit)) (written (now (out .entry)) (cut (mapEntries (now (glyphs .entry))) (mapEntries (now (lookups .entry))) (table kind (now (src .entry))))) ⌝ }
+    requires { ⌜ Sound kind form (now src) (now glyphs) (now lookups) ⌝ }
+    ensures { λ r. ⌜ Tries (length (now (t .entry)) < cellsFor kind (now (src .entry))) (length (now (area .entry)) < enoughBytes) r (now (out .entry)) (now (out .exit)) (written (now (out .entry)) (cut (glyphEntries form (now (glyphs .entry))) (mapEntries (now (lookups .entry))) (table kind (now (src .entry))))) ⌝ }
 {
     match kind {
-        1 => context_in(false, src, glyphs, lookups, t, area, out),
-        2 => context_in(true, src, glyphs, lookups, t, area, out),
-        3 => ligatures(src, glyphs, t, area, out),
-        4 => pairs_in(src, glyphs, t, area, out),
-        _ => singles(src, glyphs, t, area, out),
+        1 => context_in(false, src, glyphs, form, lookups, t, area, out),
+        2 => context_in(true, src, glyphs, form, lookups, t, area, out),
+        3 => ligatures(src, glyphs, form, t, area, out),
+        4 => pairs_in(src, glyphs, form, t, area, out),
+        _ => singles(src, glyphs, form, t, area, out),
     }
 }
 
 // With little scratch, which is enough for most tables of a small font.
-fn in_little(kind: usize, src: &[u8], glyphs: &[u8], lookups: &[u8], out: &mut [u8]) -> Tried
-    requires { ⌜ Sound kind (now src) (now glyphs) (now lookups) ⌝ }
-    ensures { λ r. ⌜ UnlessShort r (now (out .entry)) (now (out .exit)) (written (now (out .entry)) (cut (mapEntries (now (glyphs .entry))) (mapEntries (now (lookups .entry))) (table kind (now (src .entry))))) ⌝ }
+fn in_little(
+    kind: usize,
+    src: &[u8],
+    glyphs: &[u8],
+    form: usize,
+    lookups: &[u8],
+    out: &mut [u8],
+) -> Tried
+    requires { ⌜ Sound kind form (now src) (now glyphs) (now lookups) ⌝ }
+    ensures { λ r. ⌜ UnlessShort r (now (out .entry)) (now (out .exit)) (written (now (out .entry)) (cut (glyphEntries form (now (glyphs .entry))) (mapEntries (now (lookups .entry))) (table kind (now (src .entry))))) ⌝ }
 {
     let mut t = [0u32; LITTLE_CELLS];
     let mut area = [0u8; LITTLE_BYTES];
-    cut_in(kind, src, glyphs, lookups, &mut t, &mut area, out)
+    cut_in(kind, src, glyphs, form, lookups, &mut t, &mut area, out)
 }
 
 // The same with some scratch.
@@ -121,19 +137,20 @@ fn in_some(
     kind: usize,
     src: &[u8],
     glyphs: &[u8],
+    form: usize,
     lookups: &[u8],
     rounds: usize,
     out: &mut [u8],
 ) -> Tried
-    requires { ⌜ Sound kind (now src) (now glyphs) (now lookups) ⌝ }
-    ensures { λ r. ⌜ UnlessShort r (now (out .entry)) (now (out .exit)) (written (now (out .entry)) (cut (mapEntries (now (glyphs .entry))) (mapEntries (now (lookups .entry))) (table kind (now (src .entry))))) ⌝ }
+    requires { ⌜ Sound kind form (now src) (now glyphs) (now lookups) ⌝ }
+    ensures { λ r. ⌜ UnlessShort r (now (out .entry)) (now (out .exit)) (written (now (out .entry)) (cut (glyphEntries form (now (glyphs .entry))) (mapEntries (now (lookups .entry))) (table kind (now (src .entry))))) ⌝ }
 {
     if rounds != 0 {
-        return in_some(kind, src, glyphs, lookups, rounds - 1, out);
+        return in_some(kind, src, glyphs, form, lookups, rounds - 1, out);
     }
     let mut t = [0u32; SOME_CELLS];
     let mut area = [0u8; SOME_BYTES];
-    cut_in(kind, src, glyphs, lookups, &mut t, &mut area, out)
+    cut_in(kind, src, glyphs, form, lookups, &mut t, &mut area, out)
 }
 
 // The same with more scratch.
@@ -141,19 +158,20 @@ fn in_more(
     kind: usize,
     src: &[u8],
     glyphs: &[u8],
+    form: usize,
     lookups: &[u8],
     rounds: usize,
     out: &mut [u8],
 ) -> Tried
-    requires { ⌜ Sound kind (now src) (now glyphs) (now lookups) ⌝ }
-    ensures { λ r. ⌜ UnlessShort r (now (out .entry)) (now (out .exit)) (written (now (out .entry)) (cut (mapEntries (now (glyphs .entry))) (mapEntries (now (lookups .entry))) (table kind (now (src .entry))))) ⌝ }
+    requires { ⌜ Sound kind form (now src) (now glyphs) (now lookups) ⌝ }
+    ensures { λ r. ⌜ UnlessShort r (now (out .entry)) (now (out .exit)) (written (now (out .entry)) (cut (glyphEntries form (now (glyphs .entry))) (mapEntries (now (lookups .entry))) (table kind (now (src .entry))))) ⌝ }
 {
     if rounds != 0 {
-        return in_more(kind, src, glyphs, lookups, rounds - 1, out);
+        return in_more(kind, src, glyphs, form, lookups, rounds - 1, out);
     }
     let mut t = [0u32; MORE_CELLS];
     let mut area = [0u8; MORE_BYTES];
-    cut_in(kind, src, glyphs, lookups, &mut t, &mut area, out)
+    cut_in(kind, src, glyphs, form, lookups, &mut t, &mut area, out)
 }
 
 // The same with much scratch.
@@ -161,19 +179,20 @@ fn in_much(
     kind: usize,
     src: &[u8],
     glyphs: &[u8],
+    form: usize,
     lookups: &[u8],
     rounds: usize,
     out: &mut [u8],
 ) -> Tried
-    requires { ⌜ Sound kind (now src) (now glyphs) (now lookups) ⌝ }
-    ensures { λ r. ⌜ UnlessShort r (now (out .entry)) (now (out .exit)) (written (now (out .entry)) (cut (mapEntries (now (glyphs .entry))) (mapEntries (now (lookups .entry))) (table kind (now (src .entry))))) ⌝ }
+    requires { ⌜ Sound kind form (now src) (now glyphs) (now lookups) ⌝ }
+    ensures { λ r. ⌜ UnlessShort r (now (out .entry)) (now (out .exit)) (written (now (out .entry)) (cut (glyphEntries form (now (glyphs .entry))) (mapEntries (now (lookups .entry))) (table kind (now (src .entry))))) ⌝ }
 {
     if rounds != 0 {
-        return in_much(kind, src, glyphs, lookups, rounds - 1, out);
+        return in_much(kind, src, glyphs, form, lookups, rounds - 1, out);
     }
     let mut t = [0u32; MUCH_CELLS];
     let mut area = [0u8; MUCH_BYTES];
-    cut_in(kind, src, glyphs, lookups, &mut t, &mut area, out)
+    cut_in(kind, src, glyphs, form, lookups, &mut t, &mut area, out)
 }
 
 // The same with scratch that is enough for any source but one by classes.
@@ -181,19 +200,20 @@ fn in_all_but_classes(
     kind: usize,
     src: &[u8],
     glyphs: &[u8],
+    form: usize,
     lookups: &[u8],
     rounds: usize,
     out: &mut [u8],
 ) -> Tried
-    requires { ⌜ Sound kind (now src) (now glyphs) (now lookups) × (byClasses kind (now src) ≡ false) ⌝ }
-    ensures { λ r. ⌜ NeverShort r (now (out .entry)) (now (out .exit)) (written (now (out .entry)) (cut (mapEntries (now (glyphs .entry))) (mapEntries (now (lookups .entry))) (table kind (now (src .entry))))) ⌝ }
+    requires { ⌜ Sound kind form (now src) (now glyphs) (now lookups) × (byClasses kind (now src) ≡ false) ⌝ }
+    ensures { λ r. ⌜ NeverShort r (now (out .entry)) (now (out .exit)) (written (now (out .entry)) (cut (glyphEntries form (now (glyphs .entry))) (mapEntries (now (lookups .entry))) (table kind (now (src .entry))))) ⌝ }
 {
     if rounds != 0 {
-        return in_all_but_classes(kind, src, glyphs, lookups, rounds - 1, out);
+        return in_all_but_classes(kind, src, glyphs, form, lookups, rounds - 1, out);
     }
     let mut t = [0u32; CELLS_BUT_CLASSES];
     let mut area = [0u8; BYTES];
-    cut_in(kind, src, glyphs, lookups, &mut t, &mut area, out)
+    cut_in(kind, src, glyphs, form, lookups, &mut t, &mut area, out)
 }
 
 // The same with scratch that is enough for any source.
@@ -201,19 +221,20 @@ fn in_all(
     kind: usize,
     src: &[u8],
     glyphs: &[u8],
+    form: usize,
     lookups: &[u8],
     rounds: usize,
     out: &mut [u8],
 ) -> Tried
-    requires { ⌜ Sound kind (now src) (now glyphs) (now lookups) ⌝ }
-    ensures { λ r. ⌜ NeverShort r (now (out .entry)) (now (out .exit)) (written (now (out .entry)) (cut (mapEntries (now (glyphs .entry))) (mapEntries (now (lookups .entry))) (table kind (now (src .entry))))) ⌝ }
+    requires { ⌜ Sound kind form (now src) (now glyphs) (now lookups) ⌝ }
+    ensures { λ r. ⌜ NeverShort r (now (out .entry)) (now (out .exit)) (written (now (out .entry)) (cut (glyphEntries form (now (glyphs .entry))) (mapEntries (now (lookups .entry))) (table kind (now (src .entry))))) ⌝ }
 {
     if rounds != 0 {
-        return in_all(kind, src, glyphs, lookups, rounds - 1, out);
+        return in_all(kind, src, glyphs, form, lookups, rounds - 1, out);
     }
     let mut t = [0u32; CELLS];
     let mut area = [0u8; BYTES];
-    cut_in(kind, src, glyphs, lookups, &mut t, &mut area, out)
+    cut_in(kind, src, glyphs, form, lookups, &mut t, &mut area, out)
 }
 
 // Whether a source of this kind is a context or a pair table by classes.
@@ -231,14 +252,21 @@ fn by_classes(kind: usize, src: &[u8]) -> bool
 }
 
 // With scratch that is enough for any source of this kind and format.
-fn in_most(kind: usize, src: &[u8], glyphs: &[u8], lookups: &[u8], out: &mut [u8]) -> Tried
-    requires { ⌜ Sound kind (now src) (now glyphs) (now lookups) ⌝ }
-    ensures { λ r. ⌜ NeverShort r (now (out .entry)) (now (out .exit)) (written (now (out .entry)) (cut (mapEntries (now (glyphs .entry))) (mapEntries (now (lookups .entry))) (table kind (now (src .entry))))) ⌝ }
+fn in_most(
+    kind: usize,
+    src: &[u8],
+    glyphs: &[u8],
+    form: usize,
+    lookups: &[u8],
+    out: &mut [u8],
+) -> Tried
+    requires { ⌜ Sound kind form (now src) (now glyphs) (now lookups) ⌝ }
+    ensures { λ r. ⌜ NeverShort r (now (out .entry)) (now (out .exit)) (written (now (out .entry)) (cut (glyphEntries form (now (glyphs .entry))) (mapEntries (now (lookups .entry))) (table kind (now (src .entry))))) ⌝ }
 {
     if by_classes(kind, src) {
-        return in_all(kind, src, glyphs, lookups, glyphs.len() % 4, out);
+        return in_all(kind, src, glyphs, form, lookups, glyphs.len() % 2, out);
     }
-    in_all_but_classes(kind, src, glyphs, lookups, glyphs.len() % 4, out)
+    in_all_but_classes(kind, src, glyphs, form, lookups, glyphs.len() % 2, out)
 }
 
 // With one of the sizes that are not enough for any source: 0 is little scratch, 1 some, 2 more, and any other much.
@@ -247,24 +275,68 @@ fn in_size(
     kind: usize,
     src: &[u8],
     glyphs: &[u8],
+    form: usize,
     lookups: &[u8],
     out: &mut [u8],
 ) -> Tried
-    requires { ⌜ Sound kind (now src) (now glyphs) (now lookups) ⌝ }
-    ensures { λ r. ⌜ UnlessShort r (now (out .entry)) (now (out .exit)) (written (now (out .entry)) (cut (mapEntries (now (glyphs .entry))) (mapEntries (now (lookups .entry))) (table kind (now (src .entry))))) ⌝ }
+    requires { ⌜ Sound kind form (now src) (now glyphs) (now lookups) ⌝ }
+    ensures { λ r. ⌜ UnlessShort r (now (out .entry)) (now (out .exit)) (written (now (out .entry)) (cut (glyphEntries form (now (glyphs .entry))) (mapEntries (now (lookups .entry))) (table kind (now (src .entry))))) ⌝ }
 {
     match size {
-        0 => in_little(kind, src, glyphs, lookups, out),
-        1 => in_some(kind, src, glyphs, lookups, glyphs.len() % 4, out),
-        2 => in_more(kind, src, glyphs, lookups, glyphs.len() % 4, out),
-        _ => in_much(kind, src, glyphs, lookups, glyphs.len() % 4, out),
+        0 => in_little(kind, src, glyphs, form, lookups, out),
+        1 => in_some(kind, src, glyphs, form, lookups, glyphs.len() % 2, out),
+        2 => in_more(kind, src, glyphs, form, lookups, glyphs.len() % 2, out),
+        _ => in_much(kind, src, glyphs, form, lookups, glyphs.len() % 2, out),
     }
 }
 
+// No more than there are glyphs.
+fn of_all(n: usize) -> usize
+    ensures { λ r. ⌜ r ≤ 65536 ⌝ }
+{
+    if 65536 < n {
+        return 65536;
+    }
+    n
+}
+
+// How many glyphs of the map the cut is likely to meet: all of a map of pairs; of runs no more than lie between the first old id and the last, nor than half the source's length.
+fn likely_glyphs(src: &[u8], glyphs: &[u8], form: usize) -> usize
+    ensures { λ r. ⌜ r ≤ 65536 ⌝ }
+{
+    if form != 6 {
+        return of_all(glyphs.len() / 4);
+    }
+    if glyphs.len() < 6 {
+        return 0;
+    }
+    let most = of_all(src.len() / 2);
+    let last = glyphs.len() / 6 * 6 - 6;
+    let first = word_at(glyphs, 0);
+    let end = word_at(glyphs, last) + word_at(glyphs, last + 4);
+    if end < first {
+        return 0;
+    }
+    if first + most < end {
+        return most;
+    }
+    end - first
+}
+
+// How many cells the glyph map is likely to take: as many as its pairs are laid into first, or two for each run.
+fn map_cells(glyphs: &[u8], form: usize) -> usize
+    ensures { λ r. ⌜ r ≤ 65536 ⌝ }
+{
+    if form != 6 {
+        return cells(glyphs);
+    }
+    of_all(2 * (glyphs.len() / 6) + 3)
+}
+
 // How many cells the cut is likely to use; no more than a guess, which saves the clearing of scratch.
-fn likely_cells(kind: usize, src: &[u8], glyphs: &[u8], lookups: &[u8]) -> usize {
-    let n = glyphs.len() / 4;
-    let in_maps = cells(lookups) + cells(glyphs) + n + 1;
+fn likely_cells(kind: usize, src: &[u8], glyphs: &[u8], form: usize, lookups: &[u8]) -> usize {
+    let n = likely_glyphs(src, glyphs, form);
+    let in_maps = cells(lookups) + map_cells(glyphs, form) + n + 1;
     if by_classes(kind, src) {
         return in_maps + 3 * n + 256;
     }
@@ -272,20 +344,21 @@ fn likely_cells(kind: usize, src: &[u8], glyphs: &[u8], lookups: &[u8]) -> usize
 }
 
 // How many bytes of area it is likely to use: not much more than the source has, and not more than some for each glyph, few for a context by coverages.
-fn likely_bytes(kind: usize, src: &[u8], glyphs: &[u8]) -> usize {
+fn likely_bytes(kind: usize, src: &[u8], glyphs: &[u8], form: usize) -> usize {
+    let n = likely_glyphs(src, glyphs, form);
     if kind <= 2 && word_at(src, 0) == 3 {
-        return 2 * (glyphs.len() / 4) + 512;
+        return 2 * n + 512;
     }
-    if glyphs.len() < src.len() / 32 {
-        return 32 * glyphs.len();
+    if 4 * n < src.len() / 32 {
+        return 128 * n;
     }
     src.len() / 2 * 3
 }
 
 // The size to begin with, as `in_size` has them: the first that is likely to do, and never the largest, since its clearing takes long.
-fn likely_size(kind: usize, src: &[u8], glyphs: &[u8], lookups: &[u8]) -> usize {
-    let cells = likely_cells(kind, src, glyphs, lookups);
-    let bytes = likely_bytes(kind, src, glyphs);
+fn likely_size(kind: usize, src: &[u8], glyphs: &[u8], form: usize, lookups: &[u8]) -> usize {
+    let cells = likely_cells(kind, src, glyphs, form, lookups);
+    let bytes = likely_bytes(kind, src, glyphs, form);
     if cells <= LITTLE_CELLS && bytes <= LITTLE_BYTES {
         return 0;
     }
@@ -299,18 +372,25 @@ fn likely_size(kind: usize, src: &[u8], glyphs: &[u8], lookups: &[u8]) -> usize 
 }
 
 // What is left of a sound source of this kind, handed over if there is room, with scratch of our own: of the size that is likely to do, and the next one where that is too short.
-pub fn cut_own(kind: usize, src: &[u8], glyphs: &[u8], lookups: &[u8], out: &mut [u8]) -> Laid
-    requires { ⌜ Sound kind (now src) (now glyphs) (now lookups) ⌝ }
-    ensures { λ r. ⌜ outcomeOf r (now (out .exit)) ≡ written (now (out .entry)) (cut (mapEntries (now (glyphs .entry))) (mapEntries (now (lookups .entry))) (table kind (now (src .entry)))) ⌝ }
+pub fn cut_own(
+    kind: usize,
+    src: &[u8],
+    glyphs: &[u8],
+    form: usize,
+    lookups: &[u8],
+    out: &mut [u8],
+) -> Laid
+    requires { ⌜ Sound kind form (now src) (now glyphs) (now lookups) ⌝ }
+    ensures { λ r. ⌜ outcomeOf r (now (out .exit)) ≡ written (now (out .entry)) (cut (glyphEntries form (now (glyphs .entry))) (mapEntries (now (lookups .entry))) (table kind (now (src .entry)))) ⌝ }
 {
-    let mut size = likely_size(kind, src, glyphs, lookups);
+    let mut size = likely_size(kind, src, glyphs, form, lookups);
     while size < 4 {
-        if let Tried::Became(laid) = in_size(size, kind, src, glyphs, lookups, out) {
+        if let Tried::Became(laid) = in_size(size, kind, src, glyphs, form, lookups, out) {
             return laid;
         }
         size += 1;
     }
-    let Tried::Became(laid) = in_most(kind, src, glyphs, lookups, out) else {
+    let Tried::Became(laid) = in_most(kind, src, glyphs, form, lookups, out) else {
         return Laid::Nothing;
     };
     laid
@@ -321,16 +401,17 @@ pub fn cut_lent(
     kind: usize,
     src: &[u8],
     glyphs: &[u8],
+    form: usize,
     lookups: &[u8],
     t: &mut [u32],
     area: &mut [u8],
     out: &mut [u8],
 ) -> Laid
-    requires { ⌜ Sound kind (now src) (now glyphs) (now lookups) ⌝ }
-    ensures { λ r. ⌜ outcomeOf r (now (out .exit)) ≡ written (now (out .entry)) (cut (mapEntries (now (glyphs .entry))) (mapEntries (now (lookups .entry))) (table kind (now (src .entry)))) ⌝ }
+    requires { ⌜ Sound kind form (now src) (now glyphs) (now lookups) ⌝ }
+    ensures { λ r. ⌜ outcomeOf r (now (out .exit)) ≡ written (now (out .entry)) (cut (glyphEntries form (now (glyphs .entry))) (mapEntries (now (lookups .entry))) (table kind (now (src .entry)))) ⌝ }
 {
-    let Tried::Became(laid) = cut_in(kind, src, glyphs, lookups, t, area, out) else {
-        return cut_own(kind, src, glyphs, lookups, out);
+    let Tried::Became(laid) = cut_in(kind, src, glyphs, form, lookups, t, area, out) else {
+        return cut_own(kind, src, glyphs, form, lookups, out);
     };
     laid
 }

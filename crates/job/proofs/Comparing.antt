@@ -1,7 +1,7 @@
--- The ways through the comparison of two lists of bytes, and of a file's end with the tag.
+-- The ways through the comparison of two lists of bytes, and of a file's end with a tag.
 use Prim.Native.Nat.{ℕ, suc, _+_, _-_, _≤_, _<_}
-use mathlib.Core.Path.{_≡_, refl, ap}
-use mathlib.Core.Bool.{Bool, true, false, _&&_}
+use mathlib.Core.Path.{_≡_, refl, sym, ap, _∙_}
+use mathlib.Core.Bool.{Bool, true, false, cond, _&&_}
 use mathlib.Core.List.{List, [], _∷_}
 use native.Mathlib.Numerals.{add-one}
 use native.Mathlib.Omega.{arith}
@@ -9,7 +9,7 @@ use lib.ListN.{length, getD, drop, take, length-drop, drop-of-length-le}
 use lib.Seq.{drop-cons, take-all}
 use lib.Dec.{eqb}
 use borrow.Author.Tests.{eq-eqb, ne-eqb}
-use Rattle.meaning.specs.Job.{eqList, ascii, tag, tagged}
+use Rattle.meaning.specs.Job.{eqList, ascii, tag, runsTag, endsIn, tagged, formOf}
 
 -- lists of other lengths are not the same
 pub other-length : (a b : List ℕ) → (length a ≡ length b → ⊥) → false ≡ eqList a b
@@ -50,7 +50,29 @@ module _ {a b : List ℕ} where
     unfolding eqList
     comparing-end h = rw (drop-of-length-le a h, drop-of-length-le b {i = i} (omega (arith, k .as-long))) at (k .left)
 
--- the last four bytes, compared with the tag
-pub tag-says : (f : List ℕ) {r : Bool} → 30 ≤ length f → r ≡ eqList (take (length f - (length f - 4)) (drop (length f - 4) f)) (76 ∷ 83 ∷ 74 ∷ 49 ∷ []) → r ≡ tagged f
-unfolding tagged tag ascii
-tag-says f h e = rw (take-all (length f - (length f - 4)) (drop (length f - 4) f) (omega (arith, length-drop (length f - 4) f))) at e
+-- the last four bytes, compared with a tag
+pub tag-says : (f tag : List ℕ) {r : Bool} → 30 ≤ length f → r ≡ eqList (take (length f - (length f - 4)) (drop (length f - 4) f)) tag → r ≡ endsIn tag f
+unfolding endsIn
+tag-says f tag h e = rw (take-all (length f - (length f - 4)) (drop (length f - 4) f) (omega (arith, length-drop (length f - 4) f))) at e
+
+-- Each of the two tags, by its bytes.
+module _ (f : List ℕ) {r : Bool} where
+  pub runs-tag : r ≡ endsIn (76 ∷ 83 ∷ 74 ∷ 50 ∷ []) f → r ≡ endsIn runsTag f
+  unfolding runsTag ascii
+  runs-tag e = e
+
+  pub pairs-tagged : r ≡ endsIn (76 ∷ 83 ∷ 74 ∷ 49 ∷ []) f → r ≡ true → true ≡ tagged f
+  unfolding tagged tag ascii
+  pairs-tagged e h =
+      let d : endsIn tag f ≡ true = sym e ∙ h in
+      rw d
+
+  pub runs-tagged : r ≡ endsIn (76 ∷ 83 ∷ 74 ∷ 49 ∷ []) f → r ≡ false → {q : Bool} → q ≡ endsIn runsTag f → q ≡ tagged f
+  unfolding tagged tag ascii
+  runs-tagged e h g =
+      let d : endsIn tag f ≡ false = sym e ∙ h in
+      rw d g
+
+  pub form-says : r ≡ endsIn runsTag f → {b : Bool} → r ≡ b → cond b 6 4 ≡ formOf f
+  unfolding formOf
+  form-says e h = rw (← e, h)

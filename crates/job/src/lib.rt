@@ -1,12 +1,13 @@
 // The label job: a lent file whose last 30 bytes, the trailer, point back to a table, a glyph map and a lookup map.
 use subset::Answer;
+use subset::Marks;
 use subset::subset;
 use wire::word_at;
 ghost use mathlib.Core.Path.{_≡_};
 ghost use mathlib.Core.Bool.{true};
 ghost use Prim.Native.Nat.{_+_, _≤_, _<_};
 ghost use lib.ListN.{length};
-ghost use Rattle.meaning.specs.Job.{long, partAt, tablePart, glyphPart, lookupPart, eqList, before, tagged, goodJob, bytesOf, job};
+ghost use Rattle.meaning.specs.Job.{long, partAt, tablePart, glyphPart, lookupPart, eqList, runsTag, before, endsIn, tagged, formOf, goodJob, bytesOf, job};
 ghost use Rattle.subset.specs.Answers.{outcome};
 
 // The most bytes of a job file.
@@ -40,13 +41,43 @@ fn same(a: &[u8], b: &[u8]) -> bool
     true
 }
 
-// Whether the file ends in the tag.
+// Whether the file ends in this tag.
+fn ends_in(file: &[u8], tag: &[u8]) -> bool
+    requires { ⌜ 30 ≤ length (now file) ⌝ }
+    ensures { λ r. ⌜ r ≡ endsIn (now (tag .entry)) (now (file .entry)) ⌝ }
+{
+    let at = file.len() - 4;
+    same(&file[at..], tag)
+}
+
+// Whether it ends in the tag of a glyph map of runs.
+fn has_runs(file: &[u8]) -> bool
+    requires { ⌜ 30 ≤ length (now file) ⌝ }
+    ensures { λ r. ⌜ r ≡ endsIn runsTag (now (file .entry)) ⌝ }
+{
+    ends_in(file, b"LSJ2")
+}
+
+// Whether it ends in one of the tags.
 fn is_tagged(file: &[u8]) -> bool
     requires { ⌜ 30 ≤ length (now file) ⌝ }
     ensures { λ r. ⌜ r ≡ tagged (now (file .entry)) ⌝ }
 {
-    let at = file.len() - 4;
-    same(&file[at..], b"LSJ1")
+    if ends_in(file, b"LSJ1") {
+        return true;
+    }
+    has_runs(file)
+}
+
+// The mark of its glyph map's form: 6 for runs, 4 for pairs.
+fn form_of(file: &[u8]) -> usize
+    requires { ⌜ 30 ≤ length (now file) ⌝ }
+    ensures { λ r. ⌜ r ≡ formOf (now (file .entry)) ⌝ }
+{
+    if has_runs(file) {
+        return 6;
+    }
+    4
 }
 
 // Whether the part whose start and length stand at `at` lies wholly before the trailer.
@@ -57,7 +88,7 @@ fn is_before(file: &[u8], at: usize) -> bool
     long_at(file, at) + long_at(file, at + 4) <= file.len() - TRAILER
 }
 
-// Whether the file is a job: of 30 bytes to the limit, it ends in the tag, and its three parts lie wholly before the trailer.
+// Whether the file is a job: of 30 bytes to the limit, it ends in a tag, and its three parts lie wholly before the trailer.
 pub fn good_job(file: &[u8]) -> bool
     ensures { λ r. ⌜ r ≡ goodJob (now (file .entry)) ⌝ }
 {
@@ -114,16 +145,20 @@ pub fn lookup_part(file: &[u8]) -> &[u8]
     part(file, file.len() - TRAILER + 18)
 }
 
-// The job of a file, on a lent buffer: the call on the file's kind and parts, or that the file is faulty, which is tested first.
+// The job of a file, on a lent buffer: the call on the file's kind and parts for the plain layout, or that the file is faulty, which is tested first.
 pub fn run(file: &[u8], out: &mut [u8]) -> Answer
     ensures { λ r. ⌜ outcome r (now (out .exit)) ≡ job (now (file .entry)) (now (out .entry)) ⌝ }
 {
     if !good_job(file) {
         return Answer::BadJob;
     }
-    let kind = word_at(file, file.len() - TRAILER);
+    let marks = Marks {
+        kind: word_at(file, file.len() - TRAILER),
+        form: form_of(file),
+        layout: 0,
+    };
     subset(
-        kind,
+        marks,
         table_part(file),
         glyph_part(file),
         lookup_part(file),

@@ -6,7 +6,7 @@ use mathlib.Core.Option.{Option, none, some}
 use mathlib.Core.List.{List, [], _∷_}
 use native.Mathlib.Omega.{arith}
 use lib.ListN.{length, replicate}
-use Rattle.meaning.specs.Words.{word, inside, mapSome, upFrom}
+use Rattle.meaning.specs.Words.{word, inside}
 use Rattle.meaning.specs.Tables.{fieldCount, ruleSet, ligatureSet}
 use Rattle.meaning.specs.Fault.{ruleFault, ligatureFault, setFault, pairSetFault}
 use Rattle.meaning.specs.Cut.{RuleMaps, cutSet, cutLigatures}
@@ -16,7 +16,7 @@ use Rattle.laws.specs.Runs.{both}
 use Rattle.laws.specs.SoundGood.{part-sound}
 use Rattle.fold.specs.Cells.{Inside, Kept}
 use Rattle.fold.specs.declared.Map.{Map}
-use Rattle.numbers.specs.Entries.{entryIn, entriesIn}
+use Rattle.numbers.specs.Entries.{entries-kept}
 use Rattle.numbers.specs.Leaves.{Leaves, leaves-said}
 use Rattle.member_sets.specs.Sets.{setMost}
 use Rattle.member_sets.specs.Sound.{inside-is}
@@ -180,21 +180,12 @@ module _ {sort : Sort} (s : List ℕ) (at : ℕ) where
 
 -- Cells behind the maps may change.
 module _ {at : ℕ} {t₀ t : List ℕ} (k : Kept at t₀ t) where
-  cells-kept : (m : Map) (n i : ℕ) → m .at + i + n ≤ at → mapSome (entryIn t m) (upFrom i n) ≡ mapSome (entryIn t₀ m) (upFrom i n)
-  unfolding mapSome upFrom entryIn
-  cells-kept m zero i h = refl
-  cells-kept m (suc n) i h = rw (k .same (m .at + i) (omega arith), cells-kept m n (i + 1) (omega arith))
-
-  entries-kept : (m : Map) → m .at + m .mask < at → entriesIn t m ≡ entriesIn t₀ m
-  unfolding entriesIn
-  entries-kept m h = cells-kept m (m .mask + 1) 0 (omega arith)
-
   inside-as : {m : Map} → Inside t₀ m → Inside t m
   inside-as i = record { within = omega (arith, k .size, i .within) }
 
   -- what is left of a set stays the same
   pub left-kept : (sort : Sort) {m : Maps} → AllBefore m at → (s : List ℕ) (p : ℕ) → leftIn sort t m s p ≡ leftIn sort t₀ m s p
-  left-kept sort {m} b s p = rw (entries-kept (m .back) (b .back), entries-kept (m .input) (b .input), entries-kept (m .ahead) (b .ahead), entries-kept (m .lookups) (b .lookups))
+  left-kept sort {m} b s p = rw (entries-kept k (m .back) (b .back), entries-kept k (m .input) (b .input), entries-kept k (m .ahead) (b .ahead), entries-kept k (m .lookups) (b .lookups))
 
   pub leaves-kept : (sort : Sort) {m : Maps} → AllBefore m at → (s : List ℕ) (p : ℕ) {a b : List ℕ} {q r : ℕ} → Leaves a q (leftIn sort t m s p) (mostOf (leftIn sort t m s p) s) b r
       → Leaves a q (leftIn sort t₀ m s p) (mostOf (leftIn sort t₀ m s p) s) b r
@@ -205,7 +196,7 @@ module _ {at : ℕ} {t₀ t : List ℕ} (k : Kept at t₀ t) where
 
   -- and so does what the writer of sets is told
   pub told-kept : (sort : Sort) {m : Maps} → AllBefore m at → {s told : List ℕ} → Told sort (mapsIn t m) s told → Told sort (mapsIn t₀ m) s told
-  told-kept sort {m} b h = rw (entries-kept (m .back) (b .back), entries-kept (m .input) (b .input), entries-kept (m .ahead) (b .ahead), entries-kept (m .lookups) (b .lookups)) at h
+  told-kept sort {m} b h = rw (entries-kept k (m .back) (b .back), entries-kept k (m .input) (b .input), entries-kept k (m .ahead) (b .ahead), entries-kept k (m .lookups) (b .lookups)) at h
 
   pub told-still : (sort : Sort) {m : Maps} → AllBefore m at → {s told : List ℕ} → Told sort (mapsIn t₀ m) s told → Told sort (mapsIn t m) s told
-  told-still sort {m} b h = rw (entries-kept (m .back) (b .back), entries-kept (m .input) (b .input), entries-kept (m .ahead) (b .ahead), entries-kept (m .lookups) (b .lookups)) h
+  told-still sort {m} b h = rw (entries-kept k (m .back) (b .back), entries-kept k (m .input) (b .input), entries-kept k (m .ahead) (b .ahead), entries-kept k (m .lookups) (b .lookups)) h

@@ -8,7 +8,7 @@ use lib.ListN.{length, take, drop, replicate, length-replicate}
 use lib.Seq.{sets, take-at, drop-at, length-sets, length-take-le}
 use Rattle.meaning.specs.Words.{word}
 use Rattle.meaning.specs.Subset.{Outcome, limit}
-use Rattle.meaning.specs.Job.{tablePart, glyphPart, lookupPart, goodJob, bytesOf, job, printed, room, program}
+use Rattle.meaning.specs.Job.{tablePart, glyphPart, lookupPart, formOf, goodJob, bytesOf, job, printed, room, program}
 use Rattle.laws.specs.Written.{sets-front}
 use Rattle.promises.specs.Refusals.{Call}
 use Rattle.promises.specs.Promises.{kept-is-small}
@@ -22,12 +22,12 @@ use Rattle.label_job.specs.Answered.{Answered}
 module _ (f out : List ℕ) where
   -- the call of a job
   callOf : Call
-  callOf = record { kind = word f (length f - 30); source = bytesOf f (tablePart f); glyphs = bytesOf f (glyphPart f); lookups = bytesOf f (lookupPart f); buffer = out }
+  callOf = record { kind = word f (length f - 30); form = formOf f; packing = 0; source = bytesOf f (tablePart f); glyphs = bytesOf f (glyphPart f); lookups = bytesOf f (lookupPart f); buffer = out }
 
   -- what a job keeps lies in the buffer
   within : (b : Bool) → goodJob f ≡ b → (job f out) .number ≡ 0 → (job f out) .len ≤ length out
   unfolding callOf
-  within true h = rw (← (job-runs f out h refl refl refl refl refl)) (λ z. (kept-is-small callOf z) .2)
+  within true h = rw (← (job-runs f out h refl refl refl refl refl refl)) (λ z. (kept-is-small callOf z) .2)
   within false h = rw (← (job-faulty f out h)) (λ z. absurd (omega arith))
 
 -- what is printed of the job on zeros is what the program prints

@@ -9,9 +9,9 @@ use Rattle.meaning.specs.Words.{every, upFrom, flat}
 use Rattle.meaning.specs.Tables.{Rule, Table}
 use Rattle.meaning.specs.Layout.{tableWords, classWords, wordsFit, layout}
 use Rattle.meaning.specs.Subset.{tooBig, written, subset}
-use Rattle.meaning.specs.Calls.{Row, call, stated, refuses}
-use Rattle.meaning.specs.Job.{ascii, goodJob, job, program}
-use Rattle.meaning.specs.Jobs.{jobs, bare, lsj1}
+use Rattle.meaning.specs.Calls.{Row, callIn, call, stated, refuses}
+use Rattle.meaning.specs.Job.{ascii, tag, runsTag, goodJob, job, program}
+use Rattle.meaning.specs.Jobs.{jobs, bare}
 
 -- Layouts. What survives is a context of format 3 with as many equal coverages, each of as many even glyphs, and as many records.
 unfoldable pub repeated : ℕ → ℕ → ℕ → Table
@@ -53,7 +53,7 @@ pub count-past : (take 3 (classWords (twoOfThree 21845)) ≡ 1 ∷ 0 ∷ 65536 �
 unfolding twoOfThree layout every wordsFit
 count-past = (refl, refl)
 
--- Sources: one of 262,145 bytes is 4, after a bad lookup map and before its format; one of 262,144 is not.
+-- Sources: one of 262,145 bytes is 4, after a bad lookup map and before its format; one of 262,144 is not. So it is in either form of the glyph map.
 unfoldable pub sources : List Row
 sources =
     refuses 1 (replicate 262145 0) [] (0x0001 ∷ []) 3
@@ -61,20 +61,20 @@ sources =
     ∷ refuses 1 (replicate 262144 0) [] [] 5
     ∷ []
 
-pub each-source : map call sources ≡ map stated sources
+pub each-source : (map call sources ≡ map stated sources) × (map (callIn 6 0) sources ≡ map stated sources)
 unfolding sources subset
-each-source = refl
+each-source = (refl, refl)
 
 -- Jobs. Each of the table of jobs, with the bytes that the program lends.
 pub each-job : map (λ r. program (r .file)) jobs ≡ map (λ r. ascii (r .prints)) jobs
 unfolding program ascii jobs
 each-job = refl
 
--- a file with as many zeros before a context of format 3 without coverages, whose trailer says where it starts
-abbrev padded : ℕ → ℕ → List ℕ
-padded zeros start = replicate zeros 0 ++ flat (bare ++ ((1 ∷ 0 ∷ start ∷ 0 ∷ 6 ∷ 0 ∷ 0 ∷ 0 ∷ 0 ∷ 0 ∷ 0 ∷ 0 ∷ 0 ∷ []) ++ lsj1))
+-- a file that ends in a tag, with as many zeros before a context of format 3 without coverages, whose trailer says where it starts
+abbrev padded : List ℕ → ℕ → ℕ → List ℕ
+padded end zeros start = replicate zeros 0 ++ (flat (bare ++ (1 ∷ 0 ∷ start ∷ 0 ∷ 6 ∷ 0 ∷ 0 ∷ 0 ∷ 0 ∷ 0 ∷ 0 ∷ 0 ∷ 0 ∷ [])) ++ end)
 
--- a file of 65,536 bytes is good, one of 65,537 is not
-pub longest-job : (goodJob (padded 65500 65500) ≡ true) × (goodJob (padded 65501 65501) ≡ false)
+-- a file of 65,536 bytes is good, one of 65,537 is not, with either tag
+pub longest-job : (goodJob (padded tag 65500 65500) ≡ true) × (goodJob (padded tag 65501 65501) ≡ false) × (goodJob (padded runsTag 65500 65500) ≡ true) × (goodJob (padded runsTag 65501 65501) ≡ false)
 unfolding job
-longest-job = (refl, refl)
+longest-job = (refl, refl, refl, refl)

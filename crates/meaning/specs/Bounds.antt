@@ -24,7 +24,7 @@ unfolding subset
 too-big-first = refl
 
 -- a source of 65,537 bytes is refused for its format, and no longer as 4
-pub source-past-before : subset 1 (replicate 65537 0) [] [] [] .number ≡ 5
+pub source-past-before : subset 1 4 0 (replicate 65537 0) [] [] [] .number ≡ 5
 unfolding subset
 source-past-before = refl
 

@@ -17,9 +17,13 @@ pub record Row : Type 0 where
   pub written : List ℕ
   pub left : ℕ
 
--- the call of a row
+-- the call of a row with these two marks: of its glyph map's form, and of the layout
+abbrev pub callIn : ℕ → ℕ → Row → Outcome
+callIn form packing r = subset (r .kind) form packing (r .source) (flat (r .glyphs)) (flat (r .lookups)) (replicate (r .room) 7)
+
+-- the call of a row with a glyph map of pairs, for the plain layout
 abbrev pub call : Row → Outcome
-call r = subset (r .kind) (r .source) (flat (r .glyphs)) (flat (r .lookups)) (replicate (r .room) 7)
+call r = callIn 4 0 r
 
 -- the outcome that a row states
 abbrev pub stated : Row → Outcome

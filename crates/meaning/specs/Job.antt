@@ -2,7 +2,7 @@
 use Prim.Native.Nat.{ℕ, zero, suc, _+_, _-_, _*_, _/_, _%_}
 use Prim.Native.Char.{code}
 use Prim.Native.String.{String, [] as end, _∷_ as _then_}
-use mathlib.Core.Bool.{Bool, true, false, cond, _&&_, not}
+use mathlib.Core.Bool.{Bool, true, false, cond, _&&_, _||_, not}
 use mathlib.Core.List.{List, [], _∷_, _++_}
 use lib.ListN.{length, take, drop, replicate}
 use lib.Dec.{leb, ltb, eqb}
@@ -52,19 +52,31 @@ eqList [] (b ∷ q) = false
 eqList (a ∷ r) [] = false
 eqList (a ∷ r) (b ∷ q) = eqb a b && eqList r q
 
--- the four bytes `LSJ1`
+-- the four bytes `LSJ1`, for a glyph map of pairs
 unfoldable pub tag : List ℕ
 tag = ascii "LSJ1"
+
+-- the four bytes `LSJ2`, for a glyph map of runs
+unfoldable pub runsTag : List ℕ
+runsTag = ascii "LSJ2"
 
 -- a part lies wholly before the trailer; an empty one may start at it
 unfoldable pub before : List ℕ → Part → Bool
 before f p = leb (p .start + p .len) (trailer f)
 
--- the file ends in the tag
-unfoldable pub tagged : List ℕ → Bool
-tagged f = eqList (drop (length f - 4) f) tag
+-- the file ends in this tag
+unfoldable pub endsIn : List ℕ → List ℕ → Bool
+endsIn t f = eqList (drop (length f - 4) f) t
 
--- a file of 30 bytes to the limit, which ends in the tag and whose three parts lie wholly before the trailer
+-- the file ends in one of the tags
+unfoldable pub tagged : List ℕ → Bool
+tagged f = endsIn tag f || endsIn runsTag f
+
+-- the mark of its glyph map's form
+unfoldable pub formOf : List ℕ → ℕ
+formOf f = cond (endsIn runsTag f) 6 4
+
+-- a file of 30 bytes to the limit, which ends in a tag and whose three parts lie wholly before the trailer
 unfoldable pub goodJob : List ℕ → Bool
 goodJob f =
     leb 30 (length f) && (leb (length f) jobLimit && (tagged f && (before f (tablePart f) && (before f (glyphPart f) && before f (lookupPart f)))))
@@ -73,12 +85,12 @@ goodJob f =
 unfoldable pub bytesOf : List ℕ → Part → List ℕ
 bytesOf f p = take (p .len) (drop (p .start) f)
 
--- the job of a file, on a lent buffer: 11 for a faulty file, before anything else, and otherwise the call on the file's kind and parts
+-- the job of a file, on a lent buffer: 11 for a faulty file, before anything else, and otherwise the call on the file's kind and parts, for the plain layout
 unfoldable pub job : List ℕ → List ℕ → Outcome
-unfolding jobLimit long trailer ascii partAt tablePart glyphPart lookupPart eqList tag before tagged goodJob bytesOf word subset
+unfolding jobLimit long trailer ascii partAt tablePart glyphPart lookupPart eqList tag runsTag before endsIn tagged formOf goodJob bytesOf word subset
 job f out =
     cond (not (goodJob f)) (refused out 11)
-    (subset (word f (trailer f)) (bytesOf f (tablePart f)) (bytesOf f (glyphPart f)) (bytesOf f (lookupPart f)) out)
+    (subset (word f (trailer f)) (formOf f) 0 (bytesOf f (tablePart f)) (bytesOf f (glyphPart f)) (bytesOf f (lookupPart f)) out)
 
 -- What the program prints, as bytes.
 

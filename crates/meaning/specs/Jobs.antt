@@ -21,6 +21,10 @@ maps₁ = 3 ∷ 1 ∷ 5 ∷ 2 ∷ 9 ∷ 3 ∷ 4 ∷ 0 ∷ 7 ∷ 2 ∷ []
 abbrev pub lsj1 : List ℕ
 lsj1 = 0x4C53 ∷ 0x4A31 ∷ []
 
+-- the four bytes `LSJ2`, as words
+abbrev lsj2 : List ℕ
+lsj2 = 0x4C53 ∷ 0x4A32 ∷ []
+
 -- a context of format 3 without coverages, 6 bytes long
 abbrev pub bare : List ℕ
 bare = 3 ∷ 0 ∷ 0 ∷ []
@@ -33,6 +37,13 @@ jobs =
       file = flat ((0x0001 ∷ 0x0030 ∷ 0x0002 ∷ 0x000A ∷ 0x0024 ∷ 0x0002 ∷ 0x0006 ∷ 0x0010 ∷ 0x0002 ∷ 0x0001 ∷ 0x0009 ∷ 0x0000 ∷ 0x0007 ∷ 0x0002 ∷ 0x0001 ∷ 0x0006 ∷ 0x0000 ∷ 0x0004 ∷ 0x0001 ∷ 0x0004 ∷ 0x0001 ∷ 0x0001 ∷ 0x0000 ∷ 0x0005 ∷ 0x0001 ∷ 0x0002 ∷ 0x0003 ∷ 0x0005 ∷ []) ++ (maps₁ ++ ((1 ∷ 0 ∷ 0 ∷ 0 ∷ 56 ∷ 0 ∷ 56 ∷ 0 ∷ 12 ∷ 0 ∷ 68 ∷ 0 ∷ 8 ∷ []) ++ lsj1)));
       prints = "kept 40\n000100200002000a0018000100040002\n00010003000000020001000400010000\n0001000200010002\n";
     }
+    -- P1 with its glyph map as runs of one, 18 bytes: the same bytes
+    ∷ record {
+      file = flat ((0x0001 ∷ 0x0030 ∷ 0x0002 ∷ 0x000A ∷ 0x0024 ∷ 0x0002 ∷ 0x0006 ∷ 0x0010 ∷ 0x0002 ∷ 0x0001 ∷ 0x0009 ∷ 0x0000 ∷ 0x0007 ∷ 0x0002 ∷ 0x0001 ∷ 0x0006 ∷ 0x0000 ∷ 0x0004 ∷ 0x0001 ∷ 0x0004 ∷ 0x0001 ∷ 0x0001 ∷ 0x0000 ∷ 0x0005 ∷ 0x0001 ∷ 0x0002 ∷ 0x0003 ∷ 0x0005 ∷ []) ++ ((3 ∷ 1 ∷ 1 ∷ 5 ∷ 2 ∷ 1 ∷ 9 ∷ 3 ∷ 1 ∷ 4 ∷ 0 ∷ 7 ∷ 2 ∷ []) ++ ((1 ∷ 0 ∷ 0 ∷ 0 ∷ 56 ∷ 0 ∷ 56 ∷ 0 ∷ 18 ∷ 0 ∷ 74 ∷ 0 ∷ 8 ∷ []) ++ lsj2)));
+      prints = "kept 40\n000100200002000a0018000100040002\n00010003000000020001000400010000\n0001000200010002\n";
+    }
+    -- the lookup map keeps four bytes an entry, and the glyph map of P1 as pairs is no map of runs: its second run starts below the end of its first
+    ∷ record { file = flat (bare ++ ((3 ∷ 1 ∷ 5 ∷ 2 ∷ 9 ∷ 3 ∷ []) ++ ((1 ∷ 0 ∷ 0 ∷ 0 ∷ 6 ∷ 0 ∷ 6 ∷ 0 ∷ 12 ∷ 0 ∷ 18 ∷ 0 ∷ 0 ∷ []) ++ lsj2))); prints = "refused 2\n" }
     -- an empty part may start at the trailer
     ∷ record { file = flat (bare ++ ((1 ∷ 0 ∷ 0 ∷ 0 ∷ 6 ∷ 0 ∷ 6 ∷ 0 ∷ 0 ∷ 0 ∷ 6 ∷ 0 ∷ 0 ∷ []) ++ lsj1)); prints = "kept 6\n000300000000\n" }
     -- not past it
@@ -46,7 +57,7 @@ jobs =
     ∷ record { file = flat (bare ++ ((1 ∷ 0 ∷ 0 ∷ 0 ∷ 6 ∷ 1 ∷ 6 ∷ 0 ∷ 0 ∷ 0 ∷ 6 ∷ 0 ∷ 0 ∷ []) ++ lsj1)); prints = "refused 11\n" }
     -- 11 is answered before a kind that there is not; a wrong tag, and a file of 29 bytes
     ∷ record { file = flat (bare ++ ((9 ∷ 0 ∷ 0 ∷ 0 ∷ 6 ∷ 0 ∷ 6 ∷ 0 ∷ 0 ∷ 0 ∷ 6 ∷ 0 ∷ 0 ∷ []) ++ lsj1)); prints = "refused 1\n" }
-    ∷ record { file = flat (bare ++ ((9 ∷ 0 ∷ 0 ∷ 0 ∷ 6 ∷ 0 ∷ 6 ∷ 0 ∷ 0 ∷ 0 ∷ 6 ∷ 0 ∷ 0 ∷ []) ++ (0x4C53 ∷ 0x4A32 ∷ []))); prints = "refused 11\n" }
+    ∷ record { file = flat (bare ++ ((9 ∷ 0 ∷ 0 ∷ 0 ∷ 6 ∷ 0 ∷ 6 ∷ 0 ∷ 0 ∷ 0 ∷ 6 ∷ 0 ∷ 0 ∷ []) ++ (0x4C53 ∷ 0x4A33 ∷ []))); prints = "refused 11\n" }
     ∷ record { file = 0 ∷ flat (0 ∷ 0 ∷ 0 ∷ 0 ∷ 0 ∷ 0 ∷ 0 ∷ 0 ∷ 0 ∷ 0 ∷ 0 ∷ 0 ∷ lsj1); prints = "refused 11\n" }
     -- each byte of the tag counts, the first too
     ∷ record { file = flat (bare ++ ((1 ∷ 0 ∷ 0 ∷ 0 ∷ 6 ∷ 0 ∷ 6 ∷ 0 ∷ 0 ∷ 0 ∷ 6 ∷ 0 ∷ 0 ∷ []) ++ (0x6C53 ∷ 0x4A31 ∷ []))); prints = "refused 11\n" }

@@ -129,7 +129,7 @@ no-components = refl
 
 -- the cut of that table by the map 5 → 0, 6 → 1, 7 → 2, 21 → 3, into a buffer of 24 bytes
 abbrev pub less-one : Outcome
-less-one = subset 3 two-ligatures (flat (5 ∷ 0 ∷ 6 ∷ 1 ∷ 7 ∷ 2 ∷ 21 ∷ 3 ∷ [])) [] (replicate 24 0)
+less-one = subset 3 4 0 two-ligatures (flat (5 ∷ 0 ∷ 6 ∷ 1 ∷ 7 ∷ 2 ∷ 21 ∷ 3 ∷ [])) [] (replicate 24 0)
 
 -- The condition on ligatures is needed: the components of the first ligature are retained, and its glyph is not.
 -- The source forms 20 of the three glyphs; the small table is kept, and forms 21, which is now 3, of the first two.
@@ -161,7 +161,7 @@ abbrev pub silent-pairs : List ℕ
 silent-pairs = flat (1 ∷ 22 ∷ 0 ∷ 1 ∷ 1 ∷ 12 ∷ 2 ∷ 5 ∷ 0 ∷ 6 ∷ 0 ∷ 1 ∷ 1 ∷ 4 ∷ [])
 
 abbrev pub less-silent : Outcome
-less-silent = subset 4 silent-pairs (flat (4 ∷ 0 ∷ 5 ∷ 1 ∷ [])) [] (replicate 24 0)
+less-silent = subset 4 4 0 silent-pairs (flat (4 ∷ 0 ∷ 5 ∷ 1 ∷ [])) [] (replicate 24 0)
 
 -- a pair whose second format is not 0 has its second glyph skipped, in the source and in the small table, which keeps a field for it; a pair that is not found, or has no second format, has not
 pub still-skipped : (skips (table 4 silent-pairs) 4 5 ≡ true) × (less-silent .number ≡ 0) × (skips (table 4 (left less-silent)) 0 1 ≡ true) × (skips (table 4 silent-pairs) 5 4 ≡ false) × (skips (table 4 first-only) 5 6 ≡ false)
@@ -182,7 +182,7 @@ substitutes = (refl, refl, refl, refl, refl)
 
 -- the cut of the list by the map 5 → 0, 7 → 1, 9 → 2, in which 3, the substitute of 7, is not retained
 abbrev pub less-substitute : Outcome
-less-substitute = subset 5 by-list (flat (5 ∷ 0 ∷ 7 ∷ 1 ∷ 9 ∷ 2 ∷ [])) [] (replicate 12 0)
+less-substitute = subset 5 4 0 by-list (flat (5 ∷ 0 ∷ 7 ∷ 1 ∷ 9 ∷ 2 ∷ [])) [] (replicate 12 0)
 
 -- 5, whose substitute is retained, is replaced as in the source; 7, whose substitute is not, is replaced in the source and not in the small table
 pub substitute-needed : (less-substitute .number ≡ 0) × (substitute (table 5 by-list) 5 ≡ some 9) × (substitute (table 5 (left less-substitute)) 0 ≡ some 2) × (substitute (table 5 by-list) 7 ≡ some 3) × (substitute (table 5 (left less-substitute)) 1 ≡ none)

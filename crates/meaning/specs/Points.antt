@@ -1,9 +1,10 @@
 -- The open points of documents 01 and 02, decided: one table of calls, one statement over all of them, by computation. docs/DECISIONS.md says why each is read so.
+use Prim.Native.Nat.{ℕ}
 use mathlib.Core.Path.{_≡_, refl}
 use mathlib.Core.List.{List, [], _∷_, _++_, map}
 use Rattle.meaning.specs.Words.{flat}
 use Rattle.meaning.specs.Subset.{subset}
-use Rattle.meaning.specs.Calls.{Row, call, stated, kept, refuses, faulty}
+use Rattle.meaning.specs.Calls.{Row, callIn, call, stated, kept, refuses, faulty}
 
 -- the calls; each comment says what the calls below it show
 unfoldable pub points : List Row
@@ -323,3 +324,48 @@ points =
 pub each-point : map call points ≡ map stated points
 unfolding subset points
 each-point = refl
+
+-- calls with the mark of their glyph map's form before them
+unfoldable pub forms : List (ℕ × Row)
+forms =
+    -- P1 with its map as runs of one: the same bytes. Pairs in step, as pairs and as runs.
+    (6, kept 1 (flat (0x0001 ∷ 0x0030 ∷ 0x0002 ∷ 0x000A ∷ 0x0024 ∷ 0x0002 ∷ 0x0006 ∷ 0x0010 ∷ 0x0002 ∷ 0x0001 ∷ 0x0009 ∷ 0x0000 ∷ 0x0007 ∷ 0x0002 ∷ 0x0001 ∷ 0x0006 ∷ 0x0000 ∷ 0x0004 ∷ 0x0001 ∷ 0x0004 ∷ 0x0001 ∷ 0x0001 ∷ 0x0000 ∷ 0x0005 ∷ 0x0001 ∷ 0x0002 ∷ 0x0003 ∷ 0x0005 ∷ [])) (0x0003 ∷ 0x0001 ∷ 0x0001 ∷ 0x0005 ∷ 0x0002 ∷ 0x0001 ∷ 0x0009 ∷ 0x0003 ∷ 0x0001 ∷ []) (0x0004 ∷ 0x0000 ∷ 0x0007 ∷ 0x0002 ∷ []) (0x0001 ∷ 0x0020 ∷ 0x0002 ∷ 0x000A ∷ 0x0018 ∷ 0x0001 ∷ 0x0004 ∷ 0x0002 ∷ 0x0001 ∷ 0x0003 ∷ 0x0000 ∷ 0x0002 ∷ 0x0001 ∷ 0x0004 ∷ 0x0001 ∷ 0x0000 ∷ 0x0001 ∷ 0x0002 ∷ 0x0001 ∷ 0x0002 ∷ []))
+    ∷ (4, kept 1 (flat (0x0003 ∷ 0x0001 ∷ 0x0000 ∷ 0x0008 ∷ 0x0001 ∷ 0x0004 ∷ 0x0004 ∷ 0x0005 ∷ 0x0006 ∷ 0x0009 ∷ [])) (0x0004 ∷ 0x0001 ∷ 0x0005 ∷ 0x0002 ∷ 0x0006 ∷ 0x0003 ∷ 0x0009 ∷ 0x0004 ∷ []) [] (0x0003 ∷ 0x0001 ∷ 0x0000 ∷ 0x0008 ∷ 0x0002 ∷ 0x0001 ∷ 0x0001 ∷ 0x0004 ∷ 0x0000 ∷ []))
+    ∷ (6, kept 1 (flat (0x0003 ∷ 0x0001 ∷ 0x0000 ∷ 0x0008 ∷ 0x0001 ∷ 0x0004 ∷ 0x0004 ∷ 0x0005 ∷ 0x0006 ∷ 0x0009 ∷ [])) (0x0004 ∷ 0x0001 ∷ 0x0003 ∷ 0x0009 ∷ 0x0004 ∷ 0x0001 ∷ []) [] (0x0003 ∷ 0x0001 ∷ 0x0000 ∷ 0x0008 ∷ 0x0002 ∷ 0x0001 ∷ 0x0001 ∷ 0x0004 ∷ 0x0000 ∷ []))
+    -- A run starts above the last id of the run before it, in both columns.
+    ∷ (6, refuses 1 (flat (0x0003 ∷ 0x0000 ∷ 0x0000 ∷ [])) (0x0003 ∷ 0x0001 ∷ 0x0003 ∷ 0x0005 ∷ 0x0009 ∷ 0x0001 ∷ []) [] 2)
+    ∷ (6, refuses 1 (flat (0x0003 ∷ 0x0000 ∷ 0x0000 ∷ [])) (0x0003 ∷ 0x0001 ∷ 0x0003 ∷ 0x0006 ∷ 0x0003 ∷ 0x0001 ∷ []) [] 2)
+    ∷ (6, kept 1 (flat (0x0003 ∷ 0x0000 ∷ 0x0000 ∷ [])) (0x0003 ∷ 0x0001 ∷ 0x0003 ∷ 0x0006 ∷ 0x0004 ∷ 0x0001 ∷ []) [] (0x0003 ∷ 0x0000 ∷ 0x0000 ∷ []))
+    -- A count of 0, a length that is no multiple of 6, a run past 65,535 in a column; one that ends at 65,535.
+    ∷ (6, refuses 1 (flat (0x0003 ∷ 0x0000 ∷ 0x0000 ∷ [])) (0x0003 ∷ 0x0001 ∷ 0x0000 ∷ []) [] 2)
+    ∷ (6, refuses 1 (flat (0x0003 ∷ 0x0000 ∷ 0x0000 ∷ [])) (0x0003 ∷ 0x0001 ∷ []) [] 2)
+    ∷ (6, refuses 1 (flat (0x0003 ∷ 0x0000 ∷ 0x0000 ∷ [])) (0xFFFE ∷ 0x0001 ∷ 0x0003 ∷ []) [] 2)
+    ∷ (6, refuses 1 (flat (0x0003 ∷ 0x0000 ∷ 0x0000 ∷ [])) (0x0001 ∷ 0xFFFE ∷ 0x0003 ∷ []) [] 2)
+    ∷ (6, kept 1 (flat (0x0003 ∷ 0x0000 ∷ 0x0000 ∷ [])) (0xFFFE ∷ 0xFFFE ∷ 0x0002 ∷ []) [] (0x0003 ∷ 0x0000 ∷ 0x0000 ∷ []))
+    -- A run of 65,535 from 0, and all ids in two runs; an empty map is good in both forms.
+    ∷ (6, kept 1 (flat (0x0003 ∷ 0x0000 ∷ 0x0000 ∷ [])) (0x0000 ∷ 0x0000 ∷ 0xFFFF ∷ 0xFFFF ∷ 0xFFFF ∷ 0x0001 ∷ []) [] (0x0003 ∷ 0x0000 ∷ 0x0000 ∷ []))
+    ∷ (6, kept 1 (flat (0x0003 ∷ 0x0000 ∷ 0x0000 ∷ [])) [] [] (0x0003 ∷ 0x0000 ∷ 0x0000 ∷ []))
+    -- A mark that is not 4 or 6 is answered after a bad kind and before a bad map.
+    ∷ (5, refuses 1 (flat (0x0003 ∷ 0x0000 ∷ 0x0000 ∷ [])) (0x0001 ∷ []) [] 13)
+    ∷ (0, refuses 6 (flat (0x0003 ∷ 0x0000 ∷ 0x0000 ∷ [])) (0x0001 ∷ []) [] 1)
+    -- Runs in step, then a gap in both columns: 4 to 6 become 1 to 3, 9 and 10 become 7 and 8.
+    ∷ (6, kept 1 (flat (0x0003 ∷ 0x0001 ∷ 0x0000 ∷ 0x0008 ∷ 0x0002 ∷ 0x0001 ∷ 0x0003 ∷ 0x000B ∷ 0x0000 ∷ [])) (0x0004 ∷ 0x0001 ∷ 0x0003 ∷ 0x0009 ∷ 0x0007 ∷ 0x0002 ∷ []) [] (0x0003 ∷ 0x0001 ∷ 0x0000 ∷ 0x0008 ∷ 0x0001 ∷ 0x0005 ∷ 0x0001 ∷ 0x0002 ∷ 0x0003 ∷ 0x0007 ∷ 0x0008 ∷ []))
+    ∷ []
+
+-- each call gives what is stated
+pub each-form : map (λ e. callIn (e .0) 0 (e .1)) forms ≡ map (λ e. stated (e .1)) forms
+unfolding subset forms
+each-form = refl
+
+-- calls with the marks of their form and of the layout before them
+unfoldable pub layouts : List (ℕ × ℕ × Row)
+layouts =
+    -- A mark of the layout that is not 0 is answered after the mark of the form and before a bad map.
+    (4, 1, refuses 1 (flat (0x0003 ∷ 0x0000 ∷ 0x0000 ∷ [])) (0x0001 ∷ []) [] 14)
+    ∷ (5, 1, refuses 1 (flat (0x0003 ∷ 0x0000 ∷ 0x0000 ∷ [])) (0x0001 ∷ []) [] 13)
+    ∷ []
+
+-- each call gives what is stated
+pub each-layout : map (λ e. callIn (e .0) (e .1) (e .2)) layouts ≡ map (λ e. stated (e .2)) layouts
+unfolding subset layouts
+each-layout = refl

@@ -5,10 +5,9 @@ use mathlib.Core.Option.{none, some}
 use mathlib.Core.List.{List, [], _∷_, _++_, map, append-nil, append-assoc, map-append}
 use native.Mathlib.Omega.{arith}
 use lib.ListN.{length, set, length-append, length-map}
-use lib.Bits.{and-le-r}
 use Rattle.meaning.specs.Words.{word, words, bind, push}
 use Rattle.laws.specs.Left.{words-left, words-all, words-none}
-use Rattle.fold.specs.Cells.{cellOf, cellEntry, folded, answerIn, Kept, kept-all, kept-more, kept-set, answer-own, answer-other}
+use Rattle.fold.specs.Cells.{cellEntry, folded, answerIn, Kept, kept-all, kept-more, kept-set, entry-kept, answer-own, answer-other}
 use Rattle.fold.specs.declared.Map.{Map}
 use Rattle.area.specs.Part.{part, part-length, notes}
 use Rattle.area.specs.Stored.{part-same, part-store}
@@ -53,7 +52,7 @@ module _ {s : List ℕ} {at n : ℕ} {m : Map} {t₀ : List ℕ} {to : ℕ} wher
   module _ {t : List ℕ} {k i glyph e : ℕ} (a : MeetsList s at n m t₀ to) (c : Listing s at n m t₀ to t k i) (h : i < n) (w : glyph ≡ word s (at + 2 * i)) (f : e ≡ cellEntry t m glyph) where
     -- the cell is as it was at the start
     same-cell : e ≡ cellEntry t₀ m glyph
-    same-cell = f ∙ c .kept .same (cellOf m glyph) (omega (arith, a .behind, and-le-r glyph (m .mask)))
+    same-cell = f ∙ entry-kept (c .kept) m (a .behind) glyph
 
     -- there is a cell for one note more
     pub listing-room : to + k < length t

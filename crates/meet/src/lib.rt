@@ -1,4 +1,4 @@
-// Where a glyph map meets a coverage: the covered glyphs that the map has, noted in cells.
+// Where a listed glyph map meets a coverage: the covered glyphs that the map has, noted in cells.
 use coverage_index::Covered;
 use coverage_index::index_of;
 use fold::Map;
@@ -11,9 +11,8 @@ ghost use lib.ListN.{length};
 ghost use Rattle.meaning.specs.Words.{words, triples};
 ghost use Rattle.meaning.specs.Parts.{rangeGlyphs, coverage};
 ghost use Rattle.meaning.specs.Maps.{mapEntries};
-ghost use Rattle.meaning.specs.Words.{find, keys, ascends, isSome};
-ghost use Rattle.meaning.specs.Cut.{unlessEmpty, newCoverage};
-ghost use Rattle.meet.specs.Answered.{answered, SeeksRanges, Seeks};
+ghost use Rattle.meaning.specs.Words.{find, keys, ascends};
+ghost use Rattle.meet.specs.Answered.{answered};
 ghost use Rattle.fold.specs.Cells.{folded, Inside};
 ghost use Rattle.meet.specs.Met.{Met, Meets};
 ghost use Rattle.meet.specs.Walks.{MeetsList, MeetsRanges, MeetsEntries, MeetsRange, InRange, Reached};
@@ -32,7 +31,7 @@ fn reach(glyphs: &[u8], from: usize, value: usize) -> usize
 }
 
 // The `n` listed glyphs from `at` on that the map has, noted from `to` on; how many. Each is noted, and the place moves on if the map has it, so that no branch waits for the answer.
-fn meet_list(src: &[u8], at: usize, n: usize, m: Map, t: &mut [u32], to: usize) -> usize
+pub fn meet_list(src: &[u8], at: usize, n: usize, m: Map, t: &mut [u32], to: usize) -> usize
     requires { ⌜ MeetsList (now src) at n m (now t) to ⌝ }
     ensures { λ r. ⌜ Met (folded (now (t .entry)) m) (words (now (src .entry)) at n) (now (t .entry)) to (now (t .exit)) r ⌝ }
 {
@@ -136,7 +135,7 @@ pub fn meet(src: &[u8], at: usize, glyphs: &[u8], m: Map, t: &mut [u32], to: usi
 }
 
 // Whether the map has one of the `n` listed glyphs from `at` on. The first that it has settles it.
-fn meets_list(src: &[u8], at: usize, n: usize, m: Map, t: &[u32]) -> bool
+pub fn meets_list(src: &[u8], at: usize, n: usize, m: Map, t: &[u32]) -> bool
     requires { ⌜ (at + 2 * n ≤ length (now src)) × Inside (now t) m ⌝ }
     ensures { λ r. ⌜ r ≡ answered (folded (now (t .entry)) m) (words (now (src .entry)) at n) ⌝ }
 {
@@ -149,38 +148,4 @@ fn meets_list(src: &[u8], at: usize, n: usize, m: Map, t: &[u32]) -> bool
         i += 1;
     }
     false
-}
-
-// Whether the map has a glyph of the `n` ranges from `at` on. The first range in which an entry of the map lies settles it.
-fn meets_ranges(src: &[u8], at: usize, n: usize, glyphs: &[u8]) -> bool
-    requires { ⌜ SeeksRanges (now src) at n (now glyphs) ⌝ }
-    ensures { λ r. ⌜ r ≡ answered (find (mapEntries (now (glyphs .entry)))) (rangeGlyphs (triples (now (src .entry)) at n)) ⌝ }
-{
-    let mut e = 0;
-    let mut i = 0;
-    while i < n {
-        let first = word_inside(src, at + 6 * i);
-        let last = word_inside(src, at + 6 * i + 2);
-        e = reach(glyphs, e, first);
-        if glyphs.len() / 4 <= e {
-            return false;
-        }
-        if word_inside(glyphs, 4 * e) <= last {
-            return true;
-        }
-        i += 1;
-    }
-    false
-}
-
-// Whether a glyph of the coverage at `at` is retained. `m` holds the glyph map.
-pub fn meets(src: &[u8], at: usize, glyphs: &[u8], m: Map, t: &[u32]) -> bool
-    requires { ⌜ Seeks (now src) at (now glyphs) m (now t) ⌝ }
-    ensures { λ r. ⌜ r ≡ isSome (unlessEmpty (newCoverage (mapEntries (now (glyphs .entry))) (coverage (now (src .entry)) at))) ⌝ }
-{
-    let n = word_inside(src, at + 2);
-    if word_inside(src, at) == 1 {
-        return meets_list(src, at + 4, n, m, t);
-    }
-    meets_ranges(src, at + 4, n, glyphs)
 }

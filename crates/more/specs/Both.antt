@@ -9,7 +9,6 @@ use lib.ListN.{length, take, drop}
 use lib.Dec.{ltb}
 use borrow.Author.Tests.{not-true, not-false}
 use Rattle.meaning.specs.Words.{bind, values}
-use Rattle.meaning.specs.Maps.{mapEntries}
 use Rattle.meaning.specs.Tables.{Table, table}
 use Rattle.meaning.specs.Cut.{cut}
 use Rattle.meaning.specs.Matching.{atPlace, match, ligate, adjust, secondFormat, skips, substitute}
@@ -18,7 +17,7 @@ use Rattle.laws.specs.Stands.{All, all-map}
 use Rattle.laws.specs.Runs.{up-ascends}
 use Rattle.laws.specs.Through.{opt-map}
 use Rattle.laws.specs.CutGood.{GoodMap}
-use Rattle.laws.specs.CallBack.{Passed, passed, good-glyphs}
+use Rattle.laws.specs.CallBack.{Passed, passed, good-glyph-map}
 use Rattle.promises.specs.Strings.{Retained, new, known}
 use Rattle.promises.specs.Numbers.{injective}
 use Rattle.promises.specs.Rules.{cutMatch}
@@ -26,7 +25,7 @@ use Rattle.promises.specs.Ligatures.{cutLigated, Closed}
 use Rattle.promises.specs.Singles.{SubstituteRetained}
 use Rattle.promises.specs.Survives.{survives}
 use Rattle.promises.specs.Walks.{walk}
-use Rattle.promises.specs.Refusals.{Call, answer, plain, plainWords, refusals, first, NoneOf, answer-meets, given-exactly, kept-exactly}
+use Rattle.promises.specs.Refusals.{Call, answer, glyphMap, lookupMap, plain, plainWords, refusals, first, NoneOf, answer-meets, given-exactly, kept-exactly}
 use Rattle.promises.specs.Tested.{GoodMaps, tests, tested, kept-tested}
 use Rattle.promises.specs.Promises.{BytesOf, says, small-says, reads-back, context-same, ligature-same, pair-same, pair-skipped, single-same, walk-same}
 use Rattle.more.specs.Wider.{Wider, table-also}
@@ -36,14 +35,7 @@ use Rattle.more.specs.Formed.{formed-kept}
 use Rattle.more.specs.OneClosed.{one-closed-forms}
 use Rattle.more.specs.Formats.{firstFormat, firstStays, secondStays, stays-also, StandIn, KeepsFields, formats-left, MoreFields, fields-wider, second-wider}
 
--- a call's maps, old number to new
-abbrev pub glyphMap : Call → List (ℕ × ℕ)
-glyphMap c = mapEntries (c .glyphs)
-
-abbrev pub lookupMap : Call → List (ℕ × ℕ)
-lookupMap c = mapEntries (c .lookups)
-
--- two calls on one source: the second's maps hold all old ids of the first's. New ids and the buffers may differ
+-- two calls on one source: the second's maps hold all old ids of the first's. New ids, the forms of the glyph maps and the buffers may differ
 pub record KeepsMore (c d : Call) : Type 0 where
   pub kind : d .kind ≡ c .kind
   pub source : d .source ≡ c .source
@@ -55,22 +47,22 @@ abbrev pub LaidOut : ℕ → Type 0
 LaidOut n = (n ≡ 0) ⊎ ((n ≡ 9) ⊎ (n ≡ 10))
 
 -- the refusals before 8 that do not look at a map are the same for calls on one source
-tests-same : (c d : Call) → d .kind ≡ c .kind → d .source ≡ c .source → NoneOf (take 8 (refusals c)) → GoodMaps d → NoneOf (take 8 (refusals d))
+tests-same : (c d : Call) → d .kind ≡ c .kind → d .source ≡ c .source → NoneOf (take 10 (refusals c)) → GoodMaps d → NoneOf (take 10 (refusals d))
 tests-same c d k s n m = tested d (rw (k, s) (tests c n .0)) m
 
 -- refused as empty: nothing survives, and no refusal before 8 applies; and the other way round
-empty-is : (c : Call) → (answer c) .number ≡ 8 → (not (survives (glyphMap c) (says c)) ≡ true) × NoneOf (take 8 (refusals c))
+empty-is : (c : Call) → (answer c) .number ≡ 8 → (not (survives (glyphMap c) (says c)) ≡ true) × NoneOf (take 10 (refusals c))
 unfolding refusals
-empty-is c e = given-exactly c (take 8 (refusals c)) 8 (not (survives (glyphMap c) (says c))) (drop 9 (refusals c)) refl .0 e
+empty-is c e = given-exactly c (take 10 (refusals c)) 8 (not (survives (glyphMap c) (says c))) (drop 11 (refusals c)) refl .0 e
 
-is-empty : (c : Call) → not (survives (glyphMap c) (says c)) ≡ true → NoneOf (take 8 (refusals c)) → (answer c) .number ≡ 8
+is-empty : (c : Call) → not (survives (glyphMap c) (says c)) ≡ true → NoneOf (take 10 (refusals c)) → (answer c) .number ≡ 8
 unfolding refusals
-is-empty c e n = given-exactly c (take 8 (refusals c)) 8 (not (survives (glyphMap c) (says c))) (drop 9 (refusals c)) refl .1 e n
+is-empty c e n = given-exactly c (take 10 (refusals c)) 8 (not (survives (glyphMap c) (says c))) (drop 11 (refusals c)) refl .1 e n
 
 -- kept: something survives
 kept-survives : (c : Call) → (answer c) .number ≡ 0 → survives (glyphMap c) (says c) ≡ true
 unfolding refusals
-kept-survives c k = let (n1, (n2, (n3, (n4, (n5, (n6, (n7, (n12, (n8, late))))))))) = kept-exactly c .0 k in not-false _ n8
+kept-survives c k = let (n1, (n13, (n14, (n2, (n3, (n4, (n5, (n6, (n7, (n12, (n8, late))))))))))) = kept-exactly c .0 k in not-false _ n8
 
 module _ (c d : Call) (more : KeepsMore c d) where
   -- both read one table
@@ -88,8 +80,8 @@ module _ (c d : Call) (more : KeepsMore c d) where
   pub more-kept : (answer c) .number ≡ 0 → GoodMaps d → LaidOut ((answer d) .number)
   unfolding refusals first
   more-kept k g =
-      let (n1, (n2, (n3, (n4, (n5, (n6, (n7, (n12, u)))))))) = tests-same c d (more .kind) (more .source) (kept-tested c k) g in
-      rw (answer-meets d .number, n1, n2, n3, n4, n5, n6, n7, n12, survives-more (kept-survives c k))
+      let (n1, (n13, (n14, (n2, (n3, (n4, (n5, (n6, (n7, (n12, u)))))))))) = tests-same c d (more .kind) (more .source) (kept-tested c k) g in
+      rw (answer-meets d .number, n1, n13, n14, n2, n3, n4, n5, n6, n7, n12, survives-more (kept-survives c k))
       (step (tooBig (plainWords d)) (ltb (length (d .buffer)) (length (plain d))))
     where
       step : (big short : Bool) → LaidOut (cond big 9 (cond short 10 0))
@@ -124,11 +116,11 @@ module _ (c d : Call) (more : KeepsMore c d) (bytes-c : BytesOf c) (bytes-d : By
   wider = retained-more g h (more .glyphs)
 
   -- what the second call has passed, its glyph map, and what it leaves of the table that both read
-  passes : Passed (d .kind) (d .source) (d .glyphs) (d .lookups) (d .buffer)
-  passes = passed (d .kind) (d .source) (d .glyphs) (d .lookups) (d .buffer) kept-d
+  passes : Passed (d .kind) (d .form) (d .packing) (d .source) (d .glyphs) (d .lookups) (d .buffer)
+  passes = passed (d .kind) (d .form) (d .packing) (d .source) (d .glyphs) (d .lookups) (d .buffer) kept-d
 
   good : GoodMap h
-  good = good-glyphs (d .glyphs) (bytes-d .glyphs) (passes .glyphs-good)
+  good = good-glyph-map (d .form) (d .glyphs) (bytes-d .glyphs) (passes .glyphs-good)
 
   left-d : cut h m (table (d .kind) (d .source)) ≡ some (small-says d)
   left-d = reads-back d bytes-d kept-d .0

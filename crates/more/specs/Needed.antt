@@ -12,10 +12,14 @@ use Rattle.meaning.specs.Matching.{match, ligate, adjust, secondFormat, substit
 use Rattle.promises.specs.Refusals.{Call, answer}
 use Rattle.promises.specs.Promises.{says, small-says}
 
--- a call on words, with a buffer of `room` sevens
+-- a call on words, with a glyph map in a form and a buffer of `room` sevens
+abbrev calls-in : ℕ → ℕ → List ℕ → List ℕ → List ℕ → ℕ → Call
+calls-in form kind source glyphs lookups room =
+    record { kind = kind; form = form; packing = 0; source = flat source; glyphs = flat glyphs; lookups = flat lookups; buffer = replicate room 7 }
+
+-- the same with a glyph map of pairs
 abbrev calls : ℕ → List ℕ → List ℕ → List ℕ → ℕ → Call
-calls kind source glyphs lookups room =
-    record { kind = kind; source = flat source; glyphs = flat glyphs; lookups = flat lookups; buffer = replicate room 7 }
+calls = calls-in 4
 
 -- a context by coverage: glyph 5, and a record that runs lookup 4 on it
 abbrev one-cover : List ℕ
@@ -37,9 +41,9 @@ pub lookups-needed : (match (small-says with-lookup) [] 0 [] ≡ some (1, (0, 0)
 unfolding bytes2 flat subset table match
 lookups-needed = (refl, refl)
 
--- New ids may differ: 5 and 6 to 3 and 4, and lookup 4 to 9.
+-- New ids may differ, and the forms: 5 and 6 to 3 and 4, as one run, and lookup 4 to 9.
 abbrev other-ids : Call
-other-ids = calls 1 one-cover (5 ∷ 3 ∷ 6 ∷ 4 ∷ []) (2 ∷ 0 ∷ 4 ∷ 9 ∷ []) 18
+other-ids = calls-in 6 1 one-cover (5 ∷ 3 ∷ 2 ∷ []) (2 ∷ 0 ∷ 4 ∷ 9 ∷ []) 18
 
 pub new-ids-differ : ((answer other-ids) .number ≡ 0) × (match (small-says other-ids) [] 3 [] ≡ some (1, (0, 9) ∷ []))
 unfolding bytes2 flat subset table match
@@ -50,10 +54,12 @@ pub string-needed : (match (says with-lookup) [] 6 [] ≡ none) × (match (small
 unfolding bytes2 flat subset table match
 string-needed = (refl, refl)
 
--- The maps of the second call must be good, or it is refused for them.
-pub good-needed : (answer (calls 1 one-cover (6 ∷ 0 ∷ 5 ∷ 1 ∷ []) [] 14)) .number ≡ 2
+-- The maps of the second call must be good, and the mark of the form, or it is refused for them: pairs whose old ids fall, a run past 65,535, and the mark 5.
+pub good-needed : ((answer (calls 1 one-cover (6 ∷ 0 ∷ 5 ∷ 1 ∷ []) [] 14)) .number ≡ 2)
+    × ((answer (calls-in 6 1 one-cover (5 ∷ 0 ∷ 65532 ∷ []) [] 14)) .number ≡ 2)
+    × ((answer (calls-in 5 1 one-cover (5 ∷ 0 ∷ []) [] 14)) .number ≡ 13)
 unfolding bytes2 flat subset
-good-needed = refl
+good-needed = (refl, refl, refl)
 
 -- The second may be short of room where the first is kept.
 pub room-differs : (answer (calls 1 one-cover (5 ∷ 0 ∷ []) (4 ∷ 0 ∷ []) 17)) .number ≡ 10

@@ -1,5 +1,5 @@
 -- Request 12, keeping more must not spoil anything: every statement in one place, each with its words above it.
--- There are two glyph maps and two lookup maps, and each second one holds all old ids of its first (`Wider`). New ids may differ.
+-- There are two glyph maps, each in either form, and two lookup maps, and each second one holds all old ids of its first (`Wider`). New ids may differ, and the forms.
 -- A reader who believes the definitions of `meaning` and the statements of `promises` needs of this crate what stands here and
 -- `Then`, `Also`, `Wider`, `slotKept`, `firstClassKept`, `secondClassKept` and `cellSurvives` (Wider.antt), `fieldSurvives` (Fields.antt), `cellFieldSurvives` (Cells.antt),
 -- `fieldStays`, `StandIn`, `KeepsFields` and `MoreFields` (Formats.antt), `Alike`, `SameMatch`, `SameLigature` and `SameSubstitute` (Alike.antt),
@@ -18,7 +18,7 @@ use Rattle.promises.specs.Ligatures.{Closed}
 use Rattle.promises.specs.Singles.{SubstituteRetained, SubstitutesRetained}
 use Rattle.promises.specs.Survives.{isRetained, classSurvives, glyphRuleSurvives, classRuleSurvives, setKept, coverageSurvives, ligatureSurvives, pairSurvives, substituteSurvives, survives}
 use Rattle.promises.specs.Walks.{walk}
-use Rattle.promises.specs.Refusals.{Call, answer}
+use Rattle.promises.specs.Refusals.{Call, answer, glyphMap, lookupMap}
 use Rattle.promises.specs.Tested.{GoodMaps}
 use Rattle.promises.specs.Promises.{BytesOf, says, small-says}
 use Rattle.more.specs.Wider as Wide
@@ -27,7 +27,7 @@ use Rattle.more.specs.Formats as Formats
 use Rattle.more.specs.Formats.{firstFormat, firstStays, secondStays, StandIn, KeepsFields, MoreFields}
 use Rattle.more.specs.Alike.{Alike, SameMatch, SameLigature, SameSubstitute}
 use Rattle.more.specs.Both as Both
-use Rattle.more.specs.Both.{glyphMap, lookupMap, KeepsMore, LaidOut}
+use Rattle.more.specs.Both.{KeepsMore, LaidOut}
 
 -- What survives under the first glyph map g survives under the second, h: the whole table and each of its parts, in the words of Survives.antt, without `cut`.
 module _ (g h : List (ℕ × ℕ)) (wider : Wider g h) where

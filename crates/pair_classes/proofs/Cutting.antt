@@ -1,5 +1,5 @@
 -- What a sound source says, and what the cells hold of it, step by step.
-use Prim.Native.Nat.{ℕ, suc, _+_, _-_, _*_, _/_, _%_, _≤_, _<_}
+use Prim.Native.Nat.{ℕ, suc, _+_, _*_, _/_, _%_, _≤_, _<_}
 use native.Mathlib.Nat.{zero-add, mul-assoc, mul-comm}
 use mathlib.Core.Path.{_≡_, refl, sym, ap, _∙_, subst}
 use mathlib.Core.Bool.{Bool, true, false, cond, _&&_, _||_, true≢false}
@@ -11,8 +11,8 @@ use lib.ListN.{length, take, length-map}
 use lib.Dec.{leb, eqb}
 use lib.Seq.{length-take-le}
 use borrow.Author.Tests.{leb-true, eq-eqb, ne-eqb, eqb-false}
-use Rattle.meaning.specs.Words.{word, inside, entries, keys, values, find, twos, flat}
-use Rattle.meaning.specs.Maps.{mapEntries}
+use Rattle.meaning.specs.Words.{word, inside, entries, keys, values, find, twos, bytes2, flat}
+use Rattle.meaning.specs.Maps.{mapEntries, goodGlyphs, goodForm, glyphEntries, goodGlyphMap}
 use Rattle.meaning.specs.Parts.{coverage, coverageSound, classes, classesSound}
 use Rattle.meaning.specs.Tables.{Pair, Table, fieldCount, reach, cellRows, pairTable, table}
 use Rattle.meaning.specs.Fault.{partFault, lowest, faultThrough, coverageFault, classesFault, goodFormats, classesBelow, pairFault, fault}
@@ -20,22 +20,22 @@ use Rattle.meaning.specs.Cut.{classMap, secondMap, classesUnder, newCoverage, c
 use Rattle.meaning.specs.Subset.{Outcome, refused, limit, goodKind, written}
 use Rattle.laws.specs.Stands.{Stands, flat-length, twos-length, entries-back}
 use Rattle.laws.specs.Runs.{both, up-ascends}
-use Rattle.laws.specs.Left.{entries-length}
-use Rattle.laws.specs.Ascends.{glyphs-ascend, map-length}
 use Rattle.laws.specs.Written.{Wrote, wrote-length}
 use Rattle.laws.specs.SetsBack.{twos-small}
 use Rattle.laws.specs.ReadsBack.{Good, fault-pairs, table-pairs}
 use Rattle.laws.specs.SoundGood.{Bytes, part-sound, lowest-none, coverage-up, sound-good}
-use Rattle.laws.specs.CallBack.{good-glyphs}
-use Rattle.laws.specs.CutGood.{GoodMap, all-keys, up-length}
+use Rattle.laws.specs.CutGood.{GoodMap}
 use Rattle.laws.specs.CutCells.{covered-map, covered-values}
 use Rattle.fold.specs.Cells.{Holds, Kept}
-use Rattle.fold.specs.Laid.{Laid}
+use Rattle.fold.specs.Runs.{LaidGlyphs}
 use Rattle.fold.specs.declared.Map.{Map}
 use Rattle.area.specs.Part.{part, part-length, news, notes}
 use Rattle.area.specs.Extends.{wrote-extends}
 use Rattle.numbers.specs.Alike.{holds-alike}
-use Rattle.meet.specs.Met.{met, Met, Meets, met-few, met-count, met-news}
+use Rattle.meet.specs.Met.{met, Met, met-few, met-count, met-news}
+use Rattle.meet_runs.specs.Either.{Most, MeetsGlyphs}
+use Rattle.glyph_runs.specs.Runs.{GlyphMap, map-good}
+use Rattle.glyph_runs.specs.Found.{entries-few}
 use Rattle.class_lists.specs.Tables.{classesAt, lists-there}
 use Rattle.class_maps.specs.Same.{Same, kept-same, part-alike, holds-same}
 use Rattle.class_cells.specs.Kept.{cellSize, has-cells, kept-alike}
@@ -160,68 +160,64 @@ unfolding values
 values-length [] = refl
 values-length (e ∷ es) = ap suc (values-length es)
 
-entries-few : (m : List ℕ) → length (mapEntries m) ≡ length m / 4
-unfolding mapEntries
-entries-few m = entries-length m 0 (length m / 4)
-
-module _ {s glyphs : List ℕ} (o : Sound s glyphs) where
+module _ {s : List ℕ} {form : ℕ} {glyphs : List ℕ} (o : Sound s form glyphs) where
   pub has-header : 16 ≤ length s
   has-header = head-inside s (o .format) (o .sound)
 
-  pub begins : {t₀ t : List ℕ} {m : Map} → Laid glyphs t₀ t 0 m → (m .mask ≡ 0 → ⊥) → hasNull s ≡ false → Bytes s → Bytes glyphs → Begins s glyphs m t
+  pub begins : {t₀ t : List ℕ} {m : Map} → LaidGlyphs form glyphs t₀ t 0 m → (m .mask ≡ 0 → ⊥) → hasNull s ≡ false → Bytes s → Bytes glyphs → Begins s form glyphs m t
   begins a z h bs bg =
       let q = or-none (eqb (word s 2) 0) (eqb (word s 8) 0) (eqb (word s 10) 0) h in
-      let good = good-glyphs glyphs bg (o .glyphs-good) in
-      let up = glyphs-ascend glyphs (o .glyphs-good) in
       record {
         kern = kern-sound s (o .format) (o .sound) (eqb-false (word s 2) 0 (q .0)) (eqb-false (word s 8) 0 (q .1)) (eqb-false (word s 10) 0 (q .2)) bs;
-        map = record {
-          ascend = up;
-          good = good;
-          few = omega (arith, up-length 0 (keys (mapEntries glyphs)) (omega arith) (good .old) (all-keys (mapEntries glyphs) (good .words)), map-length glyphs);
-        };
+        map = record { form-good = o .form-good; good = o .glyphs-good; bytes = bg };
         front = a .place;
-        mask = a .few up;
+        mask = a .few;
         holds = a .holds z;
       }
 
   -- too few cells for it
-  pub few-cells : {t₀ t : List ℕ} {m : Map} → Laid glyphs t₀ t 0 m → m .mask ≡ 0 → length t₀ < enoughCells
+  pub few-cells : {t₀ t : List ℕ} {m : Map} → LaidGlyphs form glyphs t₀ t 0 m → m .mask ≡ 0 → length t₀ < enoughCells
   few-cells {t₀} a z = step (decLt (length t₀) 65536)
     where
       step : Dec (length t₀ < 65536) → length t₀ < enoughCells
       step (yes h) = omega arith
-      step (no h) = absurd (a .room (omega arith) (glyphs-ascend glyphs (o .glyphs-good)) z)
+      step (no h) = absurd (a .room (omega arith) z)
 
 -- The covered glyphs, noted.
-module _ {s glyphs : List ℕ} {m : Map} {t : List ℕ} (b : Begins s glyphs m t) {at : ℕ} (e : at ≡ m .mask + 1) where
-  pub few-notes : length t ≤ at + length glyphs / 4 → length t < enoughCells
-  few-notes h = omega (arith, b .mask, b .map .few)
+module _ {s : List ℕ} {form : ℕ} {glyphs : List ℕ} {m : Map} {t : List ℕ} (b : Begins s form glyphs m t) {at : ℕ} (e : at ≡ m .mask + 1) where
+  module _ {cover : ℕ} (w : cover ≡ word s 2) where
+    pub may-bound : (coverageSound s cover ≡ true) × GlyphMap form glyphs
+    may-bound = (rw w (b .kern .cover), b .map)
 
-  pub may-meet : {cover : ℕ} → cover ≡ word s 2 → at + length glyphs / 4 < length t → Meets s cover glyphs m t at
-  may-meet w h = record { sound = rw w (b .kern .cover); ascend = b .map .ascend; holds = b .holds; behind = omega (arith, b .front); room = h }
+    module _ {n : ℕ} (k : Most form glyphs s cover n) where
+      -- too few cells for the notes
+      pub few-notes : length t ≤ at + n → length t < enoughCells
+      few-notes h = omega (arith, b .mask, k .small)
 
-  module _ {cover len : ℕ} {next : List ℕ} (w : cover ≡ word s 2) (k : Met (find (mapEntries glyphs)) (coverage s cover) t at next len) where
-    met-here : Met (find (mapEntries glyphs)) (coverage s (word s 2)) t at next len
+      pub may-meet : at + n < length t → MeetsGlyphs form s cover glyphs m t at
+      may-meet h = record { sound = may-bound .0; map = b .map; holds = b .holds; behind = omega (arith, b .front); room = omega (arith, k .number) }
+
+  module _ {cover len : ℕ} {next : List ℕ} (w : cover ≡ word s 2) (k : Met (find (glyphEntries form glyphs)) (coverage s cover) t at next len) where
+    met-here : Met (find (glyphEntries form glyphs)) (coverage s (word s 2)) t at next len
     met-here = rw w at k
 
-    pub notings : (len ≡ 0 → ⊥) → Noting s glyphs (record { at = at; len = len }) next
+    pub notings : (len ≡ 0 → ⊥) → Noting s form glyphs (record { at = at; len = len }) next
     notings z = record {
       kern = b .kern;
       map = b .map;
       noted = met-here .noted;
       inside = omega (arith, k .fits, k .kept .size);
       some = omega arith;
-      few = omega (arith, met-count met-here, met-few (mapEntries glyphs) (coverage s (word s 2)) (coverage-up s (word s 2) (b .kern .cover)), entries-few glyphs, b .map .few);
+      few = omega (arith, met-count met-here, met-few (glyphEntries form glyphs) (coverage s (word s 2)) (coverage-up s (word s 2) (b .kern .cover)), entries-few (b .map));
       near = omega (arith, b .mask);
     }
 
     -- none is retained
-    pub none-met : (out : List ℕ) → len ≡ 0 → refused out 8 ≡ written out (cut (mapEntries glyphs) [] (pairTable s))
+    pub none-met : (out : List ℕ) → len ≡ 0 → refused out 8 ≡ written out (cut (glyphEntries form glyphs) [] (pairTable s))
     unfolding part named
     none-met out z =
-        let e : met (find (mapEntries glyphs)) 0 (coverage s (word s 2)) ≡ [] = sym (met-here .noted) ∙ ap (notes next at) z in
-        none-kept (b .kern) (b .map .good) (sym (named-met (mapEntries glyphs) (coverage s (word s 2))) ∙ ap (named (coverage s (word s 2))) e) out
+        let e : met (find (glyphEntries form glyphs)) 0 (coverage s (word s 2)) ≡ [] = sym (met-here .noted) ∙ ap (notes next at) z in
+        none-kept (b .kern) (map-good (b .map)) (sym (named-met (glyphEntries form glyphs) (coverage s (word s 2))) ∙ ap (named (coverage s (word s 2))) e) out
 
 -- Cells and bytes as many as before.
 module _ (r : Tried) (out after : List ℕ) (made : Outcome) {at : ℕ} {t u : List ℕ} (k : Kept at t u) where
@@ -232,21 +228,27 @@ module _ (r : Tried) (out after : List ℕ) (made : Outcome) {at : ℕ} {t u : L
   scratch-same {area} {next} w h =
       tries-less (length u < enoughCells) (length next < limit) (length t < enoughCells) (length area < limit) r out after made (λ x. omega (arith, k .size)) (λ x. omega (arith, wrote-length w)) h
 
+-- words are written as bytes
+flat-bytes : (ws : List ℕ) → Bytes (flat ws)
+unfolding flat bytes2
+flat-bytes [] = tt
+flat-bytes (w ∷ ws) = (omega arith, (omega arith, flat-bytes ws))
+
 -- The first classes, by the entries of the covered glyphs in the area.
-module _ {s glyphs : List ℕ} {cover : Noted} {t : List ℕ} (b : Noting s glyphs cover t) where
+module _ {s : List ℕ} {form : ℕ} {glyphs : List ℕ} {cover : Noted} {t : List ℕ} (b : Noting s form glyphs cover t) where
   abbrev cov : List ℕ
   cov = coverage s (word s 2)
 
   abbrev g : List (ℕ × ℕ)
-  g = mapEntries glyphs
+  g = glyphEntries form glyphs
 
   abbrev es : List (ℕ × ℕ)
   es = named cov (notes t (cover .at) (cover .len))
 
-  covered-is : es ≡ coveredOf s glyphs
+  covered-is : es ≡ coveredOf s form glyphs
   covered-is = ap (named cov) (b .noted) ∙ named-met g cov
 
-  many : length (coveredOf s glyphs) ≡ cover .len
+  many : length (coveredOf s form glyphs) ≡ cover .len
   many = ap length (sym covered-is) ∙ named-length cov (notes t (cover .at) (cover .len)) ∙ length-map {B = ℕ × ℕ} (part t (cover .at) (cover .len)) (λ c. (c / 65536, c % 65536)) ∙ part-length t (cover .at) (cover .len)
 
   pub names : {at : ℕ} {area : List ℕ} {n : ℕ} → at ≡ word s 2 → n ≡ 4 * cover .len → n ≤ length area → Names s at t (cover .at) (cover .len) area
@@ -262,51 +264,60 @@ module _ {s glyphs : List ℕ} {cover : Noted} {t : List ℕ} (b : Noting s glyp
   unfolding limit
   short-covered area e h = omega (arith, b .few)
 
-  good-covered : GoodMap (coveredOf s glyphs)
-  good-covered = covered-map g (b .map .good) cov (b .kern .good .0)
+  good-covered : GoodMap (coveredOf s form glyphs)
+  good-covered = covered-map g (map-good (b .map)) cov (b .kern .good .0)
 
   module _ {at : ℕ} {area next : List ℕ} {p n : ℕ} (w : at ≡ word s 2) (e : n ≡ 4 * cover .len) (h : n ≤ length area) (k : Wrote area 0 (twos (named (coverage s at) (notes t (cover .at) (cover .len)))) next p) where
-    put : Wrote area 0 (twos (coveredOf s glyphs)) next p
+    put : Wrote area 0 (twos (coveredOf s form glyphs)) next p
     put = subst (λ (l : List (ℕ × ℕ)). Wrote area 0 (twos l) next p) covered-is (rw w at k)
 
     -- the bytes that were written
-    bytes-are : take n next ≡ flat (twos (coveredOf s glyphs))
+    bytes-are : take n next ≡ flat (twos (coveredOf s form glyphs))
     bytes-are =
-        let q : p ≡ n = omega (arith, put .place, twos-length (coveredOf s glyphs), many) in
+        let q : p ≡ n = omega (arith, put .place, twos-length (coveredOf s form glyphs), many) in
         rw q at (wrote-extends put (omega arith) .front)
 
-    pub covered-many : length (take n next) / 4 ≡ cover .len
-    covered-many = omega (arith, ap length bytes-are, flat-length (twos (coveredOf s glyphs)), twos-length (coveredOf s glyphs), many)
+    front-many : length (take n next) / 4 ≡ length (coveredOf s form glyphs)
+    front-many = omega (arith, ap length bytes-are, flat-length (twos (coveredOf s form glyphs)), twos-length (coveredOf s form glyphs))
 
-    pub covered-entries : mapEntries (take n next) ≡ coveredOf s glyphs
-    unfolding mapEntries
+    covered-entries : glyphEntries 4 (take n next) ≡ coveredOf s form glyphs
+    unfolding glyphEntries mapEntries
     covered-entries =
-        let stands : Stands (take n next) 0 (twos (coveredOf s glyphs)) = record { before = []; after = []; split = bytes-are ∙ sym (append-nil (flat (twos (coveredOf s glyphs)))); place = refl; small = twos-small (coveredOf s glyphs) (good-covered .words) } in
-        ap (entries (take n next) 0) (covered-many ∙ sym many) ∙ entries-back (coveredOf s glyphs) stands
+        let stands : Stands (take n next) 0 (twos (coveredOf s form glyphs)) = record { before = []; after = []; split = bytes-are ∙ sym (append-nil (flat (twos (coveredOf s form glyphs)))); place = refl; small = twos-small (coveredOf s form glyphs) (good-covered .words) } in
+        ap (entries (take n next) 0) front-many ∙ entries-back (coveredOf s form glyphs) stands
+
+    -- they are a glyph map of pairs
+    covered-good : GlyphMap 4 (take n next)
+    unfolding goodForm goodGlyphMap goodGlyphs glyphEntries
+    covered-good = record {
+      form-good = refl;
+      good = rw (eq-eqb (length (take n next) % 4) 0 (omega (arith, ap length bytes-are, flat-length (twos (coveredOf s form glyphs)), twos-length (coveredOf s form glyphs))), covered-entries, up-ascends 0 (keys (coveredOf s form glyphs)) (good-covered .old), up-ascends 0 (values (coveredOf s form glyphs)) (good-covered .new));
+      bytes = rw bytes-are (flat-bytes (twos (coveredOf s form glyphs)));
+    }
 
     pub front-inside : n ≡ length (take n next)
     front-inside = sym (length-take-le n next (omega (arith, wrote-length k)))
 
-    pub first-asks : {c list : ℕ} → c ≡ word s 8 → list ≡ cover .at + cover .len → Asks s c (take n next) list
+    pub first-asks : {c list : ℕ} → c ≡ word s 8 → list ≡ cover .at + cover .len → Asks s c 4 (take n next) list
     first-asks c l = record {
       sound = rw c (record { sound = λ z. b .kern .first });
-      ascend = rw covered-entries (up-ascends 0 (keys (coveredOf s glyphs)) (good-covered .old));
+      map = covered-good;
       near = omega (arith, b .few, b .near);
     }
 
     module _ {c list : ℕ} {u : List ℕ} {first : Classed} (v : c ≡ word s 8) (l : list ≡ cover .at + cover .len)
-        (d : Sided (classMap (mapEntries (take n next)) (classesAt s c)) (classesAt s c) (mapEntries (take n next)) (length (take n next) / 4) t u list first) where
-      sided-is : Sided (classMap (coveredOf s glyphs) (classes s (word s 8))) (classes s (word s 8)) (coveredOf s glyphs) (cover .len) t u (cover .at + cover .len) first
-      sided-is = rw (covered-entries, covered-many, v, lists-there s (b .kern .first-there), l) at d
+        (d : Sided (classMap (glyphEntries 4 (take n next)) (classesAt s c)) (classesAt s c) (glyphEntries 4 (take n next)) t u list first) where
+      sided-is : Sided (classMap (coveredOf s form glyphs) (classes s (word s 8))) (classes s (word s 8)) (coveredOf s form glyphs) t u (cover .at + cover .len) first
+      sided-is = rw (covered-entries, v, lists-there s (b .kern .first-there), l) at d
 
       pub first-cells : first .map .mask ≡ 0 → length t < enoughCells
-      first-cells z = step (decLt (length t) (cover .at + cover .len + cover .len + 65536))
+      first-cells z = step (decLt (length t) (cover .at + cover .len + 131072))
         where
-          step : Dec (length t < cover .at + cover .len + cover .len + 65536) → length t < enoughCells
+          step : Dec (length t < cover .at + cover .len + 131072) → length t < enoughCells
           step (yes x) = omega (arith, b .few, b .near)
           step (no x) = absurd (sided-is .room (omega arith) z)
 
-      pub first-in : (first .map .mask ≡ 0 → ⊥) → FirstIn s glyphs cover first u
+      pub first-in : (first .map .mask ≡ 0 → ⊥) → FirstIn s form glyphs cover first u
       first-in z = record {
         kern = b .kern;
         map = b .map;
@@ -321,47 +332,47 @@ module _ {s glyphs : List ℕ} {cover : Noted} {t : List ℕ} (b : Noting s glyp
       }
 
 -- The second classes, and all that the cells hold then.
-module _ {s glyphs : List ℕ} {cover : Noted} {first : Classed} {t : List ℕ} (b : FirstIn s glyphs cover first t) {list : ℕ} (l : list ≡ first .map .at + first .map .mask + 1) where
+module _ {s : List ℕ} {form : ℕ} {glyphs : List ℕ} {cover : Noted} {first : Classed} {t : List ℕ} (b : FirstIn s form glyphs cover first t) {list : ℕ} (l : list ≡ first .map .at + first .map .mask + 1) where
   abbrev ds : List (ℕ × ℕ)
   ds = classes s (word s 10)
 
-  pub second-asks : {c : ℕ} → c ≡ word s 10 → Asks s c glyphs list
-  second-asks c = record { sound = rw c (record { sound = λ z. b .kern .second }); ascend = b .map .ascend; near = omega (arith, b .few, b .near, b .mask, b .side .place) }
+  pub second-asks : {c : ℕ} → c ≡ word s 10 → Asks s c form glyphs list
+  second-asks c = record { sound = rw c (record { sound = λ z. b .kern .second }); map = b .map; near = omega (arith, b .few, b .near, b .mask, b .side .near) }
 
-  module _ {c : ℕ} {u : List ℕ} {second : Classed} (v : c ≡ word s 10) (d : Sided (secondMap (mapEntries glyphs) (classesAt s c)) (classesAt s c) (mapEntries glyphs) (length glyphs / 4) t u list second) where
-    second-is : Sided (secondMap (mapEntries glyphs) ds) ds (mapEntries glyphs) (length glyphs / 4) t u list second
+  module _ {c : ℕ} {u : List ℕ} {second : Classed} (v : c ≡ word s 10) (d : Sided (secondMap (glyphEntries form glyphs) (classesAt s c)) (classesAt s c) (glyphEntries form glyphs) t u list second) where
+    second-is : Sided (secondMap (glyphEntries form glyphs) ds) ds (glyphEntries form glyphs) t u list second
     second-is = rw (v, lists-there s (b .kern .second-there)) at d
 
     pub second-cells : second .map .mask ≡ 0 → length t < enoughCells
-    second-cells z = step (decLt (length t) (list + length glyphs / 4 + 65536))
+    second-cells z = step (decLt (length t) (list + 131072))
       where
-        step : Dec (length t < list + length glyphs / 4 + 65536) → length t < enoughCells
-        step (yes x) = omega (arith, b .few, b .near, b .mask, b .side .place, b .map .few)
+        step : Dec (length t < list + 131072) → length t < enoughCells
+        step (yes x) = omega (arith, b .few, b .near, b .mask, b .side .near)
         step (no x) = absurd (second-is .room (omega arith) z)
 
     module _ (z : second .map .mask ≡ 0 → ⊥) where
       stay : Same 0 list t u
       stay = kept-same (second-is .kept)
 
-      seconds : Side (secondMap (mapEntries glyphs) ds) ds (mapEntries glyphs) (length glyphs / 4) u list second
+      seconds : Side (secondMap (glyphEntries form glyphs) ds) ds (glyphEntries form glyphs) u list second
       seconds = second-is .side z
 
-      first-holds : Holds u (first .map) (classMap (coveredOf s glyphs) (classes s (word s 8)))
+      first-holds : Holds u (first .map) (classMap (coveredOf s form glyphs) (classes s (word s 8)))
       first-holds = holds-same stay (first .map) (omega arith) (omega arith) (b .side .holds)
 
-      first-entries : notes u (first .entries .at) (first .entries .len) ≡ classesUnder (classMap (coveredOf s glyphs) (classes s (word s 8))) (coveredOf s glyphs) (classes s (word s 8))
-      first-entries = ap (map (λ x. (x / 65536, x % 65536))) (part-alike stay (first .entries .at) (first .entries .len) (omega arith) (omega (arith, b .side .listed, b .side .few, b .side .place))) ∙ b .side .entries
+      first-entries : notes u (first .entries .at) (first .entries .len) ≡ classesUnder (classMap (coveredOf s form glyphs) (classes s (word s 8))) (coveredOf s form glyphs) (classes s (word s 8))
+      first-entries = ap (map (λ x. (x / 65536, x % 65536))) (part-alike stay (first .entries .at) (first .entries .len) (omega arith) (omega (arith, b .side .listed, b .side .few))) ∙ b .side .entries
 
-      glyphs-here : news u (cover .at) (cover .len) ≡ newCoverage (mapEntries glyphs) (coverage s (word s 2))
-      glyphs-here = ap (map (λ x. x % 65536)) (part-alike stay (cover .at) (cover .len) (omega arith) (omega (arith, b .side .place))) ∙ b .glyphs-noted
+      glyphs-here : news u (cover .at) (cover .len) ≡ newCoverage (glyphEntries form glyphs) (coverage s (word s 2))
+      glyphs-here = ap (map (λ x. x % 65536)) (part-alike stay (cover .at) (cover .len) (omega arith) (omega (arith, b .side .few))) ∙ b .glyphs-noted
 
-      covered-some : 0 < length (coveredOf s glyphs)
+      covered-some : 0 < length (coveredOf s form glyphs)
       covered-some =
-          omega (arith, b .some, values-length (coveredOf s glyphs), ap length (covered-values (mapEntries glyphs) (coverage s (word s 2))), ap length (sym (b .glyphs-noted)), length-map (part t (cover .at) (cover .len)) (λ x. x % 65536), part-length t (cover .at) (cover .len))
+          omega (arith, b .some, values-length (coveredOf s form glyphs), ap length (covered-values (glyphEntries form glyphs) (coverage s (word s 2))), ap length (sym (b .glyphs-noted)), length-map (part t (cover .at) (cover .len)) (λ x. x % 65536), part-length t (cover .at) (cover .len))
 
       pub ready : Ready s u cover first second
       ready =
-          let up = kern-up (b .kern) (b .map .good) covered-some in
+          let up = kern-up (b .kern) (map-good (b .map)) covered-some in
           record {
             cells = record { has = b .kern .has; first-map = first-holds .inside; second-map = seconds .holds .inside };
             tail = record {
@@ -369,25 +380,25 @@ module _ {s glyphs : List ℕ} {cover : Noted} {first : Classed} {t : List ℕ} 
               covered = b .some;
               few = b .few;
               first = record {
-                inside = omega (arith, b .side .listed, b .side .few, b .side .place, first-holds .inside .within);
-                few = omega (arith, b .side .few, b .few);
+                inside = omega (arith, b .side .listed, b .side .few, first-holds .inside .within);
+                few = omega (arith, b .side .few, b .side .near);
                 ascend = rw first-entries (up-ascends 0 _ (up .0));
               };
               second = record {
-                inside = omega (arith, seconds .listed, seconds .few, seconds .place, seconds .holds .inside .within);
-                few = omega (arith, seconds .few, b .map .few);
+                inside = omega (arith, seconds .listed, seconds .few, seconds .holds .inside .within);
+                few = omega (arith, seconds .few, seconds .near);
                 ascend = rw (seconds .entries) (up-ascends 0 _ (up .1));
               };
             };
           }
 
-      pub left-is : (out : List ℕ) → leftInto out s u cover first second ≡ written out (cut (mapEntries glyphs) [] (pairTable s))
+      pub left-is : (out : List ℕ) → leftInto out s u cover first second ≡ written out (cut (glyphEntries form glyphs) [] (pairTable s))
       left-is out =
           let kept = kept-alike (holds-alike first-holds) (holds-alike (seconds .holds)) 0 (cellRows s (fieldCount (word s 4)) (fieldCount (word s 6)) (word s 14) 16 (word s 12)) in
-          rw (kept, b .side .count, seconds .count, glyphs-here, first-entries, seconds .entries) (kern-cut (b .kern) (b .map .good) covered-some out)
+          rw (kept, b .side .count, seconds .count, glyphs-here, first-entries, seconds .entries) (kern-cut (b .kern) (map-good (b .map)) covered-some out)
 
       pub all-left : (area : List ℕ) (r : Tried) (out after : List ℕ) → Tries (⊥) (length area < limit) r out after (leftInto out s u cover first second)
-          → Tries (length t < enoughCells) (length area < limit) r out after (written out (cut (mapEntries glyphs) [] (pairTable s)))
+          → Tries (length t < enoughCells) (length area < limit) r out after (written out (cut (glyphEntries form glyphs) [] (pairTable s)))
       all-left area r out after h =
           tries-less ⊥ (length area < limit) (length t < enoughCells) (length area < limit) r out after _ (λ x. absurd x) (λ x. x)
           (subst (λ (o : Outcome). Tries (⊥) (length area < limit) r out after o) (left-is out) h)

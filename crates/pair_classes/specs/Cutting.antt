@@ -1,38 +1,39 @@
 -- What a cut asks, by its steps, and what it asks of the cells.
-use Prim.Native.Nat.{ℕ, _+_, _/_, _≤_, _<_}
+use Prim.Native.Nat.{ℕ, _+_, _≤_, _<_}
 use mathlib.Core.Path.{_≡_}
 use mathlib.Core.Bool.{Bool, true, _||_}
 use mathlib.Core.Option.{none, some}
 use mathlib.Core.List.{List}
 use lib.ListN.{length}
 use lib.Dec.{eqb}
-use Rattle.meaning.specs.Words.{word, keys, ascends, find}
-use Rattle.meaning.specs.Maps.{mapEntries, goodGlyphs}
+use Rattle.meaning.specs.Words.{word, find}
+use Rattle.meaning.specs.Maps.{goodForm, glyphEntries, goodGlyphMap}
 use Rattle.meaning.specs.Parts.{coverage, coverageSound, classes, classesSound}
 use Rattle.meaning.specs.Tables.{Table, fieldCount, cellRows, pairTable}
 use Rattle.meaning.specs.Fault.{fault}
 use Rattle.meaning.specs.Cut.{classMap, newCoverage, coveredMap}
 use Rattle.laws.specs.ReadsBack.{Good}
-use Rattle.laws.specs.CutGood.{GoodMap}
 use Rattle.fold.specs.Cells.{Holds}
 use Rattle.fold.specs.declared.Map.{Map}
 use Rattle.area.specs.Part.{news, notes}
 use Rattle.meet.specs.Met.{met}
+use Rattle.glyph_runs.specs.Runs.{GlyphMap}
 use Rattle.class_cells.specs.Cells.{HasCells}
 use Rattle.class_cells.specs.Kept.{cellSize}
 use Rattle.pair_classes.specs.Sides.{Side}
 use Rattle.pair_classes.specs.declared.Noted.{Noted}
 use Rattle.pair_classes.specs.declared.Classed.{Classed}
 
--- cells that are enough for any source: the glyph map and a note for each glyph; two class maps, each with a class for each glyph
+-- cells that are enough for any source: 65,536 for the glyph map and as many for the notes; and for each of two class tables as many for the classes of the glyphs, and for the class map: 2 * 65,536 + 2 * 131,072
 abbrev pub enoughCells : ℕ
 enoughCells = 393216
 
 -- the source is a pair table by class and has no fault, and the glyph map is good
-pub record Sound (s glyphs : List ℕ) : Type 0 where
+pub record Sound (s : List ℕ) (form : ℕ) (glyphs : List ℕ) : Type 0 where
   pub sound : fault 4 s ≡ none
   pub format : word s 0 ≡ 1 → ⊥
-  pub glyphs-good : goodGlyphs glyphs ≡ true
+  pub form-good : goodForm form ≡ true
+  pub glyphs-good : goodGlyphMap form glyphs ≡ true
 
 -- the coverage or one of the class tables is null
 abbrev pub hasNull : List ℕ → Bool
@@ -56,42 +57,36 @@ pub record Kerning (s : List ℕ) : Type 0 where
   pub table : pairTable s ≡ kernTable s
   pub good : Good (kernTable s)
 
--- a glyph map: old numbers ascend, it is good, and there are no more entries than numbers
-pub record Glyphs (glyphs : List ℕ) : Type 0 where
-  pub ascend : ascends (keys (mapEntries glyphs)) ≡ true
-  pub good : GoodMap (mapEntries glyphs)
-  pub few : length glyphs / 4 ≤ 65536
-
 -- what is asked where the cells of m, from the first on, hold the glyph map
-pub record Begins (s glyphs : List ℕ) (m : Map) (t : List ℕ) : Type 0 where
+pub record Begins (s : List ℕ) (form : ℕ) (glyphs : List ℕ) (m : Map) (t : List ℕ) : Type 0 where
   pub kern : Kerning s
-  pub map : Glyphs glyphs
+  pub map : GlyphMap form glyphs
   pub front : m .at ≡ 0
   pub mask : m .mask < 65536
-  pub holds : Holds t m (mapEntries glyphs)
+  pub holds : Holds t m (glyphEntries form glyphs)
 
 -- what is asked where the covered glyphs are noted in cells, of which there is one
-pub record Noting (s glyphs : List ℕ) (cover : Noted) (t : List ℕ) : Type 0 where
+pub record Noting (s : List ℕ) (form : ℕ) (glyphs : List ℕ) (cover : Noted) (t : List ℕ) : Type 0 where
   pub kern : Kerning s
-  pub map : Glyphs glyphs
-  pub noted : notes t (cover .at) (cover .len) ≡ met (find (mapEntries glyphs)) 0 (coverage s (word s 2))
+  pub map : GlyphMap form glyphs
+  pub noted : notes t (cover .at) (cover .len) ≡ met (find (glyphEntries form glyphs)) 0 (coverage s (word s 2))
   pub inside : cover .at + cover .len ≤ length t
   pub some : 0 < cover .len
   pub few : cover .len ≤ 65536
   pub near : cover .at ≤ 65536
 
 -- the glyph map of the covered glyphs
-abbrev pub coveredOf : List ℕ → List ℕ → List (ℕ × ℕ)
-coveredOf s glyphs = coveredMap (mapEntries glyphs) (coverage s (word s 2))
+abbrev pub coveredOf : List ℕ → ℕ → List ℕ → List (ℕ × ℕ)
+coveredOf s form glyphs = coveredMap (glyphEntries form glyphs) (coverage s (word s 2))
 
 -- what is asked where besides the first classes lie in the cells behind the notes
-pub record FirstIn (s glyphs : List ℕ) (cover : Noted) (first : Classed) (t : List ℕ) : Type 0 where
+pub record FirstIn (s : List ℕ) (form : ℕ) (glyphs : List ℕ) (cover : Noted) (first : Classed) (t : List ℕ) : Type 0 where
   pub kern : Kerning s
-  pub map : Glyphs glyphs
-  pub glyphs-noted : news t (cover .at) (cover .len) ≡ newCoverage (mapEntries glyphs) (coverage s (word s 2))
+  pub map : GlyphMap form glyphs
+  pub glyphs-noted : news t (cover .at) (cover .len) ≡ newCoverage (glyphEntries form glyphs) (coverage s (word s 2))
   pub inside : cover .at + cover .len ≤ length t
   pub some : 0 < cover .len
   pub few : cover .len ≤ 65536
   pub near : cover .at ≤ 65536
   pub mask : first .map .mask < 65536
-  pub side : Side (classMap (coveredOf s glyphs) (classes s (word s 8))) (classes s (word s 8)) (coveredOf s glyphs) (cover .len) t (cover .at + cover .len) first
+  pub side : Side (classMap (coveredOf s form glyphs) (classes s (word s 8))) (classes s (word s 8)) (coveredOf s form glyphs) t (cover .at + cover .len) first

@@ -11,8 +11,9 @@ use class_maps::new_entries;
 use class_maps::pinned_map;
 use covered_map::put_covered;
 use fold::Map;
-use fold::lay;
-use meet::meet;
+use fold::lay_glyphs;
+use meet_runs::meet;
+use meet_runs::most;
 use pair_sets::Formats;
 use room::HIGHEST;
 use room::LIMIT;
@@ -22,11 +23,11 @@ use tried::Tried;
 use wire::word_inside;
 ghost use mathlib.Core.Path.{_≡_};
 ghost use mathlib.Core.List.{[]};
-ghost use Prim.Native.Nat.{_+_, _/_, _≤_, _<_};
+ghost use Prim.Native.Nat.{_+_, _≤_, _<_};
 ghost use lib.ListN.{length};
 ghost use lib.Seq.{sets};
 ghost use Rattle.meaning.specs.Words.{flat};
-ghost use Rattle.meaning.specs.Maps.{mapEntries};
+ghost use Rattle.meaning.specs.Maps.{glyphEntries};
 ghost use Rattle.meaning.specs.Tables.{pairTable};
 ghost use Rattle.meaning.specs.Cut.{classMap, secondMap, cut};
 ghost use Rattle.meaning.specs.Layout.{coverageWords, classWords};
@@ -61,11 +62,18 @@ pub struct Ends {
 }
 
 // The first classes, of the class table at `at`, in cells from `list` on: those that the glyphs of the map hold, and the entries of the new table. The mask is 0 where there are too few cells.
-fn first_classes(src: &[u8], at: usize, glyphs: &[u8], t: &mut [u32], list: usize) -> Classed
-    requires { ⌜ Asks (now src) at (now glyphs) list ⌝ }
-    ensures { λ r. ⌜ Sided (classMap (mapEntries (now (glyphs .entry))) (classesAt (now (src .entry)) at)) (classesAt (now (src .entry)) at) (mapEntries (now (glyphs .entry))) (length (now (glyphs .entry)) / 4) (now (t .entry)) (now (t .exit)) list r ⌝ }
+fn first_classes(
+    src: &[u8],
+    at: usize,
+    form: usize,
+    glyphs: &[u8],
+    t: &mut [u32],
+    list: usize,
+) -> Classed
+    requires { ⌜ Asks (now src) at form (now glyphs) list ⌝ }
+    ensures { λ r. ⌜ Sided (classMap (glyphEntries form (now (glyphs .entry))) (classesAt (now (src .entry)) at)) (classesAt (now (src .entry)) at) (glyphEntries form (now (glyphs .entry))) (now (t .entry)) (now (t .exit)) list r ⌝ }
 {
-    let c = class_map(src, at, glyphs, t, list);
+    let c = class_map(src, at, glyphs, form, t, list);
     let map = c.map;
     if map.mask == 0 {
         return Classed {
@@ -74,7 +82,7 @@ fn first_classes(src: &[u8], at: usize, glyphs: &[u8], t: &mut [u32], list: usiz
             entries: Noted { at: list, len: 0 },
         };
     }
-    let len = new_entries(glyphs, t, list, map);
+    let len = new_entries(t, list, map);
     Classed {
         map,
         count: c.count,
@@ -83,11 +91,18 @@ fn first_classes(src: &[u8], at: usize, glyphs: &[u8], t: &mut [u32], list: usiz
 }
 
 // The second classes so, with class 0 always among them.
-fn second_classes(src: &[u8], at: usize, glyphs: &[u8], t: &mut [u32], list: usize) -> Classed
-    requires { ⌜ Asks (now src) at (now glyphs) list ⌝ }
-    ensures { λ r. ⌜ Sided (secondMap (mapEntries (now (glyphs .entry))) (classesAt (now (src .entry)) at)) (classesAt (now (src .entry)) at) (mapEntries (now (glyphs .entry))) (length (now (glyphs .entry)) / 4) (now (t .entry)) (now (t .exit)) list r ⌝ }
+fn second_classes(
+    src: &[u8],
+    at: usize,
+    form: usize,
+    glyphs: &[u8],
+    t: &mut [u32],
+    list: usize,
+) -> Classed
+    requires { ⌜ Asks (now src) at form (now glyphs) list ⌝ }
+    ensures { λ r. ⌜ Sided (secondMap (glyphEntries form (now (glyphs .entry))) (classesAt (now (src .entry)) at)) (classesAt (now (src .entry)) at) (glyphEntries form (now (glyphs .entry))) (now (t .entry)) (now (t .exit)) list r ⌝ }
 {
-    let c = pinned_map(src, at, glyphs, t, list);
+    let c = pinned_map(src, at, glyphs, form, t, list);
     let map = c.map;
     if map.mask == 0 {
         return Classed {
@@ -96,7 +111,7 @@ fn second_classes(src: &[u8], at: usize, glyphs: &[u8], t: &mut [u32], list: usi
             entries: Noted { at: list, len: 0 },
         };
     }
-    let len = new_entries(glyphs, t, list, map);
+    let len = new_entries(t, list, map);
     Classed {
         map,
         count: c.count,
@@ -209,6 +224,7 @@ fn lay_pairs(
 // The same with the first classes in cells behind the notes of the covered glyphs, and the second ones still to be laid behind them.
 fn cut_first(
     src: &[u8],
+    form: usize,
     glyphs: &[u8],
     cover: Noted,
     first: Classed,
@@ -216,28 +232,29 @@ fn cut_first(
     area: &mut [u8],
     out: &mut [u8],
 ) -> Tried
-    requires { ⌜ FirstIn (now src) (now glyphs) cover first (now t) × (length (now area) ≤ limit) ⌝ }
-    ensures { λ r. ⌜ Tries (length (now (t .entry)) < enoughCells) (length (now (area .entry)) < limit) r (now (out .entry)) (now (out .exit)) (written (now (out .entry)) (cut (mapEntries (now (glyphs .entry))) [] (pairTable (now (src .entry))))) ⌝ }
+    requires { ⌜ FirstIn (now src) form (now glyphs) cover first (now t) × (length (now area) ≤ limit) ⌝ }
+    ensures { λ r. ⌜ Tries (length (now (t .entry)) < enoughCells) (length (now (area .entry)) < limit) r (now (out .entry)) (now (out .exit)) (written (now (out .entry)) (cut (glyphEntries form (now (glyphs .entry))) [] (pairTable (now (src .entry))))) ⌝ }
 {
     let list = first.map.at + first.map.mask + 1;
-    let second = second_classes(src, word_inside(src, 10), glyphs, t, list);
+    let second = second_classes(src, word_inside(src, 10), form, glyphs, t, list);
     if second.map.mask == 0 {
         return Tried::FewCells;
     }
     lay_pairs(src, t, cover, first, second, area, out)
 }
 
-// The same with the covered glyphs noted in cells. Their entries of the glyph map stand in the area for as long as the first classes are laid.
+// The same with the covered glyphs noted in cells. Their entries of the glyph map stand in the area for as long as the first classes are laid, as pairs, the form 4.
 fn cut_noted(
     src: &[u8],
+    form: usize,
     glyphs: &[u8],
     cover: Noted,
     t: &mut [u32],
     area: &mut [u8],
     out: &mut [u8],
 ) -> Tried
-    requires { ⌜ Noting (now src) (now glyphs) cover (now t) × (length (now area) ≤ limit) ⌝ }
-    ensures { λ r. ⌜ Tries (length (now (t .entry)) < enoughCells) (length (now (area .entry)) < limit) r (now (out .entry)) (now (out .exit)) (written (now (out .entry)) (cut (mapEntries (now (glyphs .entry))) [] (pairTable (now (src .entry))))) ⌝ }
+    requires { ⌜ Noting (now src) form (now glyphs) cover (now t) × (length (now area) ≤ limit) ⌝ }
+    ensures { λ r. ⌜ Tries (length (now (t .entry)) < enoughCells) (length (now (area .entry)) < limit) r (now (out .entry)) (now (out .exit)) (written (now (out .entry)) (cut (glyphEntries form (now (glyphs .entry))) [] (pairTable (now (src .entry))))) ⌝ }
 {
     let n = 4 * cover.len;
     if area.len() < n {
@@ -245,34 +262,36 @@ fn cut_noted(
     }
     put_covered(src, word_inside(src, 2), t, cover.at, cover.len, area);
     let list = cover.at + cover.len;
-    let first = first_classes(src, word_inside(src, 8), &area[..n], t, list);
+    let first = first_classes(src, word_inside(src, 8), 4, &area[..n], t, list);
     if first.map.mask == 0 {
         return Tried::FewCells;
     }
-    cut_first(src, glyphs, cover, first, t, area, out)
+    cut_first(src, form, glyphs, cover, first, t, area, out)
 }
 
 // The same with the glyph map in cells from the first on.
 fn cut_map(
     src: &[u8],
+    form: usize,
     glyphs: &[u8],
     m: Map,
     t: &mut [u32],
     area: &mut [u8],
     out: &mut [u8],
 ) -> Tried
-    requires { ⌜ Begins (now src) (now glyphs) m (now t) × (length (now area) ≤ limit) ⌝ }
-    ensures { λ r. ⌜ Tries (length (now (t .entry)) < enoughCells) (length (now (area .entry)) < limit) r (now (out .entry)) (now (out .exit)) (written (now (out .entry)) (cut (mapEntries (now (glyphs .entry))) [] (pairTable (now (src .entry))))) ⌝ }
+    requires { ⌜ Begins (now src) form (now glyphs) m (now t) × (length (now area) ≤ limit) ⌝ }
+    ensures { λ r. ⌜ Tries (length (now (t .entry)) < enoughCells) (length (now (area .entry)) < limit) r (now (out .entry)) (now (out .exit)) (written (now (out .entry)) (cut (glyphEntries form (now (glyphs .entry))) [] (pairTable (now (src .entry))))) ⌝ }
 {
     let at = m.mask + 1;
-    if t.len() <= at + glyphs.len() / 4 {
+    let cover = word_inside(src, 2);
+    if t.len() <= at + most(src, cover, glyphs, form) {
         return Tried::FewCells;
     }
-    let len = meet(src, word_inside(src, 2), glyphs, m, t, at);
+    let len = meet(src, cover, glyphs, form, m, t, at);
     if len == 0 {
         return Tried::Became(Laid::Nothing);
     }
-    cut_noted(src, glyphs, Noted { at, len }, t, area, out)
+    cut_noted(src, form, glyphs, Noted { at, len }, t, area, out)
 }
 
 // Whether the coverage or one of the class tables is null.
@@ -290,18 +309,25 @@ fn has_null(src: &[u8]) -> bool
 }
 
 // What is left of a sound table, with an area that is not over the limit.
-fn cut_in(src: &[u8], glyphs: &[u8], t: &mut [u32], area: &mut [u8], out: &mut [u8]) -> Tried
-    requires { ⌜ Sound (now src) (now glyphs) × (length (now area) ≤ limit) ⌝ }
-    ensures { λ r. ⌜ Tries (length (now (t .entry)) < enoughCells) (length (now (area .entry)) < limit) r (now (out .entry)) (now (out .exit)) (written (now (out .entry)) (cut (mapEntries (now (glyphs .entry))) [] (pairTable (now (src .entry))))) ⌝ }
+fn cut_in(
+    src: &[u8],
+    form: usize,
+    glyphs: &[u8],
+    t: &mut [u32],
+    area: &mut [u8],
+    out: &mut [u8],
+) -> Tried
+    requires { ⌜ Sound (now src) form (now glyphs) × (length (now area) ≤ limit) ⌝ }
+    ensures { λ r. ⌜ Tries (length (now (t .entry)) < enoughCells) (length (now (area .entry)) < limit) r (now (out .entry)) (now (out .exit)) (written (now (out .entry)) (cut (glyphEntries form (now (glyphs .entry))) [] (pairTable (now (src .entry))))) ⌝ }
 {
     if has_null(src) {
         return Tried::Became(Laid::Nothing);
     }
-    let m = lay(glyphs, t, 0);
+    let m = lay_glyphs(glyphs, form, t, 0);
     if m.mask == 0 {
         return Tried::FewCells;
     }
-    cut_map(src, glyphs, m, t, area, out)
+    cut_map(src, form, glyphs, m, t, area, out)
 }
 
 // How much of the area is used: all of it, but not more than the limit.
@@ -319,13 +345,14 @@ fn front(area: &[u8]) -> usize
 pub fn class_pairs(
     src: &[u8],
     glyphs: &[u8],
+    form: usize,
     t: &mut [u32],
     area: &mut [u8],
     out: &mut [u8],
 ) -> Tried
-    requires { ⌜ Sound (now src) (now glyphs) ⌝ }
-    ensures { λ r. ⌜ Tries (length (now (t .entry)) < enoughCells) (length (now (area .entry)) < limit) r (now (out .entry)) (now (out .exit)) (written (now (out .entry)) (cut (mapEntries (now (glyphs .entry))) [] (pairTable (now (src .entry))))) ⌝ }
+    requires { ⌜ Sound (now src) form (now glyphs) ⌝ }
+    ensures { λ r. ⌜ Tries (length (now (t .entry)) < enoughCells) (length (now (area .entry)) < limit) r (now (out .entry)) (now (out .exit)) (written (now (out .entry)) (cut (glyphEntries form (now (glyphs .entry))) [] (pairTable (now (src .entry))))) ⌝ }
 {
     let n = front(area);
-    cut_in(src, glyphs, t, &mut area[..n], out)
+    cut_in(src, form, glyphs, t, &mut area[..n], out)
 }

@@ -1,15 +1,15 @@
 -- The label job: which files are faulty, in document 01's words, and what a job answers.
-use Prim.Native.Nat.{ℕ, _+_, _-_, _≤_, _<_}
+use Prim.Native.Nat.{ℕ, _+_, _-_, _<_}
 use mathlib.Core.Path.{_≡_, refl, sym, ap, ap₂, _∙_}
-use mathlib.Core.Bool.{Bool, true, false, cond, _&&_, not, true≢false}
+use mathlib.Core.Bool.{Bool, true, false, cond, _&&_, _||_, not, true≢false}
 use mathlib.Core.List.{List, [], _∷_}
 use native.Mathlib.Omega.{arith}
 use lib.ListN.{length, drop}
 use lib.Dec.{leb, eqb}
-use borrow.Author.Tests.{leb-true, leb-false, le-leb, eqb-true, eqb-false, eq-eqb, not-true}
+use borrow.Author.Tests.{leb-true, leb-false, eqb-true, eqb-false, eq-eqb, not-true}
 use Rattle.meaning.specs.Words.{word, every}
-use Rattle.meaning.specs.Subset.{refused, subset}
-use Rattle.meaning.specs.Job.{Part, ascii, jobLimit, trailer, tablePart, glyphPart, lookupPart, eqList, tag, tagged, before, goodJob, bytesOf, job}
+use Rattle.meaning.specs.Subset.{refused}
+use Rattle.meaning.specs.Job.{Part, ascii, jobLimit, trailer, tablePart, glyphPart, lookupPart, eqList, tag, runsTag, endsIn, tagged, formOf, before, goodJob, bytesOf, job}
 use Rattle.promises.specs.Numbers.{and-left, and-right}
 use Rattle.promises.specs.Refusals.{Call, answer, refusals, first, answer-meets}
 
@@ -21,14 +21,14 @@ Past f p = length f - 30 < p .start + p .len
 pub data FaultyFile (f : List ℕ) : Type 0 where
   too-short : length f < 30 → FaultyFile f
   too-long : 65536 < length f → FaultyFile f
-  wrong-tag : (drop (length f - 4) f ≡ ascii "LSJ1" → ⊥) → FaultyFile f
+  wrong-tag : (drop (length f - 4) f ≡ ascii "LSJ1" → ⊥) → (drop (length f - 4) f ≡ ascii "LSJ2" → ⊥) → FaultyFile f
   table-past : Past f (tablePart f) → FaultyFile f
   glyphs-past : Past f (glyphPart f) → FaultyFile f
   lookups-past : Past f (lookupPart f) → FaultyFile f
 
--- the call of a job: the kind that the trailer begins with, and the three parts
+-- the call of a job: the kind that the trailer begins with, the form of the glyph map that the tag says, the plain layout, and the three parts
 abbrev pub callOf : List ℕ → List ℕ → Call
-callOf f out = record { kind = word f (length f - 30); source = bytesOf f (tablePart f); glyphs = bytesOf f (glyphPart f); lookups = bytesOf f (lookupPart f); buffer = out }
+callOf f out = record { kind = word f (length f - 30); form = formOf f; packing = 0; source = bytesOf f (tablePart f); glyphs = bytesOf f (glyphPart f); lookups = bytesOf f (lookupPart f); buffer = out }
 
 -- Lists compared byte by byte.
 
@@ -44,6 +44,9 @@ unfolding eqList
 same-list [] = refl
 same-list (x ∷ a) = rw (eq-eqb x x refl, same-list a)
 
+other-list : {a b : List ℕ} → a ≡ b → eqList a b ≡ false → ⊥
+other-list {a} {b} q e = true≢false (sym (same-list b) ∙ ap (λ (l : List ℕ). eqList l b) (sym q) ∙ e)
+
 -- What `goodJob` tells.
 
 -- where two tests do not both hold, the first fails, or it holds and the second fails
@@ -51,28 +54,37 @@ one-fails : {A : Type 0} (a b : Bool) → a && b ≡ false → (a ≡ false → 
 one-fails true b h f s = s h
 one-fails false b h f s = f refl
 
+-- where neither of two tests holds, both fail; where one does, it is the first or the second
+neither : (a b : Bool) → a || b ≡ false → (a ≡ false) × (b ≡ false)
+neither true b h = absurd (true≢false h)
+neither false b h = (refl, h)
+
+one-holds : {A : Type 0} (a b : Bool) → a || b ≡ true → (a ≡ true → A) → (b ≡ true → A) → A
+one-holds true b h f s = f refl
+one-holds false b h f s = s h
+
 bad-faulty : (f : List ℕ) → goodJob f ≡ false → FaultyFile f
-unfolding goodJob jobLimit tagged tag before trailer
+unfolding goodJob jobLimit endsIn tagged tag runsTag before trailer
 bad-faulty f h =
     one-fails (leb 30 (length f)) _ h (λ e. FaultyFile.too-short (leb-false 30 (length f) e)) (λ h₁.
     one-fails (leb (length f) 65536) _ h₁ (λ e. FaultyFile.too-long (leb-false (length f) 65536 e)) (λ h₂.
-    one-fails (eqList (drop (length f - 4) f) (ascii "LSJ1")) _ h₂ (λ e. FaultyFile.wrong-tag (λ q. true≢false (sym (same-list (ascii "LSJ1")) ∙ ap (λ (a : List ℕ). eqList a (ascii "LSJ1")) (sym q) ∙ e))) (λ h₃.
+    one-fails (tagged f) _ h₂ (λ e. let n = neither (endsIn tag f) (endsIn runsTag f) e in FaultyFile.wrong-tag (λ q. other-list q (n .0)) (λ q. other-list q (n .1))) (λ h₃.
     one-fails (leb (tablePart f .start + tablePart f .len) (length f - 30)) _ h₃ (λ e. FaultyFile.table-past (leb-false (tablePart f .start + tablePart f .len) (length f - 30) e)) (λ h₄.
     one-fails (leb (glyphPart f .start + glyphPart f .len) (length f - 30)) _ h₄ (λ e. FaultyFile.glyphs-past (leb-false (glyphPart f .start + glyphPart f .len) (length f - 30) e)) (λ e.
     FaultyFile.lookups-past (leb-false (lookupPart f .start + lookupPart f .len) (length f - 30) e))))))
 
 good-sound : (f : List ℕ) → goodJob f ≡ true → FaultyFile f → ⊥
-unfolding goodJob jobLimit tagged tag before trailer
+unfolding goodJob jobLimit endsIn tagged tag runsTag before trailer
 good-sound f h q = go q
   where
-    h₁ : leb (length f) 65536 && (eqList (drop (length f - 4) f) (ascii "LSJ1") && (before f (tablePart f) && (before f (glyphPart f) && before f (lookupPart f)))) ≡ true
+    h₁ : leb (length f) 65536 && (tagged f && (before f (tablePart f) && (before f (glyphPart f) && before f (lookupPart f)))) ≡ true
     h₁ = and-right (leb 30 (length f)) _ h
 
-    h₂ : eqList (drop (length f - 4) f) (ascii "LSJ1") && (before f (tablePart f) && (before f (glyphPart f) && before f (lookupPart f))) ≡ true
+    h₂ : tagged f && (before f (tablePart f) && (before f (glyphPart f) && before f (lookupPart f))) ≡ true
     h₂ = and-right (leb (length f) 65536) _ h₁
 
     h₃ : before f (tablePart f) && (before f (glyphPart f) && before f (lookupPart f)) ≡ true
-    h₃ = and-right (eqList (drop (length f - 4) f) (ascii "LSJ1")) _ h₂
+    h₃ = and-right (tagged f) _ h₂
 
     inside : (p : Part) → before f p ≡ true → Past f p → ⊥
     inside p b k = let i = leb-true (p .start + p .len) (length f - 30) b in omega (arith, i, k)
@@ -80,7 +92,7 @@ good-sound f h q = go q
     go : FaultyFile f → ⊥
     go (FaultyFile.too-short k) = let i = leb-true 30 (length f) (and-left (leb 30 (length f)) _ h) in omega (arith, i, k)
     go (FaultyFile.too-long k) = let i = leb-true (length f) 65536 (and-left (leb (length f) 65536) _ h₁) in omega (arith, i, k)
-    go (FaultyFile.wrong-tag k) = k (list-same (drop (length f - 4) f) (ascii "LSJ1") (and-left (eqList (drop (length f - 4) f) (ascii "LSJ1")) _ h₂))
+    go (FaultyFile.wrong-tag k l) = one-holds (endsIn tag f) (endsIn runsTag f) (and-left (tagged f) _ h₂) (λ e. k (list-same (drop (length f - 4) f) (ascii "LSJ1") e)) (λ e. l (list-same (drop (length f - 4) f) (ascii "LSJ2") e))
     go (FaultyFile.table-past k) = inside (tablePart f) (and-left (before f (tablePart f)) _ h₃) k
     go (FaultyFile.glyphs-past k) = inside (glyphPart f) (and-left (before f (glyphPart f)) _ (and-right (before f (tablePart f)) _ h₃)) k
     go (FaultyFile.lookups-past k) = inside (lookupPart f) (and-right (before f (glyphPart f)) _ (and-right (before f (tablePart f)) _ h₃)) k

@@ -496,10 +496,10 @@ module _ (c : Call) where
   pub malformed-lowest : (answer c) .number ≡ 6 → Lowest (c .source) (parts (c .kind) (c .source)) ((answer c) .len)
   malformed-lowest h = subst (Least (c .source) (parts (c .kind) (c .source))) (sym (malformed-place c h)) (fault-least (c .source) (c .kind))
 
-  -- where none of 1 to 5 applies, 6 is given exactly if some part is faulty
-  pub malformed-part : NoneOf (take 5 (refusals c))
+  -- where none of those before it applies, 6 is given exactly if some part is faulty
+  pub malformed-part : NoneOf (take 7 (refusals c))
       → ((answer c) .number ≡ 6 → Any (Faulty (c .source)) (parts (c .kind) (c .source))) × (Any (Faulty (c .source)) (parts (c .kind) (c .source)) → (answer c) .number ≡ 6)
   unfolding refusals
   malformed-part h =
-      let g = given-exactly c (take 5 (refusals c)) 6 (isSome (fault (c .kind) (c .source))) (drop 6 (refusals c)) refl in
+      let g = given-exactly c (take 7 (refusals c)) 6 (isSome (fault (c .kind) (c .source))) (drop 8 (refusals c)) refl in
       (λ n. some-faulty (c .source) (c .kind) (g .0 n .0), λ a. g .1 (faulty-some (c .source) (c .kind) a) h)

@@ -205,7 +205,7 @@ pub record Lowest (s : List ℕ) (ps : List Part) (place : ℕ) : Type 0 where
 
 -- the parts of a source of kind 1, each with its start and whether it is sound, and the number and the length of the answer
 abbrev judged : List ℕ → List (ℕ × Bool) × ℕ × ℕ
-judged s = let r = subset 1 s [] [] [] in (map (λ p. (p .start, sound s (p .sort) (p .start))) (parts 1 s), r .number, r .len)
+judged s = let r = subset 1 4 0 s [] [] [] in (map (λ p. (p .start, sound s (p .sort) (p .start))) (parts 1 s), r .number, r .len)
 
 -- format 3 with two coverages, the first past the end of the source and the second cut short before it: the lower place is given, not the first
 abbrev two-faulty : List ℕ

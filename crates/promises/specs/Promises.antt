@@ -1,4 +1,4 @@
--- Every promise in one place, each with its words above it. They hold of every call: any kind, any source bytes, any two maps, any buffer.
+-- Every promise in one place, each with its words above it. They hold of every call: any kind, any form of the glyph map, any source bytes, any two maps, any buffer.
 -- A reader who believes the definitions of `meaning` needs of this crate what stands here, the statements that it names in Refusals.antt (`Call`, `answer`, `plain`, `refusals`, `Meets`),
 -- Survives.antt, and `Retained`, `new`, `renumbered`, `cutMatch`, `cutLigated`, `Closed`, `SubstituteRetained`, `SubstitutesRetained`, and `Faulty` and `callOf` of the job, each a line or two.
 use Prim.Native.Nat.{ℕ, _≤_, _<_}
@@ -8,16 +8,16 @@ use mathlib.Core.Option.{Option, none, some, Option·map}
 use mathlib.Core.List.{List, [], _∷_, _++_, map}
 use lib.ListN.{length, take, drop}
 use lib.Dec.{eqb}
-use Rattle.meaning.specs.Words.{flat, bind, isSome, member}
-use Rattle.meaning.specs.Maps.{mapEntries, goodGlyphs}
+use Rattle.meaning.specs.Words.{word, flat, bind, isSome, member}
+use Rattle.meaning.specs.Maps.{runPairs, glyphEntries, goodGlyphMap}
 use Rattle.meaning.specs.Tables.{table, Table, Pair}
 use Rattle.meaning.specs.Fault.{fault}
 use Rattle.meaning.specs.Cut.{classMap?, cut}
 use Rattle.meaning.specs.Layout.{wordsFit}
-use Rattle.meaning.specs.Subset.{Outcome, left, refused, limit, goodKind, tooBig}
+use Rattle.meaning.specs.Subset.{Outcome, left, refused, limit, goodKind, tooBig, subset}
 use Rattle.meaning.specs.Matching.{atPlace, match, ligate, adjust, skips, substitute}
-use Rattle.meaning.specs.Job.{ascii, job, program}
-use Rattle.meaning.specs.Calls.{call, stated}
+use Rattle.meaning.specs.Job.{trailer, tablePart, glyphPart, lookupPart, ascii, formOf, goodJob, bytesOf, job, program}
+use Rattle.meaning.specs.Calls.{callIn, call, stated}
 use Rattle.meaning.specs.Rows as Rows
 use Rattle.meaning.specs.Points as Points
 use Rattle.meaning.specs.Jobs as Jobs
@@ -25,7 +25,7 @@ use Rattle.meaning.specs.Matches as Matches
 use Rattle.limits.specs.Limits as Limits
 use Rattle.laws.specs.CutGood.{GoodMap}
 use Rattle.laws.specs.SoundGood.{Bytes}
-use Rattle.laws.specs.CallBack.{Passed, passed, good-glyphs, left-good, call-reads-back}
+use Rattle.laws.specs.CallBack.{Passed, passed, good-glyph-map, left-good, call-reads-back}
 use Rattle.promises.specs.Strings.{All, Retained, new}
 use Rattle.promises.specs.Rules.{cutMatch}
 use Rattle.promises.specs.Ligatures.{cutLigated, Closed}
@@ -33,6 +33,7 @@ use Rattle.promises.specs.Singles.{SubstituteRetained, SubstitutesRetain
 use Rattle.promises.specs.Classes.{null-map}
 use Rattle.promises.specs.Sizes as Sizes
 use Rattle.promises.specs.Sizes.{refusalsBefore}
+use Rattle.promises.specs.Forms as Forms
 use Rattle.promises.specs.Same as Same
 use Rattle.promises.specs.Places.{parts, Faulty, Any, Lowest}
 use Rattle.promises.specs.LowestPlace.{malformed-lowest, malformed-part}
@@ -42,7 +43,7 @@ use Rattle.promises.specs.Survives.{survives}
 use Rattle.promises.specs.JobFiles.{FaultyFile, callOf, refused-faulty, faulty-refused, sound-called}
 use Rattle.promises.specs.Wrong as Wrong
 use Rattle.promises.specs.Wrong.{Passes, refusing, copying, notWriting, writing, inventing, swaps, copiesOthers, dropsOthers}
-use Rattle.promises.specs.Refusals.{Call, answer, plainWords, plain, left?, refusals, first, NoneOf, Meets, answer-meets, meets-once, given-exactly, kept-exactly, refused-untouched, refused-length, malformed-place, no-room, kept-length, kept-bytes, buffer-length, empty-on-good}
+use Rattle.promises.specs.Refusals.{Call, answer, glyphMap, lookupMap, plainWords, plain, left?, refusals, first, NoneOf, Meets, answer-meets, meets-once, given-exactly, kept-exactly, refused-untouched, refused-length, malformed-place, no-room, kept-length, kept-bytes, buffer-length, empty-on-good}
 
 -- Worked cases, by computation.
 
@@ -53,6 +54,13 @@ rows = Rows.each-row
 -- `points`: the open points of documents 01 and 02 as we read them (docs/DECISIONS.md), each with its whole answer.
 pub points : map call Points.points ≡ map stated Points.points
 points = Points.each-point
+
+-- The same for glyph maps as runs, and for the marks of the two forms and of the layout.
+pub forms : map (λ e. callIn (e .0) 0 (e .1)) Points.forms ≡ map (λ e. stated (e .1)) Points.forms
+forms = Points.each-form
+
+pub layouts : map (λ e. callIn (e .0) (e .1) (e .2)) Points.layouts ≡ map (λ e. stated (e .2)) Points.layouts
+layouts = Points.each-layout
 
 -- `jobs`: label jobs with what the program prints for them.
 pub jobs : map (λ r. program (r .file)) Jobs.jobs ≡ map (λ r. ascii (r .prints)) Jobs.jobs
@@ -105,12 +113,12 @@ module _ (c : Call) where
   pub same-length : length ((answer c) .out) ≡ length (c .buffer)
   same-length = buffer-length c
 
-  -- `place-lowest`: with 6 the length is the start of a faulty part, and no part that starts lower is faulty. Where none of 1 to 5 applies, 6 is given exactly if some part is faulty.
+  -- `place-lowest`: with 6 the length is the start of a faulty part, and no part that starts lower is faulty. Where none of those before it applies, 6 is given exactly if some part is faulty.
   -- Which parts there are, and when one is faulty by its own bytes, is said in Places.antt, without `fault`; it is to be read with this.
   pub place-lowest : (answer c) .number ≡ 6 → Lowest (c .source) (parts (c .kind) (c .source)) ((answer c) .len)
   place-lowest = malformed-lowest c
 
-  pub malformed-exactly : NoneOf (take 5 (refusals c))
+  pub malformed-exactly : NoneOf (take 7 (refusals c))
       → ((answer c) .number ≡ 6 → Any (Faulty (c .source)) (parts (c .kind) (c .source))) × (Any (Faulty (c .source)) (parts (c .kind) (c .source)) → (answer c) .number ≡ 6)
   malformed-exactly = malformed-part c
 
@@ -125,7 +133,7 @@ module _ (c : Call) where
   kept-is-plain = kept-bytes c
 
   -- `empty-exactly`: on good input, where none of the refusals before it applies, the answer is 8 exactly if nothing survives, said without `cut` in Survives.antt.
-  pub empty-exactly : NoneOf (take 8 (refusals c)) → eqb ((answer c) .number) 8 ≡ not (survives (mapEntries (c .glyphs)) (table (c .kind) (c .source)))
+  pub empty-exactly : NoneOf (take 10 (refusals c)) → eqb ((answer c) .number) 8 ≡ not (survives (glyphMap c) (table (c .kind) (c .source)))
   empty-exactly = empty-on-good c
 
 -- What is kept, read as a source of the same kind. A slice's contents are bytes; the definitions take lists of any numbers, so it is asked for.
@@ -144,20 +152,20 @@ small-says c = table (c .kind) (left (answer c))
 module _ (c : Call) (bytes : BytesOf c) (kept : (answer c) .number ≡ 0) where
   -- old number to new, for glyphs and for lookups
   abbrev g : List (ℕ × ℕ)
-  g = mapEntries (c .glyphs)
+  g = glyphMap c
 
   abbrev l : List (ℕ × ℕ)
-  l = mapEntries (c .lookups)
+  l = lookupMap c
 
-  abbrev tests : Passed (c .kind) (c .source) (c .glyphs) (c .lookups) (c .buffer)
-  tests = passed (c .kind) (c .source) (c .glyphs) (c .lookups) (c .buffer) kept
+  abbrev tests : Passed (c .kind) (c .form) (c .packing) (c .source) (c .glyphs) (c .lookups) (c .buffer)
+  tests = passed (c .kind) (c .form) (c .packing) (c .source) (c .glyphs) (c .lookups) (c .buffer) kept
 
   abbrev good : GoodMap g
-  good = good-glyphs (c .glyphs) (bytes .glyphs) (tests .glyphs-good)
+  good = good-glyph-map (c .form) (c .glyphs) (bytes .glyphs) (tests .glyphs-good)
 
   -- `reads-back`: the bytes that are left say what was cut, and have no fault.
   pub reads-back : (left? c ≡ some (small-says c)) × (fault (c .kind) (left (answer c)) ≡ none)
-  reads-back = call-reads-back (c .kind) (c .source) (c .glyphs) (c .lookups) (c .buffer) (bytes .source) (bytes .glyphs) (bytes .lookups) kept
+  reads-back = call-reads-back (c .kind) (c .form) (c .packing) (c .source) (c .glyphs) (c .lookups) (c .buffer) (bytes .source) (bytes .glyphs) (bytes .lookups) kept
 
   -- Demand 3.
 
@@ -206,6 +214,28 @@ module _ (c : Call) (bytes : BytesOf c) (kept : (answer c) .number ≡ 0) where
   pub singles-same : c .kind ≡ 5 → SubstitutesRetained g (says c) → (x : ℕ) → Retained g x → substitute (small-says c) (new g x) ≡ Option·map (new g) (substitute (says c) x)
   singles-same k closed x rx = single-same k x rx (closed x rx)
 
+-- Glyph maps in either form.
+
+-- `either-form`: a good map of pairs and a good map of runs with the same pairs give the same answer, number, length and buffer, whatever else is given.
+pub either-form : (kind packing : ℕ) (s m m′ l out : List ℕ) → goodGlyphMap 4 m ≡ true → goodGlyphMap 6 m′ ≡ true → glyphEntries 4 m ≡ glyphEntries 6 m′
+    → subset kind 4 packing s m l out ≡ subset kind 6 packing s m′ l out
+either-form = Forms.same-answer
+
+-- `as-runs`: each good map of pairs, written as runs of one, six bytes each, is a good map of runs with the same pairs.
+pub as-runs : (m : List ℕ) → Bytes m → goodGlyphMap 4 m ≡ true → (goodGlyphMap 6 (Forms.asRuns m) ≡ true) × (glyphEntries 6 (Forms.asRuns m) ≡ glyphEntries 4 m)
+as-runs = Forms.as-runs
+
+-- `either-job`: two good job files with the same kind, table and lookup map, one in `LSJ1` with pairs and one in `LSJ2` with runs that have the same pairs, give the same answer.
+pub either-job : (f f′ out : List ℕ) → goodJob f ≡ true → goodJob f′ ≡ true → formOf f ≡ 4 → formOf f′ ≡ 6 → word f (trailer f) ≡ word f′ (trailer f′)
+    → bytesOf f (tablePart f) ≡ bytesOf f′ (tablePart f′) → bytesOf f (lookupPart f) ≡ bytesOf f′ (lookupPart f′)
+    → goodGlyphMap 4 (bytesOf f (glyphPart f)) ≡ true → goodGlyphMap 6 (bytesOf f′ (glyphPart f′)) ≡ true → glyphEntries 4 (bytesOf f (glyphPart f)) ≡ glyphEntries 6 (bytesOf f′ (glyphPart f′))
+    → job f out ≡ job f′ out
+either-job = Forms.same-job
+
+-- Pairs read as runs of one.
+pub runs-of-one : (es : List (ℕ × ℕ)) → runPairs (Forms.ones es) ≡ es
+runs-of-one = Forms.ones-read
+
 -- An absent class table.
 
 -- `null-class-table`: with a null table every glyph holds class 0, which alone survives there, as 0, where some glyph is retained.
@@ -216,10 +246,10 @@ null-class-table = null-map
 
 -- `kept-as-before`: where the refusals before 8 don't apply, a plain layout of at most 65,536 bytes, which is what was kept before the limit was raised, is not refused as 9.
 -- Its bytes are the plain layout, as they were (`kept-is-plain`).
-pub kept-as-before : (c : Call) → BytesOf c → goodKind (c .kind) ≡ true → goodGlyphs (c .glyphs) ≡ true → fault (c .kind) (c .source) ≡ none → length (plain c) ≤ 65536 → tooBig (plainWords c) ≡ false
-kept-as-before c bytes k m f l = Sizes.left-fits (c .kind) (left? c) (left-good (c .kind) (c .source) (c .glyphs) (c .lookups) (bytes .source) (bytes .glyphs) (bytes .lookups) k m f) l
+pub kept-as-before : (c : Call) → BytesOf c → goodKind (c .kind) ≡ true → goodGlyphMap (c .form) (c .glyphs) ≡ true → fault (c .kind) (c .source) ≡ none → length (plain c) ≤ 65536 → tooBig (plainWords c) ≡ false
+kept-as-before c bytes k m f l = Sizes.left-fits (c .kind) (left? c) (left-good (c .kind) (c .form) (c .source) (c .glyphs) (c .lookups) (bytes .source) (bytes .glyphs) (bytes .lookups) k m f) l
 
--- `bytes-kept-before`: what was kept under the table of refusals as it was (`refusalsBefore` in Sizes.antt, where 4 and 9 go by 65,536 bytes) is kept now,
+-- `bytes-kept-before`: what was kept under the table of refusals with the limits as they were (`refusalsBefore` in Sizes.antt, where 4 and 9 go by 65,536 bytes) is kept now,
 -- with the same bytes: the plain layout of what survives, which has not changed.
 pub bytes-kept-before : (c : Call) → BytesOf c → NoneOf (refusalsBefore c) → ((answer c) .number ≡ 0) × ((answer c) .out ≡ plain c ++ drop (length (plain c)) (c .buffer))
 bytes-kept-before c bytes n = Sizes.kept-before c (kept-as-before c bytes) n
@@ -240,12 +270,12 @@ module _ (c : Call) (bytes : BytesOf c) (kept : (answer c) .number ≡ 0) where
   pub small-within : Within (small-says c)
   small-within = kept-within c kept (small-says c) (reads-back c bytes kept .0)
 
-  -- So what is kept, taken as a source of the same kind, is not answered 12, whatever the maps and the buffer are.
-  abbrev pub again : List ℕ → List ℕ → List ℕ → Call
-  again glyphs lookups buffer = record { kind = c .kind; source = left (answer c); glyphs = glyphs; lookups = lookups; buffer = buffer }
+  -- So what is kept, taken as a source of the same kind, is not answered 12, whatever the marks, the maps and the buffer are.
+  abbrev pub again : ℕ → ℕ → List ℕ → List ℕ → List ℕ → Call
+  again form packing glyphs lookups buffer = record { kind = c .kind; form = form; packing = packing; source = left (answer c); glyphs = glyphs; lookups = lookups; buffer = buffer }
 
-  pub again-not-past : (glyphs lookups buffer : List ℕ) → (answer (again glyphs lookups buffer)) .number ≡ 12 → ⊥
-  again-not-past glyphs lookups buffer = not-past (again glyphs lookups buffer) small-within
+  pub again-not-past : (form packing : ℕ) (glyphs lookups buffer : List ℕ) → (answer (again form packing glyphs lookups buffer)) .number ≡ 12 → ⊥
+  again-not-past form packing glyphs lookups buffer = not-past (again form packing glyphs lookups buffer) small-within
 
 -- Pairs along a string.
 

@@ -6,25 +6,27 @@ use mathlib.Core.Option.{Option, none, some, Option·getD}
 use mathlib.Core.List.{List, [], _∷_, _++_, map}
 use native.Mathlib.Omega.{arith}
 use lib.ListN.{length, take, drop, length-append, length-drop}
-use lib.Dec.{leb, ltb, eqb}
-use borrow.Author.Tests.{ltb-true, ltb-false, eqb-true, eqb-false, eq-eqb, ne-eqb, not-false}
+use lib.Dec.{ltb, eqb}
+use borrow.Author.Tests.{ltb-true, ltb-false, eqb-false, eq-eqb, ne-eqb}
 use Rattle.meaning.specs.Words.{word, inside, isSome, member, flat}
-use Rattle.meaning.specs.Maps.{mapEntries, goodGlyphs, goodLookups}
+use Rattle.meaning.specs.Maps.{mapEntries, goodLookups, goodForm, glyphEntries, goodGlyphMap}
 use Rattle.meaning.specs.Tables.{Table, table}
 use Rattle.meaning.specs.Fault.{fault}
 use Rattle.meaning.specs.Records.{recordsWithin}
 use Rattle.meaning.specs.Cut.{cut}
 use Rattle.meaning.specs.Layout.{tableWords, wordsFit}
-use Rattle.meaning.specs.Subset.{Outcome, refused, place, limit, goodKind, hasFormat, hasDevice, tooBig, laidInto, written, subset}
+use Rattle.meaning.specs.Subset.{Outcome, refused, place, limit, goodKind, hasFormat, hasDevice, tooBig, laidInto, goodPacking, written, subset}
 use Rattle.laws.specs.Stands.{All}
 use Rattle.laws.specs.CallBack.{subset-is, big-fit}
 use Rattle.promises.specs.Numbers.{and-left, and-right}
 use Rattle.promises.specs.Survives.{survives}
 use Rattle.promises.specs.CutSurvives.{cut-survives}
 
--- what a call is given
+-- what a call is given: `form` is the mark of the glyph map's form, `packing` the mark of the layout
 pub record Call : Type 0 where
   pub kind : ℕ
+  pub form : ℕ
+  pub packing : ℕ
   pub source : List ℕ
   pub glyphs : List ℕ
   pub lookups : List ℕ
@@ -32,11 +34,19 @@ pub record Call : Type 0 where
 
 -- what it answers
 abbrev pub answer : Call → Outcome
-answer c = subset (c .kind) (c .source) (c .glyphs) (c .lookups) (c .buffer)
+answer c = subset (c .kind) (c .form) (c .packing) (c .source) (c .glyphs) (c .lookups) (c .buffer)
+
+-- the glyph map's entries, in either form
+abbrev pub glyphMap : Call → List (ℕ × ℕ)
+glyphMap c = glyphEntries (c .form) (c .glyphs)
+
+-- the lookup map's entries
+abbrev pub lookupMap : Call → List (ℕ × ℕ)
+lookupMap c = mapEntries (c .lookups)
 
 -- what is left of the call's table, if something survives
 abbrev pub left? : Call → Option Table
-left? c = cut (mapEntries (c .glyphs)) (mapEntries (c .lookups)) (table (c .kind) (c .source))
+left? c = cut (glyphMap c) (lookupMap c) (table (c .kind) (c .source))
 
 -- the words of the plain layout of what is left; none if nothing is
 unfoldable pub words? : Option Table → List ℕ
@@ -55,9 +65,13 @@ unfoldable pub refusals : Call → List (ℕ × Bool)
 refusals c =
     -- kind not 1 to 5
     (1, not (goodKind (c .kind)))
-    -- glyph map length not a multiple of 4, or a column not strictly increasing
-    ∷ (2, not (goodGlyphs (c .glyphs)))
-    -- the same for the lookup map's length, or its old column
+    -- a mark of the form that is not 4 or 6
+    ∷ (13, not (goodForm (c .form)))
+    -- a mark of the layout that is not 0
+    ∷ (14, not (goodPacking (c .packing)))
+    -- glyph map length not a multiple of 4, or a column not strictly increasing; for runs a length not a multiple of 6, a count of 0, a run past 65,535 in a column, or runs not strictly increasing across entries
+    ∷ (2, not (goodGlyphMap (c .form) (c .glyphs)))
+    -- a lookup map length not a multiple of 4, or an old column not strictly increasing
     ∷ (3, not (goodLookups (c .lookups)))
     -- source over the limit
     ∷ (4, ltb limit (length (c .source)))
@@ -70,7 +84,7 @@ refusals c =
     -- a record past its rule
     ∷ (12, not (recordsWithin (table (c .kind) (c .source))))
     -- nothing survives
-    ∷ (8, not (survives (mapEntries (c .glyphs)) (table (c .kind) (c .source))))
+    ∷ (8, not (survives (glyphMap c) (table (c .kind) (c .source))))
     -- the plain layout is over the limit, or an offset or a count of it over 65,535
     ∷ (9, tooBig (plainWords c))
     -- the buffer is shorter than the plain layout
@@ -113,7 +127,8 @@ tried-is c (r ∷ rs) qs y e = step (r .1) (tried-is c rs qs y e)
 
 -- the last three
 unfolded : (c : Call) (o : Option Table) → left? c ≡ o
-    → written (c .buffer) o ≡ byNumber c (cond (not (isSome o)) 8 (cond (tooBig (words? o)) 9 (cond (ltb (length (c .buffer)) (length (flat (words? o)))) 10 0)))
+    → written (c .buffer) o
+    ≡ byNumber c (cond (not (isSome o)) 8 (cond (tooBig (words? o)) 9 (cond (ltb (length (c .buffer)) (length (flat (words? o)))) 10 0)))
 unfolding written laidInto words? isSome lengthBy byNumber
 unfolded c none e = refl
 unfolded c (some t) e = step (tooBig (tableWords t)) (ltb (length (c .buffer)) (length bs))
@@ -130,9 +145,9 @@ unfolded c (some t) e = step (tooBig (tableWords t)) (ltb (length (c .buffer)) (
 answer-is : (c : Call) → answer c ≡ byNumber c (first (refusals c))
 unfolding refusals first lengthBy byNumber tried
 answer-is c =
-    subset-is (c .kind) (c .source) (c .glyphs) (c .lookups) (c .buffer)
-    ∙ tried-is c (take 8 (refusals c)) (drop 8 (refusals c)) (written (c .buffer) (left? c))
-    (rw (cut-survives (mapEntries (c .glyphs)) (mapEntries (c .lookups)) (table (c .kind) (c .source))) at (unfolded c (left? c) refl))
+    subset-is (c .kind) (c .form) (c .packing) (c .source) (c .glyphs) (c .lookups) (c .buffer)
+    ∙ tried-is c (take 10 (refusals c)) (drop 10 (refusals c)) (written (c .buffer) (left? c))
+    (rw (cut-survives (glyphMap c) (lookupMap c) (table (c .kind) (c .source))) at (unfolded c (left? c) refl))
 
 -- the call meets the public statement
 pub answer-meets : (c : Call) → Meets c (answer c)
@@ -256,7 +271,7 @@ module _ (c : Call) where
   pub malformed-place : (answer c) .number ≡ 6 → some ((answer c) .len) ≡ fault (c .kind) (c .source)
   unfolding lengthBy refusals isSome
   malformed-place h =
-      let t = given-exactly (take 5 (refusals c)) 6 (isSome (fault (c .kind) (c .source))) (drop 6 (refusals c)) refl .0 h .0 in
+      let t = given-exactly (take 7 (refusals c)) 6 (isSome (fault (c .kind) (c .source))) (drop 8 (refusals c)) refl .0 h .0 in
       ap some (answer-meets c .len ∙ rw h) ∙ step (fault (c .kind) (c .source)) t
     where
       step : (o : Option ℕ) → isSome o ≡ true → some (Option·getD o 0) ≡ o
@@ -268,7 +283,7 @@ module _ (c : Call) where
   unfolding refusals lengthBy
   no-room h = (
     answer-meets c .len ∙ rw h,
-    ltb-true (length (c .buffer)) (length (plain c)) (given-exactly (take 10 (refusals c)) 10 (ltb (length (c .buffer)) (length (plain c))) [] refl .0 h .0),
+    ltb-true (length (c .buffer)) (length (plain c)) (given-exactly (take 12 (refusals c)) 10 (ltb (length (c .buffer)) (length (plain c))) [] refl .0 h .0),
   )
 
   -- what is kept: its length is that of the plain layout, which is at most the limit and the buffer, and each word of it fits 16 bits
@@ -277,7 +292,7 @@ module _ (c : Call) where
   kept-length h =
       let l : (answer c) .len ≡ length (plain c) = answer-meets c .len ∙ rw h in
       let n = kept-exactly .0 h in
-      let late = n .1 .1 .1 .1 .1 .1 .1 .1 .1 in
+      let late = n .1 .1 .1 .1 .1 .1 .1 .1 .1 .1 .1 in
       let f = big-fit (plainWords c) (late .0) in
       (l, omega (arith, f .1), omega (arith, ltb-false (length (c .buffer)) (length (plain c)) (late .1 .0)), f .0)
 
@@ -296,13 +311,13 @@ module _ (c : Call) where
       step (suc n) e = ap length (refused-untouched (λ q. omega arith))
 
   -- where none of the refusals before it applies the number is 8 exactly if nothing survives
-  pub empty-on-good : NoneOf (take 8 (refusals c)) → eqb ((answer c) .number) 8 ≡ not (survives (mapEntries (c .glyphs)) (table (c .kind) (c .source)))
+  pub empty-on-good : NoneOf (take 10 (refusals c)) → eqb ((answer c) .number) 8 ≡ not (survives (glyphMap c) (table (c .kind) (c .source)))
   unfolding refusals first
   empty-on-good h =
-      let r = h .1 .1 .1 .1 .1 .1 in
+      let r = h .1 .1 .1 .1 .1 in
       ap (λ (n : ℕ). eqb n 8) (answer-meets c .number)
-      ∙ rw (h .0, h .1 .0, h .1 .1 .0, h .1 .1 .1 .0, h .1 .1 .1 .1 .0, h .1 .1 .1 .1 .1 .0, r .0, r .1 .0)
-      (step (survives (mapEntries (c .glyphs)) (table (c .kind) (c .source))) (tooBig (plainWords c)) (ltb (length (c .buffer)) (length (plain c))))
+      ∙ rw (h .0, h .1 .0, h .1 .1 .0, h .1 .1 .1 .0, h .1 .1 .1 .1 .0, r .0, r .1 .0, r .1 .1 .0, r .1 .1 .1 .0, r .1 .1 .1 .1 .0)
+      (step (survives (glyphMap c) (table (c .kind) (c .source))) (tooBig (plainWords c)) (ltb (length (c .buffer)) (length (plain c))))
     where
       step : (t big short : Bool) → eqb (cond (not t) 8 (cond big 9 (cond short 10 0))) 8 ≡ not t
       step false big short = refl

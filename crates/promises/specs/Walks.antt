@@ -80,7 +80,7 @@ renumbered = 1 ∷ 0 ∷ 0 ∷ 0 ∷ 0 ∷ []
 
 -- what is left then
 abbrev small : List ℕ → List ℕ
-small source = left (subset 4 source (flat (5 ∷ 0 ∷ 7 ∷ 1 ∷ [])) [] (replicate 30 0))
+small source = left (subset 4 4 0 source (flat (5 ∷ 0 ∷ 7 ∷ 1 ∷ [])) [] (replicate 30 0))
 
 -- the places of the pairs that are found, each with the advance of its first glyph
 abbrev advances : List ℕ → List ℕ → List (ℕ × ℤ)

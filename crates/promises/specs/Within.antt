@@ -7,7 +7,6 @@ use mathlib.Core.List.{List, [], _∷_}
 use lib.ListN.{length, take, drop}
 use lib.Dec.{ltb, eqb}
 use Rattle.meaning.specs.Words.{keys, values, every, find, bind, mapAll, push, mapSome}
-use Rattle.meaning.specs.Maps.{mapEntries}
 use Rattle.meaning.specs.Tables.{Rule, Ligature, Pair, Table, dropNull, deltaPairs, listPairs, table}
 use Rattle.meaning.specs.Records.{indexesBelow, ruleWithin, setsWithin, recordsWithin}
 use Rattle.meaning.specs.Cut.{RuleMaps, cutRecords, cutRule, cutSet, keptSets, setsOf, keptByGlyph, heldBy, classMap, classMap?, newClasses?, newCoverage, retained, slots, trim, keptByClass, coversLeft, cutLigatures, keptLigatures, cutPairs, keptPairs, coveredMap, keptClassPairs, keptSubstitutes, deltaOf, agree, keptSingles, cut}
@@ -17,7 +16,7 @@ use Rattle.laws.specs.CutCells.{every-all, all-every}
 use Rattle.laws.specs.CallBack.{passed}
 use Rattle.promises.specs.Strings.{All}
 use Rattle.promises.specs.Numbers.{and-left, and-right}
-use Rattle.promises.specs.Refusals.{Call, answer, left?, refusals, given-exactly}
+use Rattle.promises.specs.Refusals.{Call, answer, glyphMap, lookupMap, left?, refusals, given-exactly}
 
 -- nothing is said of an answer
 abbrev Anything : {A : Type 0} → A → Type 0
@@ -170,12 +169,12 @@ module _ (c : Call) where
   -- what a call keeps is one
   pub kept-within : (answer c) .number ≡ 0 → (small : Table) → left? c ≡ some small → Within small
   kept-within h small e =
-      let w = passed (c .kind) (c .source) (c .glyphs) (c .lookups) (c .buffer) h .within in
-      subst (Opt Within) e (cut-within (mapEntries (c .glyphs)) (mapEntries (c .lookups)) (table (c .kind) (c .source)) w)
+      let w = passed (c .kind) (c .form) (c .packing) (c .source) (c .glyphs) (c .lookups) (c .buffer) h .within in
+      subst (Opt Within) e (cut-within (glyphMap c) (lookupMap c) (table (c .kind) (c .source)) w)
 
   -- 12 is not given on one
   pub not-past : Within (table (c .kind) (c .source)) → (answer c) .number ≡ 12 → ⊥
   unfolding refusals
   not-past w h =
-      let t = given-exactly c (take 7 (refusals c)) 12 (not (recordsWithin (table (c .kind) (c .source)))) (drop 8 (refusals c)) refl .0 h .0 in
+      let t = given-exactly c (take 9 (refusals c)) 12 (not (recordsWithin (table (c .kind) (c .source)))) (drop 10 (refusals c)) refl .0 h .0 in
       true≢false (sym t ∙ rw w)

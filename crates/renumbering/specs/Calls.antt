@@ -10,7 +10,7 @@ use lib.Seq.{take-at}
 use lib.Dec.{leb, ltb, eqb}
 use borrow.Author.Tests.{eqb-true}
 use Rattle.meaning.specs.Words.{word, flat, bytes2}
-use Rattle.meaning.specs.Maps.{mapEntries}
+use Rattle.meaning.specs.Maps.{mapEntries, glyphEntries}
 use Rattle.meaning.specs.Tables.{Table, table, single}
 use Rattle.meaning.specs.Cut.{cut}
 use Rattle.meaning.specs.Layout.{setsLayout, coversLayout, coverLayout, tableWords, cellsLayout}
@@ -93,16 +93,16 @@ written-bytes out o t e h = rw e (step (tooBig ws) (ltb (length out) (length bs)
     step false true q h = absurd (omega arith)
     step false false q h = (take-at bs (drop (length bs) out) (length bs) refl, big-fit ws q .1)
 
-module _ (kind : ℕ) (s g l out : List ℕ) (bs : Bytes s) (bg : Bytes g) (bl : Bytes l) (kept : (subset kind s g l out) .number ≡ 0) where
+module _ (kind form packing : ℕ) (s g l out : List ℕ) (bs : Bytes s) (bg : Bytes g) (bl : Bytes l) (kept : (subset kind form packing s g l out) .number ≡ 0) where
   abbrev small : List ℕ
-  small = left (subset kind s g l out)
+  small = left (subset kind form packing s g l out)
 
   -- what a call that keeps something leaves of a source of a listed kind
-  pub left-of-call : ListedKind kind → Left (mapEntries g) (mapEntries l) kind s small
+  pub left-of-call : ListedKind kind → Left (glyphEntries form g) (mapEntries l) kind s small
   left-of-call listed =
-      let p = passed kind s g l out kept in
-      let r = call-reads-back kind s g l out bs bg bl kept in
-      let b = written-bytes out (cut (mapEntries g) (mapEntries l) (table kind s)) (table kind small) (r .0) (subst (λ (o : Outcome). o .number ≡ 0) (p .gives) kept) in
+      let p = passed kind form packing s g l out kept in
+      let r = call-reads-back kind form packing s g l out bs bg bl kept in
+      let b = written-bytes out (cut (glyphEntries form g) (mapEntries l) (table kind s)) (table kind small) (r .0) (subst (λ (o : Outcome). o .number ≡ 0) (p .gives) kept) in
       let e : small ≡ flat (tableWords (table kind small)) = ap left (p .gives) ∙ b .0 in
       record {
         says = r .0;

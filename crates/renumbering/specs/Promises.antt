@@ -8,7 +8,7 @@ use mathlib.Core.List.{List, [], _∷_, map}
 use lib.ListN.{length, take, drop}
 use lib.Dec.{eqb}
 use Rattle.meaning.specs.Words.{find}
-use Rattle.meaning.specs.Maps.{mapEntries, goodGlyphs}
+use Rattle.meaning.specs.Maps.{mapEntries, glyphEntries, goodGlyphMap}
 use Rattle.meaning.specs.Subset.{Outcome, left, subset}
 use Rattle.meaning.specs.Job.{bytesOf}
 use Rattle.laws.specs.Stands.{All}
@@ -16,7 +16,7 @@ use Rattle.laws.specs.Runs.{both}
 use Rattle.laws.specs.CutGood.{GoodMap}
 use Rattle.laws.specs.CutCells.{all-every}
 use Rattle.laws.specs.SoundGood.{Bytes}
-use Rattle.laws.specs.CallBack.{good-glyphs}
+use Rattle.laws.specs.CallBack.{good-glyph-map}
 use Rattle.promises.specs.Strings.{Retained, new}
 use Rattle.promises.specs.Contexts.{ordered}
 use Rattle.promises.specs.Ordered.{source-ordered}
@@ -32,22 +32,23 @@ use Rattle.renumbering.specs.Lists as Lists
 use Rattle.renumbering.specs.Lists.{Each, CutOf, CutList, taken, lists-same, lists-same-trace}
 use Rattle.renumbering.specs.Calls.{ListedKind, left-of-call}
 
--- the call of the subsetter on a listed lookup: its kind and its bytes, a glyph map, a lookup map and a buffer that is lent
-abbrev pub cutCall : List ℕ → List ℕ → List ℕ → Entry → List ℕ → Outcome
-cutCall glyphs lookups buffer x room = subset (x .kind) (sourceOf buffer x) glyphs lookups room
+-- the call of the subsetter on a listed lookup: its kind and its bytes, a glyph map in a form, a lookup map, a layout and a buffer that is lent
+abbrev pub cutCall : ℕ → ℕ → List ℕ → List ℕ → List ℕ → Entry → List ℕ → Outcome
+cutCall form packing glyphs lookups buffer x room = subset (x .kind) form packing (sourceOf buffer x) glyphs lookups room
 
 -- y is listed as the cut of x: the same kind, a part inside the second buffer, and there the bytes that the call leaves, which keeps something
-pub record CutEntry (glyphs lookups buffer cut : List ℕ) (x y : Entry) : Type 0 where
+pub record CutEntry (form : ℕ) (glyphs lookups buffer cut : List ℕ) (x y : Entry) : Type 0 where
   pub kind : y .kind ≡ x .kind
   pub inside : y .part .start + y .part .len ≤ length cut
+  pub packing : ℕ
   pub room : List ℕ
-  pub kept : (cutCall glyphs lookups buffer x room) .number ≡ 0
-  pub bytes : sourceOf cut y ≡ left (cutCall glyphs lookups buffer x room)
+  pub kept : (cutCall form packing glyphs lookups buffer x room) .number ≡ 0
+  pub bytes : sourceOf cut y ≡ left (cutCall form packing glyphs lookups buffer x room)
 
 -- a list in its buffer, and its cut in another: as many lookups, each the cut of the one at its place, and every listed lookup mapped to its own place
-pub record CutLists (glyphs lookups list buffer small cut : List ℕ) : Type 0 where
+pub record CutLists (form : ℕ) (glyphs lookups list buffer small cut : List ℕ) : Type 0 where
   pub long : length small ≡ length list
-  pub each : Each (CutEntry glyphs lookups buffer cut) (listed list) (listed small)
+  pub each : Each (CutEntry form glyphs lookups buffer cut) (listed list) (listed small)
   pub mapped : (n : ℕ) → n < length (listed list) → find (mapEntries lookups) n ≡ some n
 
 -- Bytes of a part.
@@ -66,10 +67,10 @@ source-bytes : (buffer : List ℕ) (x : Entry) → Bytes buffer → Bytes (sourc
 unfolding sourceOf bytesOf
 source-bytes buffer x h = take-bytes (x .part .len) (drop (x .part .start) buffer) (drop-bytes (x .part .start) buffer h)
 
-module _ (glyphs lookups list buffer small cut : List ℕ) (bg : Bytes glyphs) (bl : Bytes lookups) (bb : Bytes buffer) (good : goodGlyphs glyphs ≡ true) where
+module _ (form : ℕ) (glyphs lookups list buffer small cut : List ℕ) (bg : Bytes glyphs) (bl : Bytes lookups) (bb : Bytes buffer) (good : goodGlyphMap form glyphs ≡ true) where
   -- old number to new
   abbrev g : List (ℕ × ℕ)
-  g = mapEntries glyphs
+  g = glyphEntries form glyphs
 
   abbrev l : List (ℕ × ℕ)
   l = mapEntries lookups
@@ -79,16 +80,16 @@ module _ (glyphs lookups list buffer small cut : List ℕ) (bg : Bytes glyphs) (
   AllClosed = All (λ x. SubstitutesRetained g (lookupOf buffer x)) (listed list)
 
   good-map : GoodMap g
-  good-map = good-glyphs glyphs bg good
+  good-map = good-glyph-map form glyphs bg good
 
-  cut-of : (x y : Entry) → goodEntry buffer x ≡ true → CutEntry glyphs lookups buffer cut x y → CutOf g l buffer cut x y
+  cut-of : (x y : Entry) → goodEntry buffer x ≡ true → CutEntry form glyphs lookups buffer cut x y → CutOf g l buffer cut x y
   unfolding goodEntry
   cut-of x y h c =
       let k : ListedKind (x .kind) = both (eqb (x .kind) 1 || (eqb (x .kind) 2 || eqb (x .kind) 5)) _ h .0 in
-      let left = left-of-call (x .kind) (sourceOf buffer x) glyphs lookups (c .room) (source-bytes buffer x bb) bg bl (c .kept) k in
+      let left = left-of-call (x .kind) form (c .packing) (sourceOf buffer x) glyphs lookups (c .room) (source-bytes buffer x bb) bg bl (c .kept) k in
       record { kind = c .kind; inside = c .inside; left = rw (c .bytes) left }
 
-  each-of : (xs ys : List Entry) → All (λ x. goodEntry buffer x ≡ true) xs → Each (CutEntry glyphs lookups buffer cut) xs ys → Each (CutOf g l buffer cut) xs ys
+  each-of : (xs ys : List Entry) → All (λ x. goodEntry buffer x ≡ true) xs → Each (CutEntry form glyphs lookups buffer cut) xs ys → Each (CutOf g l buffer cut) xs ys
   each-of [] [] h c = tt
   each-of [] (y ∷ ys) h c = absurd c
   each-of (x ∷ xs) [] h c = absurd c
@@ -103,7 +104,7 @@ module _ (glyphs lookups list buffer small cut : List ℕ) (bg : Bytes glyphs) (
 
   -- `results-same`: over a source list and its cut, a run of retained glyphs gives the renumbered result: what comes out of the cut list for the renumbered run is what comes out of the source list, renumbered,
   -- too deep or not, if the source list is not refused, every listed lookup is mapped to its own place and its cut is kept, and retained glyphs have retained substitutes.
-  pub results-same : (trace : List ℕ) → refusal list buffer trace ≡ none → CutLists glyphs lookups list buffer small cut → AllClosed → (string : List ℕ) → All (Retained g) string
+  pub results-same : (trace : List ℕ) → refusal list buffer trace ≡ none → CutLists form glyphs lookups list buffer small cut → AllClosed → (string : List ℕ) → All (Retained g) string
       → run (lookupsOf small cut) (map (new g) string) ≡ Option·map (map (new g)) (run (lookupsOf list buffer) string)
   results-same trace fine cuts closed string retained =
       let lists : CutList g l list buffer small cut = record {
@@ -113,7 +114,7 @@ module _ (glyphs lookups list buffer small cut : List ℕ) (bg : Bytes glyphs) (
       } in
       Lists.results-same g l good-map list buffer small cut trace fine lists (all-ordered (listed list) (taken list buffer trace fine .fine)) closed string retained
 
-  module _ (trace : List ℕ) (rs : List Run) (fine : refusal list buffer trace ≡ none) (cuts : CutLists glyphs lookups list buffer small cut) (closed : AllClosed)
+  module _ (trace : List ℕ) (rs : List Run) (fine : refusal list buffer trace ≡ none) (cuts : CutLists form glyphs lookups list buffer small cut) (closed : AllClosed)
       (reads : runsOf trace ≡ some rs) (retained : All (RetainedRun g) rs) where
     abbrev lists : CutList g l list buffer small cut
     lists = record {

@@ -1,5 +1,5 @@
 -- What is left of a single substitution, as the definitions say it.
-use Prim.Native.Nat.{ℕ, zero, suc, _+_, _-_, _*_, _/_, _≤_, _<_}
+use Prim.Native.Nat.{ℕ, zero, suc, _+_, _≤_, _<_}
 use mathlib.Core.Path.{_≡_, refl, sym, ap, _∙_, subst}
 use mathlib.Core.Bool.{Bool, true, false, cond}
 use mathlib.Core.Option.{Option, none, some}
@@ -11,51 +11,32 @@ use lib.ListN.{length, getD, drop, length-map}
 use lib.Seq.{drop-cons}
 use lib.Dec.{eqb}
 use borrow.Author.Tests.{ne-eqb, eqb-false}
-use Rattle.meaning.specs.Words.{word, words, keys, ascends, find, bind, push, mapSome}
-use Rattle.meaning.specs.Maps.{mapEntries}
-use Rattle.meaning.specs.Parts.{coverage}
+use Rattle.meaning.specs.Words.{word, words, find, bind, push, mapSome}
+use Rattle.meaning.specs.Maps.{glyphEntries}
+use Rattle.meaning.specs.Parts.{coverage, coverageSound}
 use Rattle.meaning.specs.Tables.{Table, reach, single, plusDelta, deltaPairs, listPairs}
 use Rattle.meaning.specs.Cut.{keptSubstitutes, keptSingles, cut}
 use Rattle.meaning.specs.Subset.{Outcome, refused, limit, written}
 use Rattle.laws.specs.Stands.{All}
-use Rattle.laws.specs.Left.{entries-length, words-length}
+use Rattle.laws.specs.Left.{words-length}
 use Rattle.laws.specs.Through.{Opt}
 use Rattle.laws.specs.CutGood.{GoodOf}
 use Rattle.laws.specs.CutTables.{cut-good}
 use Rattle.laws.specs.SoundGood.{Bytes, coverage-up, single-good}
-use Rattle.laws.specs.CallBack.{good-map}
+use Rattle.glyph_runs.specs.Runs.{GlyphMap, map-good}
+use Rattle.glyph_runs.specs.Found.{entries-few}
 use Rattle.fold.specs.Cells.{folded, Holds, holds-kept}
-use Rattle.fold.specs.Laid.{Laid}
+use Rattle.fold.specs.Runs.{LaidGlyphs}
 use Rattle.fold.specs.declared.Map.{Map}
 use Rattle.area.specs.Part.{part, notes, oldAt}
-use Rattle.meet.specs.Met.{met, Met, Meets, met-few, met-count}
-use Rattle.meet.proofs.Entries.{map-rises}
+use Rattle.meet.specs.Met.{met, Met, met-few, met-count}
+use Rattle.meet_runs.specs.Either.{Most, MeetsGlyphs}
 use Rattle.tried.specs.Tries.{Tries, tries-less}
 use Rattle.tried.specs.declared.Tried.{Tried}
 use Rattle.single_subst.specs.Pairs.{covered, substitutes, pairs, pairAt, KeepsPairs, KeptPairs}
 use Rattle.single_subst.specs.Writing.{Writes}
 use Rattle.single_subst.specs.Whole.{Sound, MapLaid, enoughCells}
 use Rattle.single_subst.proofs.Checking.{Good, good-table}
-
--- A map whose old numbers ascend has 65,536 entries at most.
-word-small : (m : List ℕ) → ((i : ℕ) → getD m i 0 < 256) → (at : ℕ) → word m at < 65536
-unfolding word
-word-small m h at = omega (arith, h at, h (at + 1))
-
-map-least : (m : List ℕ) → ascends (keys (mapEntries m)) ≡ true → (k : ℕ) → k < length m / 4 → k ≤ word m (4 * k)
-map-least m good zero h = omega arith
-map-least m good (suc k) h = omega (arith, map-least m good k (omega arith), map-rises m good k (suc k) (omega arith) h)
-
-pub few-entries : (m : List ℕ) → ascends (keys (mapEntries m)) ≡ true → ((i : ℕ) → getD m i 0 < 256) → length m / 4 ≤ 65536
-few-entries m good bytes = step (decLt 0 (length m / 4))
-  where
-    step : Dec (0 < length m / 4) → length m / 4 ≤ 65536
-    step (yes h) = omega (arith, map-least m good (length m / 4 - 1) (omega arith), word-small m bytes (4 * (length m / 4 - 1)))
-    step (no h) = omega arith
-
-entries-few : (m : List ℕ) → length (mapEntries m) ≡ length m / 4
-unfolding mapEntries
-entries-few m = entries-length m 0 (length m / 4)
 
 -- Indexes of notes lie in the coverage.
 met-indexes : (f : ℕ → Option ℕ) (i n : ℕ) (cov : List ℕ) → i + length cov ≤ n → All (λ e. e .0 < n) (met f i cov)
@@ -158,73 +139,73 @@ pub met-cover : (s : List ℕ) {cover : ℕ} {f : ℕ → Option ℕ} {t : List 
 met-cover s e k = rw e at k
 
 -- The glyph map in cells.
-module _ {s glyphs : List ℕ} (o : Sound s glyphs) where
+module _ {form : ℕ} {s glyphs : List ℕ} (o : Sound form s glyphs) where
   -- too few cells for it
-  pub few-cells : {t₀ t : List ℕ} {m : Map} → Laid glyphs t₀ t 0 m → m .mask ≡ 0 → length t₀ < enoughCells
+  pub few-cells : {t₀ t : List ℕ} {m : Map} → LaidGlyphs form glyphs t₀ t 0 m → m .mask ≡ 0 → length t₀ < enoughCells
   few-cells {t₀} a z = step (decLt (length t₀) 65536)
     where
       step : Dec (length t₀ < 65536) → length t₀ < enoughCells
       step (yes h) = omega arith
-      step (no h) = absurd (a .room (omega arith) (o .glyphs-ascend) z)
+      step (no h) = absurd (a .room (omega arith) z)
 
-  pub map-laid : {t₀ t : List ℕ} {m : Map} {at : ℕ} → Laid glyphs t₀ t 0 m → (m .mask ≡ 0 → ⊥) → at ≡ word s 2 → (at ≡ 0 → ⊥) → MapLaid s glyphs m t
-  map-laid a z w h = record { front = a .place; mask = a .few (o .glyphs-ascend); holds = a .holds z; cover = λ e. h (w ∙ e) }
+  pub map-laid : {t₀ t : List ℕ} {m : Map} {at : ℕ} → LaidGlyphs form glyphs t₀ t 0 m → (m .mask ≡ 0 → ⊥) → at ≡ word s 2 → (at ≡ 0 → ⊥) → MapLaid form s glyphs m t
+  map-laid a z w h = record { front = a .place; mask = a .few; holds = a .holds z; cover = λ e. h (w ∙ e) }
 
   -- as many cells as before
-  pub cells-same : {t₀ t : List ℕ} {m : Map} → Laid glyphs t₀ t 0 m → (short : Type 0) (r : Tried) (out after : List ℕ) (made : Outcome) → Tries (length t < enoughCells) short r out after made → Tries (length t₀ < enoughCells) short r out after made
+  pub cells-same : {t₀ t : List ℕ} {m : Map} → LaidGlyphs form glyphs t₀ t 0 m → (short : Type 0) (r : Tried) (out after : List ℕ) (made : Outcome) → Tries (length t < enoughCells) short r out after made → Tries (length t₀ < enoughCells) short r out after made
   cells-same {t₀} {t} {m} a short r out after made h = tries-less (length t < enoughCells) short (length t₀ < enoughCells) short r out after made (λ f. omega (arith, a .kept .size)) (λ f. f) h
 
-  module _ {m : Map} {t : List ℕ} (l : MapLaid s glyphs m t) where
+  module _ {m : Map} {t : List ℕ} (l : MapLaid form s glyphs m t) where
     good : Good s
     good = good-table s (o .sound) (l .cover)
 
-    -- too few cells for the notes
-    pub few-notes : {at : ℕ} → at ≡ m .mask + 1 → length glyphs / 4 ≤ 65536 → length t ≤ at + length glyphs / 4 → length t < enoughCells
-    few-notes e n h = omega (arith, l .mask)
+    -- what counting the notes, and meeting the coverage, asks
+    pub counts : {cover : ℕ} → cover ≡ word s 2 → (coverageSound s cover ≡ true) × GlyphMap form glyphs
+    counts w = (rw w (good .cover), o .map)
 
-    pub meets : {at cover : ℕ} → cover ≡ word s 2 → at ≡ m .mask + 1 → at + length glyphs / 4 < length t → Meets s cover glyphs m t at
-    meets w e h = record { sound = rw w (good .cover); ascend = o .glyphs-ascend; holds = l .holds; behind = omega (arith, l .front); room = h }
+    pub meets : {at cover r : ℕ} → cover ≡ word s 2 → at ≡ m .mask + 1 → Most form glyphs s cover r → at + r < length t → MeetsGlyphs form s cover glyphs m t at
+    meets w e n h = record { sound = counts w .0; map = o .map; holds = l .holds; behind = omega (arith, l .front); room = omega (arith, n .number) }
 
-    module _ {at n : ℕ} {next : List ℕ} (e : at ≡ m .mask + 1) (k : Met (find (mapEntries glyphs)) (covered s) t at next n) where
-      held : Holds next m (mapEntries glyphs)
+    module _ {at n : ℕ} {next : List ℕ} (e : at ≡ m .mask + 1) (k : Met (find (glyphEntries form glyphs)) (covered s) t at next n) where
+      held : Holds next m (glyphEntries form glyphs)
       held = holds-kept (k .kept) (omega (arith, l .front)) (l .holds)
 
       pub keeps : KeepsPairs s next m at n
       keeps = record {
         sound = o .sound;
         cover = l .cover;
-        indexes = notes-each (λ x. x < length (covered s)) next at n (subst (All (λ e. e .0 < length (covered s))) (sym (k .noted)) (met-indexes (find (mapEntries glyphs)) 0 (length (covered s)) (covered s) (omega arith)));
+        indexes = notes-each (λ x. x < length (covered s)) next at n (subst (All (λ e. e .0 < length (covered s))) (sym (k .noted)) (met-indexes (find (glyphEntries form glyphs)) 0 (length (covered s)) (covered s) (omega arith)));
         cells = held .inside;
         before = omega (arith, l .front);
         behind = omega (arith, k .fits, k .kept .size);
       }
 
-      few-met : length glyphs / 4 ≤ 65536 → n ≤ 65536
-      few-met h = omega (arith, met-count k, met-few (mapEntries glyphs) (covered s) (coverage-up s (word s 2) (good .cover)), entries-few glyphs)
+      few-met : n ≤ 65536
+      few-met = omega (arith, met-count k, met-few (glyphEntries form glyphs) (covered s) (coverage-up s (word s 2) (good .cover)), entries-few (o .map))
 
       module _ {after : List ℕ} {count : ℕ} {same : Bool} (p : KeptPairs s next m at n after count same) where
-        stay-is : pairs after at count ≡ keptSubstitutes (mapEntries glyphs) (listPairs (covered s) (substitutes s))
+        stay-is : pairs after at count ≡ keptSubstitutes (glyphEntries form glyphs) (listPairs (covered s) (substitutes s))
         stay-is =
-            p .stay ∙ pairs-same (folded next m) (find (mapEntries glyphs)) (held .answers) (substitutes s) (notes next at n)
-            ∙ ap (mapSome (pairAt (find (mapEntries glyphs)) (substitutes s))) (k .noted)
-            ∙ notes-pairs (mapEntries glyphs) (substitutes s) 0 (covered s) (omega (arith, all-listed s (l .cover) good))
+            p .stay ∙ pairs-same (folded next m) (find (glyphEntries form glyphs)) (held .answers) (substitutes s) (notes next at n)
+            ∙ ap (mapSome (pairAt (find (glyphEntries form glyphs)) (substitutes s))) (k .noted)
+            ∙ notes-pairs (glyphEntries form glyphs) (substitutes s) 0 (covered s) (omega (arith, all-listed s (l .cover) good))
 
-        left-is : keptSingles (pairs after at count) ≡ cut (mapEntries glyphs) [] (single s)
-        left-is = ap keptSingles stay-is ∙ sym (cut-is s (l .cover) (mapEntries glyphs))
+        left-is : keptSingles (pairs after at count) ≡ cut (glyphEntries form glyphs) [] (single s)
+        left-is = ap keptSingles stay-is ∙ sym (cut-is s (l .cover) (glyphEntries form glyphs))
 
-        pub writes : Bytes s → Bytes glyphs → length glyphs / 4 ≤ 65536 → Writes after at count same
-        writes bs bg h =
+        pub writes : Bytes s → Writes after at count same
+        writes bs =
             let t = single-good s bs (o .sound) in
-            let c = cut-good (mapEntries glyphs) [] (good-map glyphs bg (o .glyphs-ascend) (o .new-ascend)) tt (single s) (t .0) in
+            let c = cut-good (glyphEntries form glyphs) [] (map-good (o .map)) tt (single s) (t .0) in
             record {
               inside = omega (arith, p .few, k .fits, k .kept .size, p .kept .size);
-              few = omega (arith, p .few, few-met h);
+              few = omega (arith, p .few, few-met);
               agreed = p .agreed;
-              good = rw left-is (subst (λ (n : ℕ). Opt (GoodOf n) (cut (mapEntries glyphs) [] (single s))) (t .1) c);
+              good = rw left-is (subst (λ (n : ℕ). Opt (GoodOf n) (cut (glyphEntries form glyphs) [] (single s))) (t .1) c);
             }
 
         pub cut-tries : (r : Tried) (area out end : List ℕ) → Tries (⊥) (length area < limit) r out end (written out (keptSingles (pairs after at count)))
-            → Tries (length t < enoughCells) (length area < limit) r out end (written out (cut (mapEntries glyphs) [] (single s)))
+            → Tries (length t < enoughCells) (length area < limit) r out end (written out (cut (glyphEntries form glyphs) [] (single s)))
         cut-tries r area out end h =
-            tries-less ⊥ (length area < limit) (length t < enoughCells) (length area < limit) r out end (written out (cut (mapEntries glyphs) [] (single s))) (λ f. absurd f) (λ f. f)
+            tries-less ⊥ (length area < limit) (length t < enoughCells) (length area < limit) r out end (written out (cut (glyphEntries form glyphs) [] (single s))) (λ f. absurd f) (λ f. f)
             (subst (λ (x : Option Table). Tries (⊥) (length area < limit) r out end (written out x)) left-is h)

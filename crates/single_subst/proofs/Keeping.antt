@@ -7,14 +7,13 @@ use mathlib.Core.List.{List, [], _∷_, _++_, map, append-nil, map-append}
 use native.Mathlib.Omega.{arith}
 use lib.ListN.{length, getD, set, length-set}
 use lib.Seq.{getD-set-other}
-use lib.Bits.{and-le-r}
 use lib.Dec.{eqb}
 use borrow.Author.Tests.{eq-eqb, ne-eqb, eqb-true, eqb-false}
 use Rattle.meaning.specs.Words.{word, every, bind, push, mapSome}
 use Rattle.meaning.specs.Tables.{plusDelta}
 use Rattle.meaning.specs.Cut.{deltaOf, agree}
 use Rattle.laws.specs.Left.{words-at}
-use Rattle.fold.specs.Cells.{cellOf, cellEntry, folded, Kept, kept-all, kept-more, kept-set, answer-own, answer-other}
+use Rattle.fold.specs.Cells.{cellEntry, folded, Kept, kept-all, kept-more, kept-set, entry-kept, answer-own, answer-other}
 use Rattle.fold.specs.declared.Map.{Map}
 use Rattle.area.specs.Part.{part, part-append, notes, oldAt}
 use Rattle.area.specs.Stored.{part-same, part-store}
@@ -165,7 +164,7 @@ module _ {s t₀ : List ℕ} {m : Map} {at n : ℕ} where
       is-old = ap (λ (x : ℕ). getD (substitutes s) (x / 65536) 0) same-note
 
       is-cell : cellEntry t m (noted s t (at + i)) ≡ e
-      is-cell = ap (cellEntry t m) is-old ∙ c .kept .same (cellOf m old) (omega (arith, a .before, and-le-r old (m .mask)))
+      is-cell = ap (cellEntry t m) is-old ∙ entry-kept (c .kept) m (a .before) old
 
       is-stored : after ≡ set t (at + k) v
       is-stored = p .cell ∙ rw (is-cell, same-note) refl

@@ -6,28 +6,28 @@ use mathlib.Core.Option.{none}
 use mathlib.Core.List.{List, []}
 use lib.ListN.{length}
 use lib.Dec.{eqb}
-use Rattle.meaning.specs.Words.{word, words, keys, values, ascends}
-use Rattle.meaning.specs.Maps.{mapEntries}
+use Rattle.meaning.specs.Words.{word, words}
+use Rattle.meaning.specs.Maps.{glyphEntries}
 use Rattle.meaning.specs.Parts.{coverage}
 use Rattle.meaning.specs.Tables.{Table, reach, single}
 use Rattle.meaning.specs.Fault.{singleFault}
 use Rattle.meaning.specs.Cut.{cut}
 use Rattle.meaning.specs.Subset.{limit}
+use Rattle.glyph_runs.specs.Runs.{GlyphMap}
 use Rattle.fold.specs.Cells.{Holds}
 use Rattle.fold.specs.declared.Map.{Map}
 
--- the source has no fault and is not over the limit, and both columns of the glyph map ascend
-pub record Sound (s glyphs : List ℕ) : Type 0 where
+-- the source has no fault and is not over the limit, and the glyph map is good
+pub record Sound (form : ℕ) (s glyphs : List ℕ) : Type 0 where
   pub sound : singleFault s ≡ none
   pub source : length s ≤ limit
-  pub glyphs-ascend : ascends (keys (mapEntries glyphs)) ≡ true
-  pub new-ascend : ascends (values (mapEntries glyphs)) ≡ true
+  pub map : GlyphMap form glyphs
 
 -- the cells of m, from the first on, hold the glyph map, and the coverage is not null
-pub record MapLaid (s glyphs : List ℕ) (m : Map) (t : List ℕ) : Type 0 where
+pub record MapLaid (form : ℕ) (s glyphs : List ℕ) (m : Map) (t : List ℕ) : Type 0 where
   pub front : m .at ≡ 0
   pub mask : m .mask < 65536
-  pub holds : Holds t m (mapEntries glyphs)
+  pub holds : Holds t m (glyphEntries form glyphs)
   pub cover : word s 2 ≡ 0 → ⊥
 
 -- cells that are enough for any source

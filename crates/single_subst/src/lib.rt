@@ -7,8 +7,9 @@ use area::write_cover;
 use coverage::glyph_at;
 use fold::Map;
 use fold::entry;
-use fold::lay;
-use meet::meet;
+use fold::lay_glyphs;
+use meet_runs::meet;
+use meet_runs::most;
 use room::HIGHEST;
 use room::Laid;
 use std::num::wrapping_add_u16;
@@ -26,7 +27,7 @@ ghost use Prim.Native.Nat.{_+_, _*_, _≤_, _<_};
 ghost use lib.ListN.{length, getD};
 ghost use lib.Dec.{ltb};
 ghost use Rattle.meaning.specs.Words.{flat};
-ghost use Rattle.meaning.specs.Maps.{mapEntries};
+ghost use Rattle.meaning.specs.Maps.{glyphEntries};
 ghost use Rattle.meaning.specs.Tables.{single};
 ghost use Rattle.meaning.specs.Fault.{equalCount, singleFault};
 ghost use Rattle.meaning.specs.Cut.{deltaOf, agree, keptSingles, cut};
@@ -240,35 +241,44 @@ fn lay_pairs(t: &[u32], at: usize, kept: Pairs, area: &mut [u8], out: &mut [u8])
 fn cut_singles(
     src: &[u8],
     glyphs: &[u8],
+    form: usize,
     m: Map,
     t: &mut [u32],
     area: &mut [u8],
     out: &mut [u8],
 ) -> Tried
-    requires { ⌜ Sound (now src) (now glyphs) × MapLaid (now src) (now glyphs) m (now t) ⌝ }
-    ensures { λ r. ⌜ Tries (length (now (t .entry)) < enoughCells) (length (now (area .entry)) < limit) r (now (out .entry)) (now (out .exit)) (written (now (out .entry)) (cut (mapEntries (now (glyphs .entry))) [] (single (now (src .entry))))) ⌝ }
+    requires { ⌜ Sound form (now src) (now glyphs) × MapLaid form (now src) (now glyphs) m (now t) ⌝ }
+    ensures { λ r. ⌜ Tries (length (now (t .entry)) < enoughCells) (length (now (area .entry)) < limit) r (now (out .entry)) (now (out .exit)) (written (now (out .entry)) (cut (glyphEntries form (now (glyphs .entry))) [] (single (now (src .entry))))) ⌝ }
 {
+    let cover = word_inside(src, 2);
     let notes = m.mask + 1;
-    if t.len() <= notes + glyphs.len() / 4 {
+    if t.len() <= notes + most(src, cover, glyphs, form) {
         return Tried::FewCells;
     }
-    let n = meet(src, word_inside(src, 2), glyphs, m, t, notes);
+    let n = meet(src, cover, glyphs, form, m, t, notes);
     let kept = keep_pairs(src, t, m, notes, n);
     lay_pairs(t, notes, kept, area, out)
 }
 
 // What is left of a sound single substitution under a glyph map, laid into the buffer if its layout fits and the buffer is not shorter. `t` and `area` are scratch, whatever they hold.
 // The buffer is untouched where nothing is left, where there is no room, and where the scratch is too short.
-pub fn singles(src: &[u8], glyphs: &[u8], t: &mut [u32], area: &mut [u8], out: &mut [u8]) -> Tried
-    requires { ⌜ Sound (now src) (now glyphs) ⌝ }
-    ensures { λ r. ⌜ Tries (length (now (t .entry)) < enoughCells) (length (now (area .entry)) < limit) r (now (out .entry)) (now (out .exit)) (written (now (out .entry)) (cut (mapEntries (now (glyphs .entry))) [] (single (now (src .entry))))) ⌝ }
+pub fn singles(
+    src: &[u8],
+    glyphs: &[u8],
+    form: usize,
+    t: &mut [u32],
+    area: &mut [u8],
+    out: &mut [u8],
+) -> Tried
+    requires { ⌜ Sound form (now src) (now glyphs) ⌝ }
+    ensures { λ r. ⌜ Tries (length (now (t .entry)) < enoughCells) (length (now (area .entry)) < limit) r (now (out .entry)) (now (out .exit)) (written (now (out .entry)) (cut (glyphEntries form (now (glyphs .entry))) [] (single (now (src .entry))))) ⌝ }
 {
     if word_inside(src, 2) == 0 {
         return Tried::Became(Laid::Nothing);
     }
-    let m = lay(glyphs, t, 0);
+    let m = lay_glyphs(glyphs, form, t, 0);
     if m.mask == 0 {
         return Tried::FewCells;
     }
-    cut_singles(src, glyphs, m, t, area, out)
+    cut_singles(src, glyphs, form, m, t, area, out)
 }

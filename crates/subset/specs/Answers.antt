@@ -7,12 +7,14 @@ use Rattle.room.specs.Laid.{outcomeOf}
 use Rattle.room.specs.declared.Laid.{Laid}
 use Rattle.room.specs.declared.Laid.the-variants as laid
 use Rattle.subset.specs.declared.Answer.{Answer}
-use Rattle.subset.specs.declared.Answer.the-variants.{Kept, BadKind, BadGlyphs, BadLookups, LongSource, BadFormat, Malformed, Device, PastRule, Nothing, TooBig, NoRoom, BadJob}
+use Rattle.subset.specs.declared.Answer.the-variants.{Kept, BadKind, BadForm, BadLayout, BadGlyphs, BadLookups, LongSource, BadFormat, Malformed, Device, PastRule, Nothing, TooBig, NoRoom, BadJob}
 
 -- the documents' number for each answer
 abbrev pub numberOf : Answer → ℕ
 numberOf (Kept n) = 0
 numberOf BadKind = 1
+numberOf BadForm = 13
+numberOf BadLayout = 14
 numberOf BadGlyphs = 2
 numberOf BadLookups = 3
 numberOf LongSource = 4
@@ -29,6 +31,8 @@ numberOf BadJob = 11
 abbrev pub lengthOf : Answer → ℕ
 lengthOf (Kept n) = n
 lengthOf BadKind = 0
+lengthOf BadForm = 0
+lengthOf BadLayout = 0
 lengthOf BadGlyphs = 0
 lengthOf BadLookups = 0
 lengthOf LongSource = 0
@@ -45,9 +49,9 @@ lengthOf BadJob = 0
 abbrev pub outcome : Answer → List ℕ → Outcome
 outcome a out = record { number = numberOf a; len = lengthOf a; out = out }
 
--- an answer that is one number, the number times 2^32 plus the length, with the buffer as it is left
+-- an answer that is one number, the number times 2^56 plus the length, with the buffer as it is left
 abbrev pub decoded : ℕ → List ℕ → Outcome
-decoded n out = record { number = n / 0x1_0000_0000; len = n % 0x1_0000_0000; out = out }
+decoded n out = record { number = n / 0x100_0000_0000_0000; len = n % 0x100_0000_0000_0000; out = out }
 
 -- the answer for what was laid
 abbrev pub answerOf : Laid → Answer

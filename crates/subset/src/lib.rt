@@ -1,4 +1,4 @@
-// The call: a kind, a source, a glyph map, a lookup map and a lent buffer, and the first answer that applies, in the written order of documents 01 and 02.
+// The call: three marks, a source, a glyph map, a lookup map and a lent buffer, and the first answer that applies, in the written order of documents 01 and 02.
 use checks::check;
 use checks::other_format;
 use checks::records_within;
@@ -16,7 +16,8 @@ ghost use Prim.Native.Nat.{_+_, _*_, _≤_};
 ghost use lib.ListN.{length};
 ghost use lib.Dec.{ltb, eqb};
 ghost use Rattle.meaning.specs.Words.{word};
-ghost use Rattle.meaning.specs.Subset.{limit, goodKind, hasDevice, subset};
+ghost use Rattle.meaning.specs.Maps.{goodForm};
+ghost use Rattle.meaning.specs.Subset.{limit, goodKind, goodPacking, hasDevice, subset};
 ghost use Rattle.subset.specs.Answers.{numberOf, lengthOf, outcome, decoded, answerOf};
 ghost use Rattle.subset.specs.Refusals.{Judges};
 
@@ -25,6 +26,8 @@ ghost use Rattle.subset.specs.Refusals.{Judges};
 pub enum Answer {
     Kept(usize),
     BadKind,
+    BadForm,
+    BadLayout,
     BadGlyphs,
     BadLookups,
     LongSource,
@@ -36,6 +39,13 @@ pub enum Answer {
     TooBig,
     NoRoom(usize),
     BadJob,
+}
+
+// What a call is marked with: the kind of its source, the form of its glyph map, and the layout that is asked for.
+pub struct Marks {
+    pub kind: usize,
+    pub form: usize,
+    pub layout: usize,
 }
 
 // What the tests before the cut say: the answer that refuses the call, or that the source is sound.
@@ -52,6 +62,23 @@ fn good_kind(kind: usize) -> bool
         return false;
     }
     kind <= 5
+}
+
+// Whether glyph maps have a form with this mark: 4 pairs, or 6 runs.
+fn good_form(form: usize) -> bool
+    ensures { λ r. ⌜ r ≡ goodForm form ⌝ }
+{
+    if form == 4 {
+        return true;
+    }
+    form == 6
+}
+
+// Whether there is a layout with this mark: 0, the plain one.
+fn good_layout(layout: usize) -> bool
+    ensures { λ r. ⌜ r ≡ goodPacking layout ⌝ }
+{
+    layout == 0
 }
 
 // Whether a source is over the limit.
@@ -93,14 +120,20 @@ fn answer_for(laid: Laid) -> Answer
     }
 }
 
-// The first of the refusals before the cut that applies, in their written order: 1 to 7, and 12.
-fn refusal(kind: usize, source: &[u8], glyphs: &[u8], lookups: &[u8]) -> Judged
-    ensures { λ r. ⌜ Judges kind (now (source .entry)) (now (glyphs .entry)) (now (lookups .entry)) r ⌝ }
+// The first of the refusals before the cut that applies, in their written order: 1, 13, 14, 2 to 7, and 12.
+fn refusal(marks: Marks, source: &[u8], glyphs: &[u8], lookups: &[u8]) -> Judged
+    ensures { λ r. ⌜ Judges (marks .kind) (marks .form) (marks .layout) (now (source .entry)) (now (glyphs .entry)) (now (lookups .entry)) r ⌝ }
 {
-    if !good_kind(kind) {
+    if !good_kind(marks.kind) {
         return Judged::Refused(Answer::BadKind);
     }
-    if !good_glyphs(glyphs) {
+    if !good_form(marks.form) {
+        return Judged::Refused(Answer::BadForm);
+    }
+    if !good_layout(marks.layout) {
+        return Judged::Refused(Answer::BadLayout);
+    }
+    if !good_glyphs(glyphs, marks.form) {
         return Judged::Refused(Answer::BadGlyphs);
     }
     if !good_lookups(lookups) {
@@ -109,35 +142,35 @@ fn refusal(kind: usize, source: &[u8], glyphs: &[u8], lookups: &[u8]) -> Judged
     if too_long(source) {
         return Judged::Refused(Answer::LongSource);
     }
-    if other_format(kind, source) {
+    if other_format(marks.kind, source) {
         return Judged::Refused(Answer::BadFormat);
     }
-    if let Fault::At(place) = check(kind, source) {
+    if let Fault::At(place) = check(marks.kind, source) {
         return Judged::Refused(Answer::Malformed(place));
     }
-    if pair_device(kind, source) {
+    if pair_device(marks.kind, source) {
         return Judged::Refused(Answer::Device);
     }
-    if !records_within(kind, source) {
+    if !records_within(marks.kind, source) {
         return Judged::Refused(Answer::PastRule);
     }
     Judged::Sound
 }
 
-// The call: what is left of a source of this kind under a glyph map and a lookup map, laid into the buffer, or the first of the refusals that applies, in their written order: 1 to 7, 12, 8 to 10.
+// The call: what is left of a source under a glyph map and a lookup map, laid into the buffer, or the first of the refusals that applies, in their written order: 1, 13, 14, 2 to 7, 12, 8 to 10.
 // A refusal leaves the buffer untouched, and bytes past those that are kept keep their old content.
-pub fn subset(kind: usize, source: &[u8], glyphs: &[u8], lookups: &[u8], out: &mut [u8]) -> Answer
-    ensures { λ r. ⌜ outcome r (now (out .exit)) ≡ subset kind (now (source .entry)) (now (glyphs .entry)) (now (lookups .entry)) (now (out .entry)) ⌝ }
+pub fn subset(marks: Marks, source: &[u8], glyphs: &[u8], lookups: &[u8], out: &mut [u8]) -> Answer
+    ensures { λ r. ⌜ outcome r (now (out .exit)) ≡ subset (marks .kind) (marks .form) (marks .layout) (now (source .entry)) (now (glyphs .entry)) (now (lookups .entry)) (now (out .entry)) ⌝ }
 {
-    if let Judged::Refused(answer) = refusal(kind, source, glyphs, lookups) {
+    if let Judged::Refused(answer) = refusal(marks, source, glyphs, lookups) {
         return answer;
     }
-    answer_for(cut_own(kind, source, glyphs, lookups, out))
+    answer_for(cut_own(marks.kind, source, glyphs, marks.form, lookups, out))
 }
 
 // The same call with lent scratch, whatever it holds: 32-bit cells, and an area of bytes. Where it is too short our own is taken; with `cut::CELLS` cells and `cut::BYTES` bytes it never is.
 pub fn subset_in(
-    kind: usize,
+    marks: Marks,
     source: &[u8],
     glyphs: &[u8],
     lookups: &[u8],
@@ -145,12 +178,21 @@ pub fn subset_in(
     area: &mut [u8],
     out: &mut [u8],
 ) -> Answer
-    ensures { λ r. ⌜ outcome r (now (out .exit)) ≡ subset kind (now (source .entry)) (now (glyphs .entry)) (now (lookups .entry)) (now (out .entry)) ⌝ }
+    ensures { λ r. ⌜ outcome r (now (out .exit)) ≡ subset (marks .kind) (marks .form) (marks .layout) (now (source .entry)) (now (glyphs .entry)) (now (lookups .entry)) (now (out .entry)) ⌝ }
 {
-    if let Judged::Refused(answer) = refusal(kind, source, glyphs, lookups) {
+    if let Judged::Refused(answer) = refusal(marks, source, glyphs, lookups) {
         return answer;
     }
-    answer_for(cut_lent(kind, source, glyphs, lookups, cells, area, out))
+    answer_for(cut_lent(
+        marks.kind,
+        source,
+        glyphs,
+        marks.form,
+        lookups,
+        cells,
+        area,
+        out,
+    ))
 }
 
 // The number of an answer in documents 01 and 02.
@@ -160,6 +202,8 @@ pub fn number_of(a: Answer) -> usize
     match a {
         Answer::Kept(_) => 0,
         Answer::BadKind => 1,
+        Answer::BadForm => 13,
+        Answer::BadLayout => 14,
         Answer::BadGlyphs => 2,
         Answer::BadLookups => 3,
         Answer::LongSource => 4,
@@ -181,6 +225,8 @@ pub fn length_of(a: Answer) -> usize
     match a {
         Answer::Kept(n) => n,
         Answer::BadKind => 0,
+        Answer::BadForm => 0,
+        Answer::BadLayout => 0,
         Answer::BadGlyphs => 0,
         Answer::BadLookups => 0,
         Answer::LongSource => 0,
@@ -195,32 +241,41 @@ pub fn length_of(a: Answer) -> usize
     }
 }
 
-// An answer as one number: its number times 2^32, plus its length.
+// An answer as one number: its number times 2^56, plus its length.
 fn one_number(a: Answer) -> u64
     requires { ⌜ lengthOf a ≤ 262144 ⌝ }
-    ensures { λ r. ⌜ r ≡ numberOf a * 0x1_0000_0000 + lengthOf a ⌝ }
+    ensures { λ r. ⌜ r ≡ numberOf a * 0x100_0000_0000_0000 + lengthOf a ⌝ }
 {
-    number_of(a) as u64 * 0x1_0000_0000 + length_of(a) as u64
+    number_of(a) as u64 * 0x100_0000_0000_0000 + length_of(a) as u64
 }
 
-// The call for other languages, on numbers and byte slices. The answer is one number: the answer's number times 2^32, plus its length.
+// The call for other languages, on numbers and byte slices: its three marks first. The answer is one number: the answer's number times 2^56, plus its length.
 #[no_mangle]
 pub extern "C" fn gillcurtain_subset(
     kind: u64,
+    form: u64,
+    layout: u64,
     source: &[u8],
     glyphs: &[u8],
     lookups: &[u8],
     out: &mut [u8],
 ) -> u64
-    ensures { λ r. ⌜ decoded r (now (out .exit)) ≡ subset kind (now (source .entry)) (now (glyphs .entry)) (now (lookups .entry)) (now (out .entry)) ⌝ }
+    ensures { λ r. ⌜ decoded r (now (out .exit)) ≡ subset kind form layout (now (source .entry)) (now (glyphs .entry)) (now (lookups .entry)) (now (out .entry)) ⌝ }
 {
-    one_number(subset(kind as usize, source, glyphs, lookups, out))
+    let marks = Marks {
+        kind: kind as usize,
+        form: form as usize,
+        layout: layout as usize,
+    };
+    one_number(subset(marks, source, glyphs, lookups, out))
 }
 
 // The same with lent scratch, as `subset_in` takes it.
 #[no_mangle]
 pub extern "C" fn gillcurtain_subset_in(
     kind: u64,
+    form: u64,
+    layout: u64,
     source: &[u8],
     glyphs: &[u8],
     lookups: &[u8],
@@ -228,7 +283,12 @@ pub extern "C" fn gillcurtain_subset_in(
     area: &mut [u8],
     out: &mut [u8],
 ) -> u64
-    ensures { λ r. ⌜ decoded r (now (out .exit)) ≡ subset kind (now (source .entry)) (now (glyphs .entry)) (now (lookups .entry)) (now (out .entry)) ⌝ }
+    ensures { λ r. ⌜ decoded r (now (out .exit)) ≡ subset kind form layout (now (source .entry)) (now (glyphs .entry)) (now (lookups .entry)) (now (out .entry)) ⌝ }
 {
-    one_number(subset_in(kind as usize, source, glyphs, lookups, cells, area, out))
+    let marks = Marks {
+        kind: kind as usize,
+        form: form as usize,
+        layout: layout as usize,
+    };
+    one_number(subset_in(marks, source, glyphs, lookups, cells, area, out))
 }

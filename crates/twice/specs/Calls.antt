@@ -7,21 +7,20 @@ use mathlib.Core.List.{List, [], _∷_, _++_}
 use native.Mathlib.Omega.{arith}
 use lib.ListN.{length, drop}
 use lib.Seq.{take-at}
-use lib.Dec.{eqb}
+use lib.Dec.{ltb, eqb}
 use borrow.Author.Tests.{le-ltb, eqb-true, not-false}
 use Rattle.meaning.specs.Words.{word, inside, bytes2, flat, isSome, bind}
-use Rattle.meaning.specs.Maps.{mapEntries}
 use Rattle.meaning.specs.Parts.{coverage, classes}
 use Rattle.meaning.specs.Tables.{Table, Pair, table, pairTable, reach, reaches, pairSet, cellRows, fieldCount}
 use Rattle.meaning.specs.Fault.{fault}
 use Rattle.meaning.specs.Cut.{cut, cutPairs, keptSets, keptPairs, newFormat, newSecond, classMap, coveredMap, secondMap, keptRows, keptClassPairs}
 use Rattle.meaning.specs.Layout.{setsLayout, coversLayout, cellsLayout, coverLayout, tableWords}
-use Rattle.meaning.specs.Subset.{left, limit, lastFormat, hasFormat, hasDevice, tooBig, laidInto, written}
+use Rattle.meaning.specs.Subset.{Outcome, left, refused, limit, lastFormat, hasFormat, hasDevice, tooBig, laidInto, written}
 use Rattle.laws.specs.Through.{Opt}
 use Rattle.laws.specs.ReadsBack.{kindOf, table-pairs}
 use Rattle.laws.specs.CutGood.{GoodOf, format-small, second-small}
 use Rattle.laws.specs.CallBack.{no-fault, left-good}
-use Rattle.promises.specs.Refusals.{Call, answer, words?, plainWords, plain, refusals, kept-exactly, kept-length, kept-bytes}
+use Rattle.promises.specs.Refusals.{Call, answer, glyphMap, lookupMap, words?, plainWords, plain, refusals, kept-exactly, kept-length, kept-bytes}
 use Rattle.promises.specs.Tested.{GoodSource, tests, kept-tested}
 use Rattle.promises.specs.Promises.{BytesOf, small-says, reads-back, small-within}
 
@@ -117,6 +116,24 @@ written-fits : (t : Table) (buffer : List ℕ) → tooBig (tableWords t) ≡ fal
 unfolding written laidInto
 written-fits t buffer big room = rw (big, le-ltb (length buffer) (length (flat (tableWords t))) room)
 
+-- what is refused for what it is, as empty or too big, is refused so into any buffer
+pub refused-anywhere : (out out′ : List ℕ) (o : Option Table) (n : ℕ) → 0 < n → n < 10 → (written out o) .number ≡ n → (written out′ o) .number ≡ n
+unfolding written laidInto
+refused-anywhere out out′ none n low high h = h
+refused-anywhere out out′ (some t) n low high h = go (tooBig (tableWords t)) (ltb (length out) (length bs)) (ltb (length out′) (length bs)) h
+  where
+    bs : List ℕ
+    bs = flat (tableWords t)
+
+    -- what is written, by whether it is too big and whether there is no room for it
+    at : List ℕ → Bool → Bool → Outcome
+    at out big short = cond big (refused out 9) (cond short (record { number = 10; len = length bs; out = out }) (record { number = 0; len = length bs; out = bs ++ drop (length bs) out }))
+
+    go : (big short short′ : Bool) → (at out big short) .number ≡ n → (at out′ big short′) .number ≡ n
+    go true short short′ h = h
+    go false true short′ h = absurd (omega arith)
+    go false false short′ h = absurd (omega arith)
+
 -- the bytes that a kept call leaves are its plain layout
 pub left-plain : (c : Call) → (answer c) .number ≡ 0 → left (answer c) ≡ plain c
 left-plain c kept = rw (kept-bytes c kept) (take-at (plain c) (drop ((answer c) .len) (c .buffer)) ((answer c) .len) (sym (kept-length c kept .0)))
@@ -134,7 +151,7 @@ module _ (c : Call) (bytes : BytesOf c) (kept : (answer c) .number ≡ 0) where
   left-kind =
       let p = tests c (kept-tested c kept) in
       subst (Opt (GoodOf (c .kind))) (reads-back c bytes kept .0)
-      (left-good (c .kind) (c .source) (c .glyphs) (c .lookups) (bytes .source) (bytes .glyphs) (bytes .lookups) (not-false _ (p .0 .kind-good)) (p .1 .glyphs) (no-fault (fault (c .kind) (c .source)) (p .0 .sound)))
+      (left-good (c .kind) (c .form) (c .source) (c .glyphs) (c .lookups) (bytes .source) (bytes .glyphs) (bytes .lookups) (not-false _ (p .0 .kind-good)) (p .1 .glyphs) (no-fault (fault (c .kind) (c .source)) (p .0 .sound)))
 
   -- they are a good source of the same kind
   pub left-source : GoodSource (c .kind) (left (answer c))
@@ -147,7 +164,7 @@ module _ (c : Call) (bytes : BytesOf c) (kept : (answer c) .number ≡ 0) where
         has-format = no-other (inside u 0 2) (hasFormat (c .kind) (word u 0))
             (subst (λ (s : List ℕ). hasFormat (c .kind) (word s 0) ≡ true) (sym bytes-left) (subst (λ (k : ℕ). hasFormat k (word (flat (tableWords (small-says c))) 0) ≡ true) (left-kind .1) (first-format (small-says c))));
         sound = ap isSome (reads-back c bytes kept .1);
-        no-device = left-no-device (mapEntries (c .glyphs)) (mapEntries (c .lookups)) (c .kind) (c .source) u (reads-back c bytes kept .0);
+        no-device = left-no-device (glyphMap c) (lookupMap c) (c .kind) (c .source) u (reads-back c bytes kept .0);
         within = ap not (small-within c bytes kept);
       }
     where
@@ -160,6 +177,6 @@ module _ (c : Call) (bytes : BytesOf c) (kept : (answer c) .number ≡ 0) where
       → written buffer (some (small-says c)) ≡ record { number = 0; len = length (left (answer c)); out = left (answer c) ++ drop (length (left (answer c))) buffer }
   unfolding refusals
   left-fits buffer room =
-      let (n1, (n2, (n3, (n4, (n5, (n6, (n7, (n12, (n8, (n9, late)))))))))) = kept-exactly c .0 kept in
+      let (n1, (n13, (n14, (n2, (n3, (n4, (n5, (n6, (n7, (n12, (n8, (n9, late)))))))))))) = kept-exactly c .0 kept in
       subst (λ (s : List ℕ). written buffer (some (small-says c)) ≡ record { number = 0; len = length s; out = s ++ drop (length s) buffer }) (sym bytes-left)
       (written-fits (small-says c) buffer (subst (λ (ws : List ℕ). tooBig ws ≡ false) words-left n9) (subst (λ (s : List ℕ). length s ≤ length buffer) bytes-left room))

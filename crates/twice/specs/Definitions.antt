@@ -5,7 +5,7 @@ use mathlib.Core.Bool.{true}
 use mathlib.Core.Option.{Option, none, some}
 use mathlib.Core.List.{List, [], _∷_, _++_}
 use Rattle.meaning.specs.Words.{flat, twos, member, keys, values, find, bind, mapSome}
-use Rattle.meaning.specs.Maps.{mapEntries}
+use Rattle.meaning.specs.Maps.{mapEntries, glyphEntries}
 use Rattle.meaning.specs.Tables.{Rule, Table}
 use Rattle.meaning.specs.Cut.{insertUp}
 use Rattle.laws.specs.Stands.{All}
@@ -22,9 +22,13 @@ Within m n = All (λ x. member x (values m) ≡ true) (keys n)
 unfoldable pub mapBytes : List (ℕ × ℕ) → List ℕ
 mapBytes es = flat (twos es)
 
--- the combined map of two maps, from bytes to bytes
-unfoldable pub combinedMap : List ℕ → List ℕ → List ℕ
-combinedMap m n = mapBytes (combined (mapEntries m) (mapEntries n))
+-- the combined glyph map of two glyph maps, each in its own form, as the bytes of its pairs
+unfoldable pub combinedGlyphs : ℕ → List ℕ → ℕ → List ℕ → List ℕ
+combinedGlyphs form m form₂ n = mapBytes (combined (glyphEntries form m) (glyphEntries form₂ n))
+
+-- the combined lookup map of two lookup maps, from bytes to bytes
+unfoldable pub combinedLookups : List ℕ → List ℕ → List ℕ
+combinedLookups m n = mapBytes (combined (mapEntries m) (mapEntries n))
 
 -- each number with itself
 unfoldable pub same : List ℕ → List (ℕ × ℕ)
@@ -35,9 +39,9 @@ same (v ∷ vs) = (v, v) ∷ same vs
 abbrev pub Identity : List (ℕ × ℕ) → Type 0
 Identity m = All (λ e. e .0 ≡ e .1) m
 
--- the identity map over the new ids of a map
-unfoldable pub identityMap : List ℕ → List ℕ
-identityMap m = mapBytes (same (values (mapEntries m)))
+-- the identity glyph map over the new ids of a glyph map in a form, as the bytes of its pairs
+unfoldable pub identityMap : ℕ → List ℕ → List ℕ
+identityMap form m = mapBytes (same (values (glyphEntries form m)))
 
 -- the lookups that rules, sets and tables name
 unfoldable pub ruleLookups : List Rule → List ℕ

@@ -1,42 +1,45 @@
 -- Request 6, cutting twice: every statement in one place, each with its words above it.
--- A reader who believes the definitions of `meaning` needs `Call`, `answer`, `BytesOf`, `says`, `small-says` and `GoodMaps` of `promises`, and of this crate what stands here and in Definitions.antt.
-use Prim.Native.Nat.{ℕ, _≤_}
+-- A reader who believes the definitions of `meaning` needs `Call`, `answer`, `glyphMap`, `lookupMap`, `BytesOf`, `says`, `small-says`, `GoodMaps` and `asRuns` of `promises`, and of this crate what stands here and in Definitions.antt.
+use Prim.Native.Nat.{ℕ, _≤_, _<_}
 use mathlib.Core.Path.{_≡_, refl, sym, ap, _∙_}
 use mathlib.Core.Bool.{true}
 use mathlib.Core.Option.{Option, some}
 use mathlib.Core.List.{List, [], _∷_, _++_, map}
+use native.Mathlib.Omega.{arith}
 use lib.ListN.{length, take, drop}
 use lib.Seq.{take-at}
 use Rattle.meaning.specs.Words.{flat, ascends, keys, values, member, bind}
-use Rattle.meaning.specs.Maps.{mapEntries, goodGlyphs, goodLookups}
+use Rattle.meaning.specs.Maps.{mapEntries, goodLookups, goodForm, glyphEntries, goodGlyphMap}
 use Rattle.meaning.specs.Tables.{Table}
 use Rattle.meaning.specs.Cut.{cut}
 use Rattle.meaning.specs.Subset.{Outcome, left, written}
-use Rattle.laws.specs.Stands.{All, Word}
+use Rattle.laws.specs.Stands.{All, all-map, Word}
 use Rattle.laws.specs.Runs.{up-ascends}
 use Rattle.laws.specs.Ascends.{lookups-ascend}
+use Rattle.laws.specs.SetsBack.{Words2}
 use Rattle.laws.specs.SoundGood.{Bytes}
-use Rattle.laws.specs.CutGood.{GoodMap, find-word}
-use Rattle.laws.specs.CallBack.{good-glyphs, map-values}
+use Rattle.laws.specs.CutGood.{GoodMap, Values, find-word}
+use Rattle.laws.specs.CallBack.{good-glyph-map}
 use Rattle.promises.specs.Numbers.{injective}
-use Rattle.promises.specs.Refusals.{Call, answer, left?, words?}
+use Rattle.promises.specs.Refusals.{Call, answer, glyphMap, lookupMap, left?, words?}
 use Rattle.promises.specs.Tested.{GoodSource, GoodMaps, tests, kept-tested, tested-gives}
+use Rattle.promises.specs.Forms.{asRuns}
 use Rattle.promises.specs.Promises.{BytesOf, says, small-says, reads-back}
-use Rattle.twice.specs.Definitions.{combined, Within, combinedMap, same, Identity, identityMap, lookupsOf, identityLookups}
+use Rattle.twice.specs.Definitions.{combined, Within, combinedGlyphs, combinedLookups, same, Identity, identityMap, lookupsOf, identityLookups}
 use Rattle.twice.specs.Maps.{find-combined, all-found, along}
 use Rattle.twice.specs.Cuts as Cuts
 use Rattle.twice.specs.Identity.{cut-same}
-use Rattle.twice.specs.Written.{glyphs-written, combined-good, combined-lookups, same-good}
+use Rattle.twice.specs.Written.{glyphs-written, runs-written, combined-good, combined-lookups, same-good}
 use Rattle.twice.specs.Lookups.{good-names, own-good, own-identity, own-all}
-use Rattle.twice.specs.Calls.{left-plain, left-kind, left-source, left-fits}
-use Rattle.twice.specs.Cases.{Done, doubles, done, stated, each-double, first, again, each-again, beyond, beyond-single, differs, without-lookups, record-lost}
+use Rattle.twice.specs.Calls.{refused-anywhere, left-plain, left-kind, left-source, left-fits}
+use Rattle.twice.specs.Cases.{Done, doubles, done, stated, each-double, first, again, again-runs, each-again, beyond, beyond-single, differs, without-lookups, record-lost}
 
 -- `cases`: worked cases, by computation: the combined maps, and the answers of the second call and of the single one.
 pub cases : map done doubles ≡ map stated doubles
 cases = each-double
 
--- `again-cases`: the same tables, cut again by the identity: each is given back.
-pub again-cases : map again doubles ≡ map first doubles
+-- `again-cases`: the same tables, cut again by the identity, its glyph map as pairs and as runs: each is given back.
+pub again-cases : (map again doubles ≡ map first doubles) × (map again-runs doubles ≡ map first doubles)
 again-cases = each-again
 
 -- On tables.
@@ -56,130 +59,170 @@ tables-again = cut-same
 
 -- On calls, from bytes to bytes.
 
--- The second cut: its two maps and its buffer.
+-- A cut: the mark of its glyph map's form, the mark of its layout, its two maps and its buffer.
 pub record Cut : Type 0 where
+  pub form : ℕ
+  pub packing : ℕ
   pub glyphs : List ℕ
   pub lookups : List ℕ
   pub buffer : List ℕ
 
--- its maps are bytes and good, and each old id of its glyph map is a new id of the first one
+-- the second call, by a cut of the bytes that the first call leaves
+abbrev pub second : Call → Cut → Call
+second c d = record { kind = c .kind; form = d .form; packing = d .packing; source = left (answer c); glyphs = d .glyphs; lookups = d .lookups; buffer = d .buffer }
+
+-- the single call, by a cut of the first call's source
+abbrev pub single : Call → Cut → Call
+single c e = record { kind = c .kind; form = e .form; packing = e .packing; source = c .source; glyphs = e .glyphs; lookups = e .lookups; buffer = e .buffer }
+
+-- d may follow: its maps are bytes; its marks and maps are good, the glyph map in either form; and each old id of that is a new id of the first one
 pub record Follows (c : Call) (d : Cut) : Type 0 where
   pub glyph-bytes : Bytes (d .glyphs)
   pub lookup-bytes : Bytes (d .lookups)
-  pub glyphs-good : goodGlyphs (d .glyphs) ≡ true
-  pub lookups-good : goodLookups (d .lookups) ≡ true
-  pub within : Within (mapEntries (c .glyphs)) (mapEntries (d .glyphs))
+  pub good : GoodMaps (second c d)
+  pub within : Within (glyphMap c) (glyphMap (second c d))
 
--- the second call, on the bytes that the first one leaves
-abbrev pub second : Call → Cut → Call
-second c d = record { kind = c .kind; source = left (answer c); glyphs = d .glyphs; lookups = d .lookups; buffer = d .buffer }
+-- e combines the first call and d: its marks and maps are good, the glyph map in either form, and the maps say what is combined of what those two say
+pub record Combines (c : Call) (d e : Cut) : Type 0 where
+  pub good : GoodMaps (single c e)
+  pub glyphs : glyphMap (single c e) ≡ combined (glyphMap c) (glyphMap (second c d))
+  pub lookups : lookupMap (single c e) ≡ combined (lookupMap c) (lookupMap (second c d))
 
--- the single call, by the combined maps, into some buffer
-abbrev pub single-into : List ℕ → Call → Cut → Call
-single-into out c d = record { kind = c .kind; source = c .source; glyphs = combinedMap (c .glyphs) (d .glyphs); lookups = combinedMap (c .lookups) (d .lookups); buffer = out }
+-- the combined maps written down, the glyph map as pairs, with the layout and the buffer of the second cut
+abbrev pub combinedCut : Call → Cut → Cut
+combinedCut c d = record { form = 4; packing = d .packing; glyphs = combinedGlyphs (c .form) (c .glyphs) (d .form) (d .glyphs); lookups = combinedLookups (c .lookups) (d .lookups); buffer = d .buffer }
 
--- the same into the buffer of the second call
-abbrev pub single : Call → Cut → Call
-single c d = single-into (d .buffer) c d
+-- a cut by a glyph map of pairs, with that map as runs of one
+abbrev pub with-runs : Cut → Cut
+with-runs d = record { form = 6; packing = d .packing; glyphs = asRuns (d .glyphs); lookups = d .lookups; buffer = d .buffer }
 
 module _ (c : Call) (bytes : BytesOf c) (first-kept : (answer c) .number ≡ 0) where
-  -- the source and the maps of the first call are good
+  -- the source, the marks and the maps of the first call are good
   abbrev passed : GoodSource (c .kind) (c .source) × GoodMaps c
   passed = tests c (kept-tested c first-kept)
 
-  abbrev first-map : GoodMap (mapEntries (c .glyphs))
-  first-map = good-glyphs (c .glyphs) (bytes .glyphs) (passed .1 .glyphs)
+  abbrev first-map : GoodMap (glyphMap c)
+  first-map = good-glyph-map (c .form) (c .glyphs) (bytes .glyphs) (passed .1 .glyphs)
 
-  old-ascend : ascends (keys (mapEntries (c .glyphs))) ≡ true
-  old-ascend = up-ascends 0 (keys (mapEntries (c .glyphs))) (first-map .old)
+  old-ascend : ascends (keys (glyphMap c)) ≡ true
+  old-ascend = up-ascends 0 (keys (glyphMap c)) (first-map .old)
 
-  new-ascend : ascends (values (mapEntries (c .glyphs))) ≡ true
-  new-ascend = up-ascends 0 (values (mapEntries (c .glyphs))) (first-map .new)
+  new-ascend : ascends (values (glyphMap c)) ≡ true
+  new-ascend = up-ascends 0 (values (glyphMap c)) (first-map .new)
+
+  new-words : Values (glyphMap c)
+  new-words = all-map Words2 (λ (e : ℕ × ℕ). Word (e .1)) (λ e w. w .1) (glyphMap c) (first-map .words)
 
   module _ (d : Cut) (follows : Follows c d) where
-    second-map : GoodMap (mapEntries (d .glyphs))
-    second-map = good-glyphs (d .glyphs) (follows .glyph-bytes) (follows .glyphs-good)
+    second-map : GoodMap (glyphMap (second c d))
+    second-map = good-glyph-map (d .form) (d .glyphs) (follows .glyph-bytes) (follows .good .glyphs)
 
-    both-glyphs : (mapEntries (combinedMap (c .glyphs) (d .glyphs)) ≡ combined (mapEntries (c .glyphs)) (mapEntries (d .glyphs))) × (goodGlyphs (combinedMap (c .glyphs) (d .glyphs)) ≡ true)
-    unfolding combinedMap
-    both-glyphs = glyphs-written (combined (mapEntries (c .glyphs)) (mapEntries (d .glyphs))) (combined-good (mapEntries (c .glyphs)) (mapEntries (d .glyphs)) first-map second-map (follows .within))
+    both-maps : GoodMap (combined (glyphMap c) (glyphMap (second c d)))
+    both-maps = combined-good (glyphMap c) (glyphMap (second c d)) first-map second-map (follows .within)
 
-    both-lookups : (mapEntries (combinedMap (c .lookups) (d .lookups)) ≡ combined (mapEntries (c .lookups)) (mapEntries (d .lookups))) × (goodLookups (combinedMap (c .lookups) (d .lookups)) ≡ true)
+    both-lookups : (mapEntries (combinedLookups (c .lookups) (d .lookups)) ≡ combined (lookupMap c) (lookupMap (second c d))) × (goodLookups (combinedLookups (c .lookups) (d .lookups)) ≡ true)
     both-lookups = combined-lookups (c .lookups) (d .lookups) (bytes .lookups) (follows .lookup-bytes) (passed .1 .lookups)
 
-    -- `combined-maps-good`: the combined maps, written down as bytes, are good maps;
-    pub combined-maps-good : GoodMaps (single c d)
-    combined-maps-good = record { glyphs = both-glyphs .1; lookups = both-lookups .1 }
+    combines-by : (form : ℕ) (m : List ℕ) → goodForm form ≡ true → (glyphEntries form m ≡ combined (glyphMap c) (glyphMap (second c d))) × (goodGlyphMap form m ≡ true)
+        → Combines c d (record { form = form; packing = d .packing; glyphs = m; lookups = combinedLookups (c .lookups) (d .lookups); buffer = d .buffer })
+    combines-by form m f w =
+        record { good = record { form = f; packing = follows .good .packing; glyphs = w .1; lookups = both-lookups .1 }; glyphs = w .0; lookups = both-lookups .0 }
 
-    -- read as maps, they are what is combined of the entries of both.
-    pub combined-maps-say : (mapEntries (combinedMap (c .glyphs) (d .glyphs)) ≡ combined (mapEntries (c .glyphs)) (mapEntries (d .glyphs)))
-        × (mapEntries (combinedMap (c .lookups) (d .lookups)) ≡ combined (mapEntries (c .lookups)) (mapEntries (d .lookups)))
-    combined-maps-say = (both-glyphs .0, both-lookups .0)
+    -- `combined-as-pairs`, `combined-as-runs`: the combined maps, written down as bytes, are good maps and say what is combined: the glyph map as pairs, and as runs.
+    pub combined-as-pairs : Combines c d (combinedCut c d)
+    unfolding combinedGlyphs goodForm
+    combined-as-pairs = combines-by 4 (combinedGlyphs (c .form) (c .glyphs) (d .form) (d .glyphs)) refl (glyphs-written (combined (glyphMap c) (glyphMap (second c d))) both-maps)
 
-    -- what both leave is one table, or nothing
-    left-same : left? (second c d) ≡ left? (single c d)
-    unfolding bind
-    left-same =
-        rw (reads-back c bytes first-kept .0, ← (both-glyphs .0), ← (both-lookups .0)) at
-        (tables (mapEntries (c .glyphs)) (mapEntries (d .glyphs)) (mapEntries (c .lookups)) (mapEntries (d .lookups)) old-ascend new-ascend (map-values (c .glyphs) (bytes .glyphs))
-        (up-ascends 0 (keys (mapEntries (d .glyphs))) (second-map .old)) (lookups-ascend (c .lookups) (passed .1 .lookups)) (follows .within) (says c))
+    pub combined-as-runs : Combines c d (with-runs (combinedCut c d))
+    unfolding combinedGlyphs goodForm
+    combined-as-runs = combines-by 6 (asRuns (combinedGlyphs (c .form) (c .glyphs) (d .form) (d .glyphs))) refl (runs-written (combined (glyphMap c) (glyphMap (second c d))) both-maps)
 
-    -- `cut-twice`: where the first call is kept, the second call on the bytes that it leaves and the single call by the combined maps give the same: number, length and buffer, whatever the buffer.
-    -- So with room both times the bytes are the same, and if the second is empty or too big, so is the single one.
-    pub cut-twice : answer (second c d) ≡ answer (single c d)
-    cut-twice =
-        tested-gives (second c d) (left-source c bytes first-kept) (record { glyphs = follows .glyphs-good; lookups = follows .lookups-good })
-        ∙ ap (written (d .buffer)) left-same
-        ∙ sym (tested-gives (single c d) (passed .0) combined-maps-good)
+    -- By any maps that say what is combined, the glyph map in either form.
+    module _ (e : Cut) (combines : Combines c d e) where
+      -- what both leave is one table, or nothing
+      left-same : left? (second c d) ≡ left? (single c e)
+      unfolding bind
+      left-same =
+          rw (reads-back c bytes first-kept .0, ← (combines .glyphs), ← (combines .lookups)) at
+          (tables (glyphMap c) (glyphMap (second c d)) (lookupMap c) (lookupMap (second c d)) old-ascend new-ascend new-words
+          (up-ascends 0 (keys (glyphMap (second c d))) (second-map .old)) (lookups-ascend (c .lookups) (passed .1 .lookups)) (follows .within) (says c))
 
-    -- Its parts: the same bytes, also if the single call has another buffer, where both are kept;
-    pub same-bytes : (out : List ℕ) → (answer (second c d)) .number ≡ 0 → (answer (single-into out c d)) .number ≡ 0 → left (answer (second c d)) ≡ left (answer (single-into out c d))
-    same-bytes out k k′ = left-plain (second c d) k ∙ ap (λ (o : Option Table). flat (words? o)) left-same ∙ sym (left-plain (single-into out c d) k′)
+      second-gives : answer (second c d) ≡ written (d .buffer) (left? (single c e))
+      second-gives = tested-gives (second c d) (left-source c bytes first-kept) (follows .good) ∙ ap (written (d .buffer)) left-same
 
-    -- if the second is empty, so is the single one; if it is too big, so is the single one.
-    pub empty-too : (answer (second c d)) .number ≡ 8 → (answer (single c d)) .number ≡ 8
-    empty-too h = ap (λ (r : Outcome). r .number) (sym cut-twice) ∙ h
+      single-gives : answer (single c e) ≡ written (e .buffer) (left? (single c e))
+      single-gives = tested-gives (single c e) (passed .0) (combines .good)
 
-    pub too-big-too : (answer (second c d)) .number ≡ 9 → (answer (single c d)) .number ≡ 9
-    too-big-too h = ap (λ (r : Outcome). r .number) (sym cut-twice) ∙ h
+      -- `cut-twice`: where the first call is kept, the second call on the bytes that it leaves and the single call by the combined maps, in buffers with the same content, give the same:
+      -- number, length and buffer. So with room both times the bytes are the same, and if the second is empty or too big, so is the single one.
+      pub cut-twice : e .buffer ≡ d .buffer → answer (second c d) ≡ answer (single c e)
+      cut-twice b = second-gives ∙ ap (λ (out : List ℕ). written out (left? (single c e))) (sym b) ∙ sym single-gives
+
+      -- Its parts, whatever the two buffers are: the same bytes, where both are kept;
+      pub same-bytes : (answer (second c d)) .number ≡ 0 → (answer (single c e)) .number ≡ 0 → left (answer (second c d)) ≡ left (answer (single c e))
+      same-bytes k k′ = left-plain (second c d) k ∙ ap (λ (o : Option Table). flat (words? o)) left-same ∙ sym (left-plain (single c e) k′)
+
+      refused-too : (n : ℕ) → 0 < n → n < 10 → (answer (second c d)) .number ≡ n → (answer (single c e)) .number ≡ n
+      refused-too n low high h = rw single-gives (refused-anywhere (d .buffer) (e .buffer) (left? (single c e)) n low high (rw second-gives at h))
+
+      -- if the second is empty, so is the single one; if it is too big, so is the single one.
+      pub empty-too : (answer (second c d)) .number ≡ 8 → (answer (single c e)) .number ≡ 8
+      empty-too = refused-too 8 (omega arith) (omega arith)
+
+      pub too-big-too : (answer (second c d)) .number ≡ 9 → (answer (single c e)) .number ≡ 9
+      too-big-too = refused-too 9 (omega arith) (omega arith)
 
   -- The identity.
 
-  -- the second call by the identity glyph map over the new ids of the first glyph map, and a lookup map
-  abbrev pub by-identity : List ℕ → List ℕ → Call
-  by-identity l buffer = second c (record { glyphs = identityMap (c .glyphs); lookups = l; buffer = buffer })
+  -- d is the identity over what the first call leaves: its marks and maps are good; its glyph map, in either form, takes just the new ids of the first one, each to itself;
+  -- its lookup map is an identity that has each lookup of the table that is left
+  pub record ByIdentity (d : Cut) : Type 0 where
+    pub good : GoodMaps (second c d)
+    pub glyphs : glyphMap (second c d) ≡ same (values (glyphMap c))
+    pub lookups : Identity (lookupMap (second c d))
+    pub each : All (λ n. member n (keys (lookupMap (second c d))) ≡ true) (lookupsOf (small-says c))
 
-  -- an identity lookup map, of bytes, that has each lookup of the table that is left
-  pub record OverAll (l : List ℕ) : Type 0 where
-    pub good : goodLookups l ≡ true
-    pub identity : Identity (mapEntries l)
-    pub each : All (λ n. member n (keys (mapEntries l)) ≡ true) (lookupsOf (small-says c))
-
-  -- `cut-again`: with such a lookup map it gives that table back, byte for byte, in any buffer that has room for it.
-  pub cut-again : (l : List ℕ) → OverAll l → (buffer : List ℕ) → length (left (answer c)) ≤ length buffer
-      → answer (by-identity l buffer) ≡ record { number = 0; len = length (left (answer c)); out = left (answer c) ++ drop (length (left (answer c))) buffer }
-  unfolding identityMap
-  cut-again l all buffer room =
+  -- `cut-again`: it gives that table back, byte for byte, in any buffer that has room for it.
+  pub cut-again : (d : Cut) → ByIdentity d → length (left (answer c)) ≤ length (d .buffer)
+      → answer (second c d) ≡ record { number = 0; len = length (left (answer c)); out = left (answer c) ++ drop (length (left (answer c))) (d .buffer) }
+  cut-again d is room =
       let e =
-      tables-again (mapEntries (c .glyphs)) (mapEntries (c .lookups)) old-ascend new-ascend (lookups-ascend (c .lookups) (passed .1 .lookups)) (map-values (c .glyphs) (bytes .glyphs))
-      (says c) (small-says c) (reads-back c bytes first-kept .0) (mapEntries l) (all .identity) (all .each)
+      tables-again (glyphMap c) (lookupMap c) old-ascend new-ascend (lookups-ascend (c .lookups) (passed .1 .lookups)) new-words
+      (says c) (small-says c) (reads-back c bytes first-kept .0) (lookupMap (second c d)) (is .lookups) (is .each)
       in
-      let i = glyphs-written (same (values (mapEntries (c .glyphs)))) (same-good (mapEntries (c .glyphs)) first-map) in
-      tested-gives (by-identity l buffer) (left-source c bytes first-kept) (record { glyphs = i .1; lookups = all .good })
-      ∙ ap (written buffer) (rw (i .0) e)
-      ∙ left-fits c bytes first-kept buffer room
+      tested-gives (second c d) (left-source c bytes first-kept) (is .good)
+      ∙ ap (written (d .buffer)) (rw (is .glyphs) e)
+      ∙ left-fits c bytes first-kept (d .buffer) room
 
   -- So it is kept, and leaves the bytes that the first call left.
-  pub bytes-again : (l : List ℕ) → OverAll l → (buffer : List ℕ) → length (left (answer c)) ≤ length buffer → ((answer (by-identity l buffer)) .number ≡ 0) × (left (answer (by-identity l buffer)) ≡ left (answer c))
-  bytes-again l all buffer room =
-      let e = cut-again l all buffer room in
-      (ap (λ (r : Outcome). r .number) e, ap left e ∙ take-at (left (answer c)) (drop (length (left (answer c))) buffer) (length (left (answer c))) refl)
+  pub bytes-again : (d : Cut) → ByIdentity d → length (left (answer c)) ≤ length (d .buffer) → ((answer (second c d)) .number ≡ 0) × (left (answer (second c d)) ≡ left (answer c))
+  bytes-again d is room =
+      let e = cut-again d is room in
+      (ap (λ (r : Outcome). r .number) e, ap left e ∙ take-at (left (answer c)) (drop (length (left (answer c))) (d .buffer)) (length (left (answer c))) refl)
 
-  -- `own-lookups`: there is such a lookup map: the one over just the lookups that the table names, in order, each to itself.
-  pub own-lookups : OverAll (identityLookups (small-says c))
-  own-lookups =
+  -- the identity written down: the glyph map as pairs, and the lookup map over just the lookups that the table names, in order; for the same layout
+  abbrev pub identityCut : List ℕ → Cut
+  identityCut buffer = record { form = 4; packing = c .packing; glyphs = identityMap (c .form) (c .glyphs); lookups = identityLookups (small-says c); buffer = buffer }
+
+  identity-by : (form : ℕ) (m buffer : List ℕ) → goodForm form ≡ true → (glyphEntries form m ≡ same (values (glyphMap c))) × (goodGlyphMap form m ≡ true)
+      → ByIdentity (record { form = form; packing = c .packing; glyphs = m; lookups = identityLookups (small-says c); buffer = buffer })
+  identity-by form m buffer f w =
       let n = good-names (small-says c) (left-kind c bytes first-kept .0) in
-      record { good = own-good (small-says c) n; identity = own-identity (small-says c) n; each = own-all (small-says c) n }
+      record {
+        good = record { form = f; packing = passed .1 .packing; glyphs = w .1; lookups = own-good (small-says c) n };
+        glyphs = w .0;
+        lookups = own-identity (small-says c) n;
+        each = own-all (small-says c) n;
+      }
+
+  -- `identity-as-pairs`, `identity-as-runs`: it is such a cut, with the glyph map as pairs, and as runs.
+  pub identity-as-pairs : (buffer : List ℕ) → ByIdentity (identityCut buffer)
+  unfolding identityMap goodForm
+  identity-as-pairs buffer = identity-by 4 (identityMap (c .form) (c .glyphs)) buffer refl (glyphs-written (same (values (glyphMap c))) (same-good (glyphMap c) first-map))
+
+  pub identity-as-runs : (buffer : List ℕ) → ByIdentity (with-runs (identityCut buffer))
+  unfolding identityMap goodForm
+  identity-as-runs buffer = identity-by 6 (asRuns (identityMap (c .form) (c .glyphs))) buffer refl (runs-written (same (values (glyphMap c))) (same-good (glyphMap c) first-map))
 
 -- The conditions are needed.
 

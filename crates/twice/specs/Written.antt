@@ -8,8 +8,8 @@ use native.Mathlib.Omega.{arith}
 use lib.ListN.{length}
 use lib.Dec.{eqb}
 use borrow.Author.Tests.{eq-eqb}
-use Rattle.meaning.specs.Words.{entries, twos, keys, values, find, bind, push, mapSome}
-use Rattle.meaning.specs.Maps.{mapEntries, goodGlyphs, goodLookups}
+use Rattle.meaning.specs.Words.{entries, bytes2, flat, twos, keys, values, find, bind, push, mapSome}
+use Rattle.meaning.specs.Maps.{mapEntries, goodGlyphs, goodLookups, glyphEntries, goodGlyphMap}
 use Rattle.meaning.specs.Cut.{cutRecords}
 use Rattle.laws.specs.Stands.{All, all-map, Word, stands-all, entries-back, flat-length, twos-length}
 use Rattle.laws.specs.Runs.{Up, up-ascends}
@@ -18,7 +18,8 @@ use Rattle.laws.specs.SetsBack.{Words2, twos-small}
 use Rattle.laws.specs.SoundGood.{Bytes, ascends-up}
 use Rattle.laws.specs.CutGood.{GoodMap, cut-records}
 use Rattle.laws.specs.CallBack.{map-words}
-use Rattle.twice.specs.Definitions.{combined, Within, mapBytes, combinedMap, same}
+use Rattle.promises.specs.Forms.{asRuns, as-runs}
+use Rattle.twice.specs.Definitions.{combined, Within, mapBytes, combinedLookups, same}
 use Rattle.twice.specs.Maps.{along, along-values}
 use Rattle.twice.specs.Identity.{same-keys, same-values}
 
@@ -36,12 +37,28 @@ entries-read es w =
 whole : (es : List (ℕ × ℕ)) → eqb (length (mapBytes es) % 4) 0 ≡ true
 whole es = eq-eqb (length (mapBytes es) % 4) 0 (omega (arith, bytes-length es))
 
--- a good map's entries, written as bytes: they are read back, and are a good glyph map
-pub glyphs-written : (es : List (ℕ × ℕ)) → GoodMap es → (mapEntries (mapBytes es) ≡ es) × (goodGlyphs (mapBytes es) ≡ true)
-unfolding goodGlyphs
+flat-bytes : (ws : List ℕ) → Bytes (flat ws)
+unfolding flat bytes2
+flat-bytes [] = tt
+flat-bytes (w ∷ ws) = (omega arith, (omega arith, flat-bytes ws))
+
+map-bytes : (es : List (ℕ × ℕ)) → Bytes (mapBytes es)
+unfolding mapBytes
+map-bytes es = flat-bytes (twos es)
+
+-- a good map's entries, written as pairs: they are read back, and are a good glyph map
+pub glyphs-written : (es : List (ℕ × ℕ)) → GoodMap es → (glyphEntries 4 (mapBytes es) ≡ es) × (goodGlyphMap 4 (mapBytes es) ≡ true)
+unfolding glyphEntries goodGlyphMap goodGlyphs
 glyphs-written es g =
     let e = entries-read es (g .words) in
     (e, rw (whole es, e, up-ascends 0 (keys es) (g .old), up-ascends 0 (values es) (g .new)))
+
+-- the same as runs of one
+pub runs-written : (es : List (ℕ × ℕ)) → GoodMap es → (glyphEntries 6 (asRuns (mapBytes es)) ≡ es) × (goodGlyphMap 6 (asRuns (mapBytes es)) ≡ true)
+runs-written es g =
+    let w = glyphs-written es g in
+    let r = as-runs (mapBytes es) (map-bytes es) (w .1) in
+    (r .1 ∙ w .0, r .0)
 
 -- the same of a lookup map, whose old ids alone ascend
 pub lookups-written : (es : List (ℕ × ℕ)) → All Words2 es → Up 0 (keys es) → (mapEntries (mapBytes es) ≡ es) × (goodLookups (mapBytes es) ≡ true)
@@ -76,8 +93,8 @@ combined-good m n gm gn w =
 
 -- The combined lookup map, as bytes, says the combined entries and is good.
 pub combined-lookups : (m n : List ℕ) → Bytes m → Bytes n → goodLookups m ≡ true
-    → (mapEntries (combinedMap m n) ≡ combined (mapEntries m) (mapEntries n)) × (goodLookups (combinedMap m n) ≡ true)
-unfolding combinedMap
+    → (mapEntries (combinedLookups m n) ≡ combined (mapEntries m) (mapEntries n)) × (goodLookups (combinedLookups m n) ≡ true)
+unfolding combinedLookups
 combined-lookups m n bm bn good =
     lookups-written (combined (mapEntries m) (mapEntries n)) (combined-words (mapEntries m) (mapEntries n) (map-words m bm) (map-words n bn))
     (combined-up (mapEntries m) (mapEntries n) 0 (ascends-up 0 (keys (mapEntries m)) (lookups-ascend m good) (λ x r e. omega arith)))

@@ -2,6 +2,7 @@
 // Each is made three times: what is kept on a buffer that is one byte short, on one that is exact and on one that is longer, what has no room on three that are too short,
 // and any other refusal on an empty, a small and a large buffer.
 // Number, length and the whole buffer are compared.
+use subset::Marks;
 use subset::length_of;
 use subset::number_of;
 use subset::subset;
@@ -17,8 +18,11 @@ ghost use lib.ListN.{length};
 // The most bytes of stored calls.
 const FILE: usize = 200000;
 
-// The bytes before the parts of a stored call: the kind, the number of the answer, the lengths of source, glyph map and lookup map, and the length that comes with the answer.
-const HEADER: usize = 12;
+// The bytes before the parts of a stored call: the kind, the form of the glyph map, the number of the answer, the lengths of source, glyph map and lookup map, and the length that comes with the answer.
+const HEADER: usize = 14;
+
+// The form of the glyph maps that are made here.
+const PAIRS: usize = 4;
 
 // How often each call is made.
 const TIMES: usize = 3;
@@ -75,7 +79,7 @@ fn holds(out: &[u8], kept: &[u8]) -> bool {
 
 // Whether the call on this buffer gives this number and length, and leaves the kept bytes in the buffer.
 fn agrees(
-    kind: usize,
+    marks: Marks,
     source: &[u8],
     glyphs: &[u8],
     lookups: &[u8],
@@ -85,7 +89,7 @@ fn agrees(
     out: &mut [u8],
 ) -> bool {
     fill(out);
-    let a = subset(kind, source, glyphs, lookups, out);
+    let a = subset(marks, source, glyphs, lookups, out);
     if number_of(a) != answer {
         return false;
     }
@@ -97,7 +101,7 @@ fn agrees(
 
 // The same on a buffer of `room` bytes, as a count of calls that agree, which is printed if it is 0.
 fn agreed(
-    kind: usize,
+    marks: Marks,
     source: &[u8],
     glyphs: &[u8],
     lookups: &[u8],
@@ -111,7 +115,7 @@ fn agreed(
 {
     let mut space = [0u8; SPACE];
     if agrees(
-        kind,
+        marks,
         source,
         glyphs,
         lookups,
@@ -129,7 +133,7 @@ fn agreed(
 }
 
 // How many agree of the calls that keep these bytes.
-fn kept_calls(kind: usize, source: &[u8], glyphs: &[u8], lookups: &[u8], kept: &[u8]) -> usize
+fn kept_calls(marks: Marks, source: &[u8], glyphs: &[u8], lookups: &[u8], kept: &[u8]) -> usize
     ensures { λ r. ⌜ r ≤ 3 ⌝ }
 {
     let n = kept.len();
@@ -139,14 +143,14 @@ fn kept_calls(kind: usize, source: &[u8], glyphs: &[u8], lookups: &[u8], kept: &
     if SPACE - LONGER < n {
         return 0;
     }
-    let short = agreed(kind, source, glyphs, lookups, 10, n, b"", n - 1);
-    let exact = agreed(kind, source, glyphs, lookups, 0, n, kept, n);
-    let longer = agreed(kind, source, glyphs, lookups, 0, n, kept, n + LONGER);
+    let short = agreed(marks, source, glyphs, lookups, 10, n, b"", n - 1);
+    let exact = agreed(marks, source, glyphs, lookups, 0, n, kept, n);
+    let longer = agreed(marks, source, glyphs, lookups, 0, n, kept, n + LONGER);
     short + exact + longer
 }
 
 // How many agree of the calls that have no room, since `n` bytes are needed.
-fn short_calls(kind: usize, source: &[u8], glyphs: &[u8], lookups: &[u8], n: usize) -> usize
+fn short_calls(marks: Marks, source: &[u8], glyphs: &[u8], lookups: &[u8], n: usize) -> usize
     ensures { λ r. ⌜ r ≤ 3 ⌝ }
 {
     if n == 0 {
@@ -155,15 +159,15 @@ fn short_calls(kind: usize, source: &[u8], glyphs: &[u8], lookups: &[u8], n: usi
     if SPACE < n {
         return 0;
     }
-    let empty = agreed(kind, source, glyphs, lookups, 10, n, b"", 0);
-    let half = agreed(kind, source, glyphs, lookups, 10, n, b"", n / 2);
-    let short = agreed(kind, source, glyphs, lookups, 10, n, b"", n - 1);
+    let empty = agreed(marks, source, glyphs, lookups, 10, n, b"", 0);
+    let half = agreed(marks, source, glyphs, lookups, 10, n, b"", n / 2);
+    let short = agreed(marks, source, glyphs, lookups, 10, n, b"", n - 1);
     empty + half + short
 }
 
 // How many agree of the calls that are refused by this number, with this length.
 fn refused_calls(
-    kind: usize,
+    marks: Marks,
     source: &[u8],
     glyphs: &[u8],
     lookups: &[u8],
@@ -172,15 +176,15 @@ fn refused_calls(
 ) -> usize
     ensures { λ r. ⌜ r ≤ 3 ⌝ }
 {
-    let empty = agreed(kind, source, glyphs, lookups, answer, len, b"", 0);
-    let small = agreed(kind, source, glyphs, lookups, answer, len, b"", LONGER);
-    let large = agreed(kind, source, glyphs, lookups, answer, len, b"", SPACE);
+    let empty = agreed(marks, source, glyphs, lookups, answer, len, b"", 0);
+    let small = agreed(marks, source, glyphs, lookups, answer, len, b"", LONGER);
+    let large = agreed(marks, source, glyphs, lookups, answer, len, b"", SPACE);
     empty + small + large
 }
 
 // How many agree of the calls with this answer.
 fn calls(
-    kind: usize,
+    marks: Marks,
     source: &[u8],
     glyphs: &[u8],
     lookups: &[u8],
@@ -191,12 +195,12 @@ fn calls(
     ensures { λ r. ⌜ r ≤ 3 ⌝ }
 {
     if answer == 0 {
-        return kept_calls(kind, source, glyphs, lookups, kept);
+        return kept_calls(marks, source, glyphs, lookups, kept);
     }
     if answer == 10 {
-        return short_calls(kind, source, glyphs, lookups, len);
+        return short_calls(marks, source, glyphs, lookups, len);
     }
-    refused_calls(kind, source, glyphs, lookups, answer, len)
+    refused_calls(marks, source, glyphs, lookups, answer, len)
 }
 
 // Prints a label and a number where not every call agreed; how many did.
@@ -217,30 +221,39 @@ fn kept_len(file: &[u8], at: usize) -> usize
     requires { ⌜ at ≤ 200000 ⌝ }
     ensures { λ r. ⌜ r < 65536 ⌝ }
 {
-    if word_at(file, at + 2) != 0 {
+    if word_at(file, at + 4) != 0 {
         return 0;
     }
-    word_at(file, at + 10)
+    word_at(file, at + 12)
+}
+
+// The marks of a call for the plain layout.
+fn plain(kind: usize, form: usize) -> Marks {
+    Marks {
+        kind,
+        form,
+        layout: 0,
+    }
 }
 
 // How many agree of the calls of a stored call, which is the one of this index.
 fn stored(index: usize, call: &[u8]) -> usize
     ensures { λ r. ⌜ r ≤ 3 ⌝ }
 {
-    let glyphs = HEADER + word_at(call, 4);
-    let lookups = glyphs + word_at(call, 6);
-    let kept = lookups + word_at(call, 8);
+    let glyphs = HEADER + word_at(call, 6);
+    let lookups = glyphs + word_at(call, 8);
+    let kept = lookups + word_at(call, 10);
     let end = kept + kept_len(call, 0);
     if call.len() < end {
         return 0;
     }
     let good = calls(
-        word_at(call, 0),
+        plain(word_at(call, 0), word_at(call, 2)),
         &call[HEADER..glyphs],
         &call[glyphs..lookups],
         &call[lookups..kept],
-        word_at(call, 2),
-        word_at(call, 10),
+        word_at(call, 4),
+        word_at(call, 12),
         &call[kept..end],
     );
     verdict(b"stored call ", index, good)
@@ -249,9 +262,9 @@ fn stored(index: usize, call: &[u8]) -> usize
 // The bytes of the stored call at `at`.
 fn call_size(file: &[u8], at: usize) -> usize
     requires { ⌜ at ≤ 200000 ⌝ }
-    ensures { λ r. ⌜ (12 ≤ r) × (r ≤ 300000) ⌝ }
+    ensures { λ r. ⌜ (14 ≤ r) × (r ≤ 300000) ⌝ }
 {
-    let parts = word_at(file, at + 4) + word_at(file, at + 6) + word_at(file, at + 8);
+    let parts = word_at(file, at + 6) + word_at(file, at + 8) + word_at(file, at + 10);
     HEADER + parts + kept_len(file, at)
 }
 
@@ -294,7 +307,7 @@ fn longest_source(kind: usize) -> usize
     ensures { λ r. ⌜ r ≤ 3 ⌝ }
 {
     let source = [0u8; 262144];
-    let good = refused_calls(kind, &source, b"", b"", 5, 0);
+    let good = refused_calls(plain(kind, PAIRS), &source, b"", b"", 5, 0);
     verdict(b"the longest source of kind ", kind, good)
 }
 
@@ -303,7 +316,7 @@ fn long_source(kind: usize) -> usize
     ensures { λ r. ⌜ r ≤ 3 ⌝ }
 {
     let source = [0u8; 262145];
-    let good = refused_calls(kind, &source, b"", b"", 4, 0);
+    let good = refused_calls(plain(kind, PAIRS), &source, b"", b"", 4, 0);
     verdict(b"a longer source of kind ", kind, good)
 }
 
@@ -393,7 +406,7 @@ fn highest_offset() -> usize
     put_map(&mut glyphs, 64);
     let mut kept = [0u8; 65666];
     put_result(&mut kept, 490, 64);
-    let good = kept_calls(1, &source, &glyphs, b"", &kept);
+    let good = kept_calls(plain(1, PAIRS), &source, &glyphs, b"", &kept);
     verdict(b"a coverage at ", 65534, good)
 }
 
@@ -405,7 +418,7 @@ fn higher_offset() -> usize
     put_source(&mut source, 8192, 1);
     let mut glyphs = [0u8; 4];
     put_map(&mut glyphs, 1);
-    let good = refused_calls(1, &source, &glyphs, b"", 9, 0);
+    let good = refused_calls(plain(1, PAIRS), &source, &glyphs, b"", 9, 0);
     verdict(b"a coverage at ", 65536, good)
 }
 
@@ -419,7 +432,7 @@ fn many_covered() -> usize
     put_map(&mut glyphs, 9000);
     let mut kept = [0u8; 18012];
     put_result(&mut kept, 1, 9000);
-    let good = kept_calls(1, &source, &glyphs, b"", &kept);
+    let good = kept_calls(plain(1, PAIRS), &source, &glyphs, b"", &kept);
     verdict(b"covered glyphs: ", 9000, good)
 }
 
@@ -457,7 +470,7 @@ fn many_rules() -> usize
     put_record(&mut source, 8010, 1, 1, 0);
     let mut glyphs = [0u8; 4000];
     put_same(&mut glyphs, 1000);
-    let good = kept_calls(1, &source, &glyphs, b"", &source);
+    let good = kept_calls(plain(1, PAIRS), &source, &glyphs, b"", &source);
     verdict(b"rules in a set: ", 1000, good)
 }
 
@@ -528,7 +541,7 @@ fn wide_pairs() -> usize
     put_pair_table(&mut kept, 100, 402, 40410);
     put(&mut kept, 40416, 99);
     put_pair_sets(&mut kept, 210, 100);
-    let good = kept_calls(4, &source, &glyphs, b"", &kept);
+    let good = kept_calls(plain(4, PAIRS), &source, &glyphs, b"", &kept);
     verdict(b"pairs of a shared set: ", 300, good)
 }
 
@@ -573,7 +586,7 @@ fn most_substitutes() -> usize
     put_same_but_last(&mut glyphs, 32764);
     let mut kept = [0u8; 65544];
     put_list(&mut kept, 32764);
-    let good = kept_calls(5, &source, &glyphs, b"", &kept);
+    let good = kept_calls(plain(5, PAIRS), &source, &glyphs, b"", &kept);
     verdict(b"substitutes: ", 32764, good)
 }
 
@@ -585,7 +598,7 @@ fn more_substitutes() -> usize
     put_next(&mut source, 32765);
     let mut glyphs = [0u8; 131064];
     put_same_but_last(&mut glyphs, 32765);
-    let good = refused_calls(5, &source, &glyphs, b"", 9, 0);
+    let good = refused_calls(plain(5, PAIRS), &source, &glyphs, b"", 9, 0);
     verdict(b"substitutes: ", 32765, good)
 }
 

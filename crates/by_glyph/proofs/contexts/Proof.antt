@@ -1,6 +1,6 @@
 use native.Mathlib.Omega.{arith}
 use borrow.Author.Needs.{needs}
-use Rattle.meaning.specs.Maps.{mapEntries}
+use Rattle.meaning.specs.Maps.{mapEntries, glyphEntries}
 use Rattle.meaning.specs.Cut.{cut}
 use Rattle.meaning.specs.Subset.{written}
 use Rattle.by_glyph.specs.Whole.{front-length, front-tries, glyphContext}
@@ -14,13 +14,13 @@ cut-contexts-requires : tie.Need-cut-contexts-requires
 cut-contexts-requires c κs =
     let a = c .before .before .before .before .before .before .before .before .before .before in
     let l = c .before .before .before .least .ensures in
-    (a .pre .0, a .pre .1, a .pre .2, a .pre .3, omega (arith, front-length (a .args .area .now) l, l .second), a .pre .4)
+    (a .pre .0, a .pre .1, a .pre .2, a .pre .3, omega (arith, front-length (a .args .area .now) l, l .second))
 
 returns : tie.Need-returns
 returns c =
     let r = c .before .before .before .before .before .before in
     let a = c .before .before .before .before .before .before .before .before .before .before .before .before .before .before .before .before .before .args in
-    front-tries (a .area .now) (c .before .before .before .before .before .before .before .before .before .before .least .ensures) _ (r .cut-contexts .result) (a .out .now) _ (written (a .out .now) (cut (mapEntries (a .glyphs .now)) (mapEntries (a .lookups .now)) (glyphContext (a .chained) (a .src .now)))) (r .cut-contexts .ensures)
+    front-tries (a .area .now) (c .before .before .before .before .before .before .before .before .before .before .least .ensures) _ (r .cut-contexts .result) (a .out .now) _ (written (a .out .now) (cut (glyphEntries (a .form) (a .glyphs .now)) (mapEntries (a .lookups .now)) (glyphContext (a .chained) (a .src .now)))) (r .cut-contexts .ensures)
 
 pub contexts-spec : {M : Type 1} → statement M
 contexts-spec =

@@ -1,11 +1,11 @@
-use Rattle.laws.specs.SoundGood.{bytes-all}
-use Rattle.by_glyph.proofs.Fitting.{rules-fit}
 use mathlib.Core.Path.{refl, sym, _∙_}
 use native.Mathlib.Omega.{arith}
 use borrow.Author.Needs.{needs}
-use Rattle.by_glyph.specs.Asked.{rules-null, rules-cut}
+use Rattle.laws.specs.SoundGood.{bytes-all}
 use Rattle.by_glyph.specs.Whole.{written-none}
-use Rattle.by_glyph.proofs.Asking.{header-inside, rules-asked, no-room, two-answered, glyphs-stand, two-laid}
+use Rattle.by_glyph.specs.Asked.{rules-null, rules-cut}
+use Rattle.by_glyph.proofs.Asking.{header-inside, rules-asked, no-room, glyphs-no-room, glyphs-stand, two-laid, two-answered}
+use Rattle.by_glyph.proofs.Fitting.{rules-fit}
 use Rattle.by_glyph.proofs.cut_contexts.Statement.{statement}
 use Rattle.by_glyph.proofs.cut_contexts.Tie as tie
 
@@ -16,41 +16,28 @@ returns : tie.Need-returns
 returns c = written-none _ (rules-null _ _ _ _ (sym (c .before .word-inside .ensures .0) ∙ c .if1 .taken))
 
 returns-2 : tie.Need-returns-2
-returns-2 c = (omega (arith, no-room (c .before .before .before .lay .ensures) (c .before .before .before .before .before .before .before .before .before .before .before .before .before .pre .2) (c .if2 .taken)), refl)
-
-add-lay : tie.Need-add-lay
-add-lay c = omega (arith, c .before .before .before .before .lay .ensures .few (c .before .before .before .before .before .before .before .before .before .before .before .before .before .before .pre .2))
-
-lay-requires-2 : tie.Need-lay-requires-2
-lay-requires-2 c κs = omega (arith, c .before .before .before .before .lay .ensures .few (c .before .before .before .before .before .before .before .before .before .before .before .before .before .before .pre .2))
+returns-2 c = (omega (arith, glyphs-no-room (c .before .before .before .before .lay-glyphs .ensures) (c .if2 .taken)), refl)
 
 returns-3 : tie.Need-returns-3
 returns-3 c =
-    let a = c .before .before .before .before .before .before .before .before .before .before .before .before .before .before .before .before .before .before in
-    let l = c .before .before .before .before .before .before .before .before .lay .ensures in
-    (omega (arith, no-room (c .before .before .before .lay2 .ensures) (a .pre .3) (c .if3 .taken), l .kept .size, l .few (a .pre .2)), refl)
-
-add-cut-sets : tie.Need-add-cut-sets
-add-cut-sets c = omega (arith, c .before .before .before .before .before .before .before .before .before .lay .ensures .few (c .before .before .before .before .before .before .before .before .before .before .before .before .before .before .before .before .before .before .before .pre .2), c .before .before .before .before .lay2 .ensures .few (c .before .before .before .before .before .before .before .before .before .before .before .before .before .before .before .before .before .before .before .pre .3))
-
-add-cut-sets-2 : tie.Need-add-cut-sets-2
-add-cut-sets-2 c = omega (arith, c .before .before .before .before .before .before .before .before .before .lay .ensures .few (c .before .before .before .before .before .before .before .before .before .before .before .before .before .before .before .before .before .before .before .pre .2), c .before .before .before .before .lay2 .ensures .few (c .before .before .before .before .before .before .before .before .before .before .before .before .before .before .before .before .before .before .before .pre .3))
+    let a = c .before .before .before .before .before .before .before .before .before .before .before .before .before .before .before .before .before .before .before .before .before in
+    let l = c .before .before .before .before .before .before .before .before .before .before .before .lay-glyphs .ensures in
+    (omega (arith, no-room (c .before .before .before .before .lay .ensures) (a .pre .3) (c .if3 .taken), l .kept .size, l .few), refl)
 
 cut-sets-requires : tie.Need-cut-sets-requires
 cut-sets-requires c κs =
-    let a = c .before .before .before .before .before .before .before .before .before .before .before .before .before .before .before .before .before .before .before .before .before in
-    (rules-asked _ (λ i. omega (arith, c .before .before .before .before .before .before .before .before .before .before .before .before .before .before .before .before .before .before .before .before .shared-slice-known .given i)) (a .pre .1) (a .args .chained) (a .pre .0), two-laid (c .before .before .before .before .before .before .before .before .before .before .before .lay .ensures) (c .before .before .before .before .before .before .before .before .if2 .left) (a .pre .2) (c .before .before .before .before .before .before .lay2 .ensures) (c .before .before .before .if3 .left) (a .pre .3), a .pre .4, λ z. c .before .before .before .before .before .before .before .before .before .before .before .before .before .if1 .left (c .before .before .before .before .before .before .before .before .before .before .before .before .before .before .word-inside .ensures .0 ∙ z), refl)
+    let a = c .before .before .before .before .before .before .before .before .before .before .before .before .before .before .before .before .before .before .before .before .before .before .before .before in
+    ((rules-asked _ (λ i. omega (arith, c .before .before .before .before .before .before .before .before .before .before .before .before .before .before .before .before .before .before .before .before .before .before .before .shared-slice-known .given i)) (a .pre .1) (a .args .chained) (a .pre .0)), two-laid (c .before .before .before .before .before .before .before .before .before .before .before .before .before .before .lay-glyphs .ensures) (c .before .before .before .before .before .before .before .before .before .before .if2 .left) (a .pre .2) (c .before .before .before .before .before .before .before .lay .ensures) (c .before .before .before .if3 .left) (a .pre .3), a .pre .4, (λ z. c .before .before .before .before .before .before .before .before .before .before .before .before .before .before .before .before .if1 .left (c .before .before .before .before .before .before .before .before .before .before .before .before .before .before .before .before .before .word-inside .ensures .0 ∙ z)), refl)
 
 returns-4 : tie.Need-returns-4
 returns-4 c =
-    let a = c .before .before .before .before .before .before .before .before .before .before .before .before .before .before .before .before .before .before .before .before .before .before .before .before .before .before .before .before in
-    let l = c .before .before .before .before .before .before .before .before .before .before .before .before .before .before .before .before .before .before .lay .ensures in
-    let n = c .before .before .before .before .before .before .before .before .before .before .before .before .before .lay2 .ensures in
-    let g = glyphs-stand l (c .before .before .before .before .before .before .before .before .before .before .before .before .before .before .before .if2 .left) (a .pre .2) n in
-    let bs = bytes-all (a .args .src .now) (λ i. omega (arith, c .before .before .before .before .before .before .before .before .before .before .before .before .before .before .before .before .before .before .before .before .before .before .before .before .before .before .before .shared-slice-known .given i)) in
-    let bg = bytes-all (a .args .glyphs .now) (λ i. omega (arith, c .before .before .before .before .before .before .before .before .before .before .before .before .before .before .before .before .before .before .before .before .before .before .before .before .before .before .shared-slice-known2 .given i)) in
-    let bl = bytes-all (a .args .lookups .now) (λ i. omega (arith, c .before .before .before .before .before .before .before .before .before .before .before .before .before .before .before .before .before .before .before .before .before .before .before .before .before .shared-slice-known3 .given i)) in
-    two-answered l (a .pre .2) (λ i. omega (arith, c .before .before .before .before .before .before .before .before .before .before .before .before .before .before .before .before .before .before .before .before .before .before .before .before .before .before .shared-slice-known2 .given i)) _ (rules-fit (a .args .src .now) (a .args .glyphs .now) bs bg (a .pre .2) (a .pre .5) (a .args .chained) (a .args .lookups .now) bl (a .pre .0)) (rules-cut _ _ _ g _ g g (n .holds (c .before .before .before .before .before .before .before .before .before .before .if3 .left)) (a .args .chained) (λ z. c .before .before .before .before .before .before .before .before .before .before .before .before .before .before .before .before .before .before .before .before .if1 .left (c .before .before .before .before .before .before .before .before .before .before .before .before .before .before .before .before .before .before .before .before .before .word-inside .ensures .0 ∙ z)) (rules-asked _ (λ i. omega (arith, c .before .before .before .before .before .before .before .before .before .before .before .before .before .before .before .before .before .before .before .before .before .before .before .before .before .before .before .shared-slice-known .given i)) (a .pre .1) (a .args .chained) (a .pre .0))) n (a .pre .3) (c .before .before .before .before .before .before .cut-sets .ensures)
+    let a = c .before .before .before .before .before .before .before .before .before .before .before .before .before .before .before .before .before .before .before .before .before .before .before .before .before .before .before .before .before .before .before in
+    let l = c .before .before .before .before .before .before .before .before .before .before .before .before .before .before .before .before .before .before .before .before .before .lay-glyphs .ensures in
+    let n = c .before .before .before .before .before .before .before .before .before .before .before .before .before .before .lay .ensures in
+    let g = glyphs-stand l (c .before .before .before .before .before .before .before .before .before .before .before .before .before .before .before .before .before .if2 .left) (a .pre .2) n in
+    let bs = bytes-all (a .args .src .now) (λ i. omega (arith, c .before .before .before .before .before .before .before .before .before .before .before .before .before .before .before .before .before .before .before .before .before .before .before .before .before .before .before .before .before .before .shared-slice-known .given i)) in
+    let bl = bytes-all (a .args .lookups .now) (λ i. omega (arith, c .before .before .before .before .before .before .before .before .before .before .before .before .before .before .before .before .before .before .before .before .before .before .before .before .before .before .before .before .shared-slice-known3 .given i)) in
+    two-answered l _ (rules-fit (a .args .src .now) bs (a .pre .2) (a .args .chained) (a .args .lookups .now) bl (a .pre .0)) (rules-cut _ _ _ g _ g g (n .holds (c .before .before .before .before .before .before .before .before .before .before .if3 .left)) (a .args .chained) (λ z. c .before .before .before .before .before .before .before .before .before .before .before .before .before .before .before .before .before .before .before .before .before .before .before .if1 .left (c .before .before .before .before .before .before .before .before .before .before .before .before .before .before .before .before .before .before .before .before .before .before .before .before .word-inside .ensures .0 ∙ z)) (rules-asked _ (λ i. omega (arith, c .before .before .before .before .before .before .before .before .before .before .before .before .before .before .before .before .before .before .before .before .before .before .before .before .before .before .before .before .before .before .shared-slice-known .given i)) (a .pre .1) (a .args .chained) (a .pre .0))) n (a .pre .3) (c .before .before .before .before .before .before .cut-sets .ensures)
 
 pub cut-contexts-spec : {M : Type 1} → statement M
 cut-contexts-spec =
@@ -61,12 +48,10 @@ cut-contexts-spec =
     (λ c κs. search needs)
     (λ c. search needs)
     returns-2
-    add-lay
-    lay-requires-2
+    (λ c. search needs)
+    (λ c κs. search needs)
     (λ c. search needs)
     returns-3
-    add-cut-sets
-    add-cut-sets-2
     cut-sets-requires
     (λ c. search needs)
     (λ c. search needs)

@@ -1,11 +1,11 @@
-use Rattle.laws.specs.SoundGood.{bytes-all}
-use Rattle.by_glyph.proofs.Fitting.{ligatures-fit}
 use mathlib.Core.Path.{refl, sym, _∙_}
 use native.Mathlib.Omega.{arith}
 use borrow.Author.Needs.{needs}
-use Rattle.by_glyph.specs.Asked.{ligatures-null, ligatures-cut}
+use Rattle.laws.specs.SoundGood.{bytes-all}
 use Rattle.by_glyph.specs.Whole.{written-none}
-use Rattle.by_glyph.proofs.Asking.{header-inside, ligatures-asked, no-room, one-answered, one-laid}
+use Rattle.by_glyph.specs.Asked.{ligatures-null, ligatures-cut}
+use Rattle.by_glyph.proofs.Asking.{header-inside, ligatures-asked, glyphs-no-room, one-laid, one-answered}
+use Rattle.by_glyph.proofs.Fitting.{ligatures-fit}
 use Rattle.by_glyph.proofs.cut_ligatures.Statement.{statement}
 use Rattle.by_glyph.proofs.cut_ligatures.Tie as tie
 
@@ -16,23 +16,19 @@ returns : tie.Need-returns
 returns c = written-none _ (ligatures-null _ _ _ (sym (c .before .word-inside .ensures .0) ∙ c .if1 .taken))
 
 returns-2 : tie.Need-returns-2
-returns-2 c = (omega (arith, no-room (c .before .before .before .lay .ensures) (c .before .before .before .before .before .before .before .before .before .before .before .before .pre .2) (c .if2 .taken)), refl)
-
-add-cut-sets : tie.Need-add-cut-sets
-add-cut-sets c = omega (arith, c .before .before .before .before .lay .ensures .few (c .before .before .before .before .before .before .before .before .before .before .before .before .before .pre .2))
+returns-2 c = (omega (arith, glyphs-no-room (c .before .before .before .before .lay-glyphs .ensures) (c .if2 .taken)), refl)
 
 cut-sets-requires : tie.Need-cut-sets-requires
 cut-sets-requires c κs =
-    let a = c .before .before .before .before .before .before .before .before .before .before .before .before .before .before .before in
-    (ligatures-asked _ (λ i. omega (arith, c .before .before .before .before .before .before .before .before .before .before .before .before .before .before .shared-slice-known .given i)) (a .pre .1) (a .pre .0), one-laid (c .before .before .before .before .before .before .lay .ensures) (c .before .before .before .if2 .left) (a .pre .2), a .pre .3, λ z. c .before .before .before .before .before .before .before .before .if1 .left (c .before .before .before .before .before .before .before .before .before .word-inside .ensures .0 ∙ z), refl)
+    let a = c .before .before .before .before .before .before .before .before .before .before .before .before .before .before .before .before in
+    ((ligatures-asked _ (λ i. omega (arith, c .before .before .before .before .before .before .before .before .before .before .before .before .before .before .before .shared-slice-known .given i)) (a .pre .1) (a .pre .0)), one-laid (c .before .before .before .before .before .before .before .lay-glyphs .ensures) (c .before .before .before .if2 .left) (a .pre .2), a .pre .3, (λ z. c .before .before .before .before .before .before .before .before .before .if1 .left (c .before .before .before .before .before .before .before .before .before .before .word-inside .ensures .0 ∙ z)), refl)
 
 returns-3 : tie.Need-returns-3
 returns-3 c =
-    let a = c .before .before .before .before .before .before .before .before .before .before .before .before .before .before .before .before .before .before .before .before .before .before in
-    let l = c .before .before .before .before .before .before .before .before .before .before .before .before .before .lay .ensures in
-    let bs = bytes-all (a .args .src .now) (λ i. omega (arith, c .before .before .before .before .before .before .before .before .before .before .before .before .before .before .before .before .before .before .before .before .before .shared-slice-known .given i)) in
-    let bg = bytes-all (a .args .glyphs .now) (λ i. omega (arith, c .before .before .before .before .before .before .before .before .before .before .before .before .before .before .before .before .before .before .before .before .shared-slice-known2 .given i)) in
-    one-answered l (a .pre .2) (λ i. omega (arith, c .before .before .before .before .before .before .before .before .before .before .before .before .before .before .before .before .before .before .before .before .shared-slice-known2 .given i)) _ (ligatures-fit (a .args .src .now) (a .args .glyphs .now) bs bg (a .pre .2) (a .pre .4) (a .pre .0)) (ligatures-cut _ _ _ (l .holds (c .before .before .before .before .before .before .before .before .before .before .if2 .left)) (λ z. c .before .before .before .before .before .before .before .before .before .before .before .before .before .before .before .if1 .left (c .before .before .before .before .before .before .before .before .before .before .before .before .before .before .before .before .word-inside .ensures .0 ∙ z)) (ligatures-asked _ (λ i. omega (arith, c .before .before .before .before .before .before .before .before .before .before .before .before .before .before .before .before .before .before .before .before .before .shared-slice-known .given i)) (a .pre .1) (a .pre .0))) (c .before .before .before .before .before .before .cut-sets .ensures)
+    let a = c .before .before .before .before .before .before .before .before .before .before .before .before .before .before .before .before .before .before .before .before .before .before .before in
+    let l = c .before .before .before .before .before .before .before .before .before .before .before .before .before .before .lay-glyphs .ensures in
+    let bs = bytes-all (a .args .src .now) (λ i. omega (arith, c .before .before .before .before .before .before .before .before .before .before .before .before .before .before .before .before .before .before .before .before .before .before .shared-slice-known .given i)) in
+    one-answered l _ (ligatures-fit (a .args .src .now) bs (a .pre .2) (a .pre .0)) (ligatures-cut _ _ _ (l .holds (c .before .before .before .before .before .before .before .before .before .before .if2 .left)) (λ z. c .before .before .before .before .before .before .before .before .before .before .before .before .before .before .before .before .if1 .left (c .before .before .before .before .before .before .before .before .before .before .before .before .before .before .before .before .before .word-inside .ensures .0 ∙ z)) (ligatures-asked _ (λ i. omega (arith, c .before .before .before .before .before .before .before .before .before .before .before .before .before .before .before .before .before .before .before .before .before .before .shared-slice-known .given i)) (a .pre .1) (a .pre .0))) (c .before .before .before .before .before .before .cut-sets .ensures)
 
 pub cut-ligatures-spec : {M : Type 1} → statement M
 cut-ligatures-spec =
@@ -43,7 +39,6 @@ cut-ligatures-spec =
     (λ c κs. search needs)
     (λ c. search needs)
     returns-2
-    add-cut-sets
     cut-sets-requires
     (λ c. search needs)
     (λ c. search needs)

@@ -1,11 +1,11 @@
-use Rattle.laws.specs.SoundGood.{bytes-all}
-use Rattle.by_glyph.proofs.Fitting.{pairs-fit}
 use mathlib.Core.Path.{refl, sym, _∙_}
 use native.Mathlib.Omega.{arith}
-use Rattle.by_glyph.specs.PairTables.{pairs-null}
-use Rattle.by_glyph.specs.Whole.{written-none}
-use Rattle.by_glyph.proofs.Asking.{header-inside, pairs-asked, no-room, one-answered, one-laid}
 use borrow.Author.Needs.{needs}
+use Rattle.laws.specs.SoundGood.{bytes-all}
+use Rattle.by_glyph.specs.Whole.{written-none}
+use Rattle.by_glyph.specs.PairTables.{pairs-null}
+use Rattle.by_glyph.proofs.Asking.{header-inside, pairs-asked, glyphs-no-room, one-laid, one-answered}
+use Rattle.by_glyph.proofs.Fitting.{pairs-fit}
 use Rattle.by_glyph.proofs.cut_pairs.Statement.{statement}
 use Rattle.by_glyph.proofs.cut_pairs.Tie as tie
 
@@ -16,23 +16,19 @@ returns : tie.Need-returns
 returns c = written-none _ (pairs-null _ _ _ (sym (c .before .word-inside .ensures .0) ∙ c .if1 .taken))
 
 returns-2 : tie.Need-returns-2
-returns-2 c = (omega (arith, no-room (c .before .before .before .lay .ensures) (c .before .before .before .before .before .before .before .before .before .before .before .before .pre .2) (c .if2 .taken)), refl)
-
-add-cut-pair-sets : tie.Need-add-cut-pair-sets
-add-cut-pair-sets c = omega (arith, c .before .before .before .before .lay .ensures .few (c .before .before .before .before .before .before .before .before .before .before .before .before .before .pre .2))
+returns-2 c = (omega (arith, glyphs-no-room (c .before .before .before .before .lay-glyphs .ensures) (c .if2 .taken)), refl)
 
 cut-pair-sets-requires : tie.Need-cut-pair-sets-requires
 cut-pair-sets-requires c κs =
-    let a = c .before .before .before .before .before .before .before .before .before .before .before .before .before .before .before in
-    (pairs-asked _ (λ i. omega (arith, c .before .before .before .before .before .before .before .before .before .before .before .before .before .before .shared-slice-known .given i)) (a .pre .1) (a .pre .0), one-laid (c .before .before .before .before .before .before .lay .ensures) (c .before .before .before .if2 .left) (a .pre .2), a .pre .3, λ z. c .before .before .before .before .before .before .before .before .if1 .left (c .before .before .before .before .before .before .before .before .before .word-inside .ensures .0 ∙ z))
+    let a = c .before .before .before .before .before .before .before .before .before .before .before .before .before .before .before .before in
+    ((pairs-asked _ (λ i. omega (arith, c .before .before .before .before .before .before .before .before .before .before .before .before .before .before .before .shared-slice-known .given i)) (a .pre .1) (a .pre .0)), one-laid (c .before .before .before .before .before .before .before .lay-glyphs .ensures) (c .before .before .before .if2 .left) (a .pre .2), a .pre .3, (λ z. c .before .before .before .before .before .before .before .before .before .if1 .left (c .before .before .before .before .before .before .before .before .before .before .word-inside .ensures .0 ∙ z)))
 
 returns-3 : tie.Need-returns-3
 returns-3 c =
-    let a = c .before .before .before .before .before .before .before .before .before .before .before .before .before .before .before .before .before .before .before .before .before .before in
-    let l = c .before .before .before .before .before .before .before .before .before .before .before .before .before .lay .ensures in
-    let bs = bytes-all (a .args .src .now) (λ i. omega (arith, c .before .before .before .before .before .before .before .before .before .before .before .before .before .before .before .before .before .before .before .before .before .shared-slice-known .given i)) in
-    let bg = bytes-all (a .args .glyphs .now) (λ i. omega (arith, c .before .before .before .before .before .before .before .before .before .before .before .before .before .before .before .before .before .before .before .before .shared-slice-known2 .given i)) in
-    one-answered l (a .pre .2) (λ i. omega (arith, c .before .before .before .before .before .before .before .before .before .before .before .before .before .before .before .before .before .before .before .before .shared-slice-known2 .given i)) _ (pairs-fit (a .args .src .now) (a .args .glyphs .now) bs bg (a .pre .2) (a .pre .4) (a .pre .0)) refl (c .before .before .before .before .before .before .cut-pair-sets .ensures)
+    let a = c .before .before .before .before .before .before .before .before .before .before .before .before .before .before .before .before .before .before .before .before .before .before .before in
+    let l = c .before .before .before .before .before .before .before .before .before .before .before .before .before .before .lay-glyphs .ensures in
+    let bs = bytes-all (a .args .src .now) (λ i. omega (arith, c .before .before .before .before .before .before .before .before .before .before .before .before .before .before .before .before .before .before .before .before .before .before .shared-slice-known .given i)) in
+    one-answered l _ (pairs-fit (a .args .src .now) bs (a .pre .2) (a .pre .0)) refl (c .before .before .before .before .before .before .cut-pair-sets .ensures)
 
 pub cut-pairs-spec : {M : Type 1} → statement M
 cut-pairs-spec =
@@ -43,7 +39,6 @@ cut-pairs-spec =
     (λ c κs. search needs)
     (λ c. search needs)
     returns-2
-    add-cut-pair-sets
     cut-pair-sets-requires
     (λ c. search needs)
     (λ c. search needs)

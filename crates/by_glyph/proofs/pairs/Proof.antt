@@ -1,9 +1,9 @@
+use mathlib.Core.List.{[]}
 use native.Mathlib.Omega.{arith}
 use borrow.Author.Needs.{needs}
-use Rattle.meaning.specs.Maps.{mapEntries}
+use Rattle.meaning.specs.Maps.{glyphEntries}
 use Rattle.meaning.specs.Cut.{cut}
 use Rattle.meaning.specs.Subset.{written}
-use mathlib.Core.List.{[]}
 use Rattle.by_glyph.specs.Whole.{front-length, front-tries}
 use Rattle.by_glyph.specs.PairTables.{pairTable}
 use Rattle.by_glyph.proofs.pairs.Statement.{statement}
@@ -16,13 +16,13 @@ cut-pairs-requires : tie.Need-cut-pairs-requires
 cut-pairs-requires c κs =
     let a = c .before .before .before .before .before .before .before .before .before in
     let l = c .before .before .before .least .ensures in
-    (a .pre .0, a .pre .1, a .pre .2, omega (arith, front-length (a .args .area .now) l, l .second), a .pre .3)
+    (a .pre .0, a .pre .1, a .pre .2, omega (arith, front-length (a .args .area .now) l, l .second))
 
 returns : tie.Need-returns
 returns c =
     let r = c .before .before .before .before .before .before in
     let a = c .before .before .before .before .before .before .before .before .before .before .before .before .before .before .before .before .args in
-    front-tries (a .area .now) (c .before .before .before .before .before .before .before .before .before .before .least .ensures) _ (r .cut-pairs .result) (a .out .now) _ (written (a .out .now) (cut (mapEntries (a .glyphs .now)) [] (pairTable (a .src .now)))) (r .cut-pairs .ensures)
+    front-tries (a .area .now) (c .before .before .before .before .before .before .before .before .before .before .least .ensures) _ (r .cut-pairs .result) (a .out .now) _ (written (a .out .now) (cut (glyphEntries (a .form) (a .glyphs .now)) [] (pairTable (a .src .now)))) (r .cut-pairs .ensures)
 
 pub pairs-spec : {M : Type 1} → statement M
 pairs-spec =

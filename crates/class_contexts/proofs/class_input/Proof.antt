@@ -1,5 +1,4 @@
-use Rattle.laws.specs.Ascends.{glyphs-ascend}
-use Rattle.class_contexts.proofs.Siding.{input-few, marks-few, may-mark, may-enter, input-laid}
+use Rattle.class_contexts.proofs.Siding.{input-few, list-before, marks-few, may-mark, may-enter, input-laid}
 use mathlib.Core.Path.{refl}
 use native.Mathlib.Omega.{arith}
 use borrow.Author.Needs.{needs}
@@ -8,7 +7,7 @@ use Rattle.class_contexts.proofs.class_input.Tie as tie
 
 class-map-requires : tie.Need-class-map-requires
 class-map-requires c κs = let p = c .before .before .before .before .before .pre .0 in
-    (p .sound, glyphs-ascend (c .before .before .before .before .before .args .glyphs .now) (p .map .good), omega (arith, p .near))
+    (p .sound, p .map, omega (arith, p .near))
 
 returns : tie.Need-returns
 returns c = input-few (c .before .before .before .before .before .before .before .before .before .before .before .before .args .noted) refl (c .before .before .before .before .before .before .before .before .before .before .before .before .pre .0) (c .before .before .before .before .before .before .class-map .ensures) (c .no-input .result) (c .before .if1 .taken) (c .no-input .ensures .0) (c .no-input .ensures .1)
@@ -26,16 +25,19 @@ add-if2-3 c = let w = c .before .before .before .before .before .before .before 
     omega (arith, w .mapped (c .before .before .if1 .left) .direct .inside .within, w .kept .size, w .few, c .before .before .before .before .before .before .before .before .before .before .before .before .before .pre .1)
 
 returns-2 : tie.Need-returns-2
-returns-2 c = marks-few (c .before .before .before .before .before .before .before .before .before .before .before .before .before .before .before .args .noted) refl (c .before .before .before .before .before .before .before .before .before .before .before .before .before .before .before .pre .0) (c .before .before .before .before .before .before .before .before .before .class-map .ensures) (c .no-input2 .result) (c .before .before .before .before .if1 .left) refl (c .before .if2 .taken) (c .no-input2 .ensures .0) (c .no-input2 .ensures .1)
+returns-2 c = marks-few (c .before .before .before .before .before .before .before .before .before .before .before .before .before .before .before .args .noted) refl (c .before .before .before .before .before .before .before .before .before .before .before .before .before .before .before .pre .0) (c .before .before .before .before .before .before .before .before .before .class-map .ensures) (c .before .before .before .before .if1 .left) (c .no-input2 .result) refl (c .before .if2 .taken) (c .no-input2 .ensures .0) (c .no-input2 .ensures .1)
+
+sub-mark-covered : tie.Need-sub-mark-covered
+sub-mark-covered c = list-before (c .before .before .before .before .before .before .before .before .before .before .before .before .before .before .before .before .args .noted) refl (c .before .before .before .before .before .before .before .before .before .before .before .before .before .before .before .before .pre .0) (c .before .before .before .before .before .before .before .before .before .before .class-map .ensures) (c .before .before .before .before .before .if1 .left)
 
 mark-covered-requires : tie.Need-mark-covered-requires
-mark-covered-requires c κs = may-mark (c .before .before .before .before .before .before .before .before .before .before .before .before .before .before .before .args .noted) refl (c .before .before .before .before .before .before .before .before .before .before .before .before .before .before .before .pre .0) (c .before .before .before .before .before .before .before .before .before .class-map .ensures) (c .before .before .before .before .if1 .left) refl refl (c .before .if2 .left)
+mark-covered-requires c κs = may-mark (c .before .before .before .before .before .before .before .before .before .before .before .before .before .before .before .before .args .noted) refl (c .before .before .before .before .before .before .before .before .before .before .before .before .before .before .before .before .pre .0) (c .before .before .before .before .before .before .before .before .before .before .class-map .ensures) (c .before .before .before .before .before .if1 .left) refl refl (c .before .before .if2 .left)
 
 new-entries-requires : tie.Need-new-entries-requires
-new-entries-requires c κs = may-enter (c .before .before .before .before .before .before .before .before .before .before .before .before .before .before .before .before .before .before .before .args .noted) refl (c .before .before .before .before .before .before .before .before .before .before .before .before .before .before .before .before .before .before .before .pre .0) (c .before .before .before .before .before .before .before .before .before .before .before .before .before .class-map .ensures) (c .before .before .before .before .before .before .before .before .if1 .left) refl refl (c .before .before .before .mark-covered .ensures)
+new-entries-requires c κs = may-enter (c .before .before .before .before .before .before .before .before .before .before .before .before .before .before .before .before .before .before .before .before .args .noted) refl (c .before .before .before .before .before .before .before .before .before .before .before .before .before .before .before .before .before .before .before .before .pre .0) (c .before .before .before .before .before .before .before .before .before .before .before .before .before .before .class-map .ensures) (c .before .before .before .before .before .before .before .before .before .if1 .left) refl refl (c .before .before .before .mark-covered .ensures)
 
 returns-3 : tie.Need-returns-3
-returns-3 c = input-laid (c .before .before .before .before .before .before .before .before .before .before .before .before .before .before .before .before .before .before .before .before .before .before .args .noted) refl (c .before .before .before .before .before .before .before .before .before .before .before .before .before .before .before .before .before .before .before .before .before .before .pre .0) (c .before .before .before .before .before .before .before .before .before .before .before .before .before .before .before .before .class-map .ensures) (c .before .before .before .before .before .before .before .before .before .before .before .if1 .left) refl refl (c .before .before .before .before .before .before .mark-covered .ensures) (c .before .before .new-entries .ensures)
+returns-3 c = input-laid (c .before .before .before .before .before .before .before .before .before .before .before .before .before .before .before .before .before .before .before .before .before .before .before .args .noted) refl (c .before .before .before .before .before .before .before .before .before .before .before .before .before .before .before .before .before .before .before .before .before .before .before .pre .0) (c .before .before .before .before .before .before .before .before .before .before .before .before .before .before .before .before .before .class-map .ensures) (c .before .before .before .before .before .before .before .before .before .before .before .before .if1 .left) refl refl (c .before .before .before .before .before .before .mark-covered .ensures) (c .before .before .new-entries .ensures)
 
 pub class-input-spec : {M : Type 1} → statement M
 class-input-spec =
@@ -52,6 +54,7 @@ class-input-spec =
     (λ c κs. search needs)
     (λ c. search needs)
     returns-2
+    sub-mark-covered
     mark-covered-requires
     new-entries-requires
     (λ c. search needs)

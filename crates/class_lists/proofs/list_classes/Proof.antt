@@ -1,65 +1,74 @@
-use native.Mathlib.Omega.{arith}
-use Rattle.class_lists.specs.Tables.{head-inside, by-array, array-inside, by-ranges, ranges-sound}
-use Rattle.class_lists.proofs.Listing.{listed-null}
+use Rattle.class_lists.proofs.Listing.{Listing, listing-all, listing-end, listing-hint, listing-fill, listing-on, listing-next}
 use borrow.Author.Needs.{needs}
+use Prim.Native.Nat.{_-_}
+use native.Mathlib.Omega.{arith}
 use Rattle.class_lists.proofs.list_classes.Statement.{statement}
 use Rattle.class_lists.proofs.list_classes.Tie as tie
 
-returns : tie.Need-returns
-returns c = listed-null (c .before .before .before .before .before .before .before .before .args .src .now) (c .before .before .before .before .if1 .taken) (c .before .before .fill .ensures)
+abbrev Inv-loop : tie.InvT-loop
+Inv-loop src at glyphs form t₀ list n high₀ zero₀ next₀ from₀ run₀ cell₀ t high met next from run cell = Listing src at form glyphs t₀ t list high met next from run cell
 
-word-inside-requires : tie.Need-word-inside-requires
-word-inside-requires c κs = omega (arith, head-inside (c .if1 .left) (c .before .before .before .before .pre .0))
+abbrev μ-loop : tie.MeasureT-loop
+μ-loop src at glyphs form t₀ list n high₀ zero₀ next₀ from₀ run₀ cell₀ t high met next from run cell = 65536 - from
 
-list-array-requires : tie.Need-list-array-requires
-list-array-requires c κs =
-    let w = c .before .before in
-    let p = w .before .before .before .before .before .pre in
-    (array-inside (w .before .if1 .left) (p .0) (w .word-inside .ensures .0) (c .before .if2 .taken), p .2)
+loop-holds : tie.Need-loop-holds Inv-loop μ-loop
+loop-holds c = listing-all (c .before .before .before .before .pre)
 
-returns-2 : tie.Need-returns-2
-returns-2 c =
-    let w = c .before .before .before .before .before in
-    let p = w .before .before .before .before .before .pre in
-    rw (by-array (w .before .if1 .left) (p .0) (w .word-inside .ensures .0) (c .before .before .before .before .if2 .taken)) (c .before .before .list-array .ensures)
+run-at-requires : tie.Need-run-at-requires Inv-loop μ-loop
+run-at-requires c κs = (c .before .loop .inv .good, rw (c .before .before .count-runs .ensures) at (c .loop-test .taken))
 
-add-word-inside : tie.Need-add-word-inside
-add-word-inside c = omega (arith, head-inside (c .before .before .if1 .left) (c .before .before .before .before .before .before .pre .0))
+stretch-from-requires : tie.Need-stretch-from-requires Inv-loop μ-loop
+stretch-from-requires c κs =
+    let r = c .before in
+    let l = r .before .before in
+    listing-hint (l .loop .inv) (rw (l .before .count-runs .ensures) at (r .before .loop-test .taken)) (r .run-at .ensures) (c .greater .ensures)
 
-word-inside-requires-2 : tie.Need-word-inside-requires-2
-word-inside-requires-2 c κs = omega (arith, head-inside (c .before .before .if1 .left) (c .before .before .before .before .before .before .pre .0))
+list-stretch-requires : tie.Need-list-stretch-requires Inv-loop μ-loop
+list-stretch-requires c κs =
+    let r = c .before .before .before in
+    let l = r .before .before in
+    listing-fill (l .loop .inv) (rw (l .before .count-runs .ensures) at (r .before .loop-test .taken)) (r .run-at .ensures) (c .before .before .greater .ensures) (c .before .stretch-from .ensures)
 
-add-list-ranges : tie.Need-add-list-ranges
-add-list-ranges c = omega (arith, head-inside (c .before .before .before .if1 .left) (c .before .before .before .before .before .before .before .pre .0))
+loop-less : tie.Need-loop-less Inv-loop μ-loop
+loop-less c =
+    let r = c .before .before .before .before .before .before .before .before .before in
+    let l = r .before .before in
+    let w = c .before .before .before .before .before .before .before .stretch-from .ensures in
+    omega (arith, w .stretch .end, listing-on (l .loop .inv) (rw (l .before .count-runs .ensures) at (r .before .loop-test .taken)) (r .run-at .ensures) (c .before .before .before .before .before .before .before .before .greater .ensures) w)
 
-list-ranges-requires : tie.Need-list-ranges-requires
-list-ranges-requires c κs =
-    let w = c .before .before .before in
-    let p = w .before .before .before .before .before .pre in
-    let r = ranges-sound (w .before .if1 .left) (p .0) (w .word-inside .ensures .0) (c .before .word-inside2 .ensures .0) (c .before .before .if2 .left) in
-    (record { inside = r .0; rise = r .1 }, p .1, p .2)
+loop-again : tie.Need-loop-again Inv-loop μ-loop
+loop-again c =
+    let r = c .before .before .before .before .before .before .before .before .before in
+    let l = r .before .before in
+    listing-next (l .loop .inv) (rw (l .before .count-runs .ensures) at (r .before .loop-test .taken)) (r .run-at .ensures) (c .before .before .before .before .before .before .before .before .greater .ensures)
+    (c .before .before .before .before .before .before .before .stretch-from .ensures) (c .before .before .before .before .before .list-stretch .ensures) (c .before .before .greater2 .ensures) (c .before .met-zero .ensures)
 
-returns-3 : tie.Need-returns-3
-returns-3 c =
-    let n = c .before .before .before .before in
-    let w = n .before .before in
-    let p = w .before .before .before .before .before .pre in
-    rw (by-ranges (w .before .if1 .left) (p .0) (w .word-inside .ensures .0) (n .word-inside2 .ensures .0) (n .before .if2 .left)) (c .before .before .list-ranges .ensures)
+sub-t21 : tie.Need-sub-t21 Inv-loop μ-loop
+sub-t21 c = c .before .loop .inv .order
+
+same-length : tie.Need-same-length Inv-loop μ-loop
+same-length c = c .before .loop .inv .kept .size
+
+returns : tie.Need-returns Inv-loop μ-loop
+returns c = listing-end (c .before .loop .inv) (rw (c .before .before .count-runs .ensures) at (c .loop-test .left))
 
 pub list-classes-spec : {M : Type 1} → statement M
 list-classes-spec =
     tie.close
     (tie.spec
+    Inv-loop
+    μ-loop
+    (λ c κs. search needs)
+    loop-holds
+    run-at-requires
+    (λ c κs. search needs)
+    stretch-from-requires
+    list-stretch-requires
+    (λ c κs. search needs)
     (λ c κs. search needs)
     (λ c. search needs)
-    returns
-    word-inside-requires
-    list-array-requires
-    (λ c. search needs)
-    returns-2
-    add-word-inside
-    word-inside-requires-2
-    add-list-ranges
-    list-ranges-requires
-    (λ c. search needs)
-    returns-3)
+    loop-less
+    loop-again
+    sub-t21
+    same-length
+    returns)

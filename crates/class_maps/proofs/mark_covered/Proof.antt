@@ -1,16 +1,13 @@
+use Rattle.class_maps.proofs.Covering.{covering-ready, covering-done}
 use borrow.Author.Needs.{needs}
-use Rattle.class_maps.proofs.Covering.{covering-clear, covering-ready, covering-done}
 use Rattle.class_maps.proofs.mark_covered.Statement.{statement}
 use Rattle.class_maps.proofs.mark_covered.Tie as tie
 
-clear-requires : tie.Need-clear-requires
-clear-requires c κs = covering-clear (c .before .before .before .pre)
-
 mark-met-requires : tie.Need-mark-met-requires
-mark-met-requires c κs = covering-ready (c .before .before .before .before .before .before .before .pre) (c .before .before .before .clear .ensures)
+mark-met-requires c κs = covering-ready (c .before .before .before .before .before .before .pre) (c .before .before .before .clear .ensures)
 
 returns : tie.Need-returns
-returns c = covering-done (c .before .before .before .before .before .before .before .before .before .before .pre) (c .before .before .before .before .before .before .clear .ensures) (c .before .before .mark-met .ensures)
+returns c = covering-done (c .before .before .before .before .before .before .before .before .before .pre) (c .before .before .before .before .before .before .clear .ensures) (c .before .before .mark-met .ensures)
 
 pub mark-covered-spec : {M : Type 1} → statement M
-mark-covered-spec = tie.close (tie.spec clear-requires mark-met-requires (λ c. search needs) returns)
+mark-covered-spec = tie.close (tie.spec (λ c κs. search needs) mark-met-requires (λ c. search needs) returns)

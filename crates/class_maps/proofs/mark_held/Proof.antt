@@ -1,3 +1,4 @@
+use Prim.Native.Nat.{_+_, _-_}
 use native.Mathlib.Omega.{arith}
 use Rattle.class_maps.proofs.Marking.{Marking, marking-all, marking-inside, marking-low, marking-next, marking-end}
 use borrow.Author.Needs.{needs}
@@ -23,7 +24,7 @@ slice-read-class : tie.Need-slice-read-class Inv-loop μ-loop
 slice-read-class c = marking-inside (c .before .before .loop .inv) (c .before .loop-test .taken)
 
 cast-class : tie.Need-cast-class Inv-loop μ-loop
-cast-class c = let i = c .before .before .loop .inv in omega (arith, marking-low i (c .before .loop-test .taken), i .marked .direct .few)
+cast-class c = let l = c .before .before in omega (arith, c .slice-known .given (l .before .args .list + (l .loop .e - 1)))
 
 mul-t : tie.Need-mul-t Inv-loop μ-loop
 mul-t c = let i = c .before .before .loop .inv in omega (arith, marking-low i (c .before .loop-test .taken), i .marked .direct .few)

@@ -1,6 +1,6 @@
 use Prim.Native.Nat.{_-_}
 use native.Mathlib.Omega.{arith}
-use Rattle.class_numbers.proofs.Walking.{Straying, straying-none, straying-far, straying-low, straying-turn, straying-end}
+use Rattle.class_numbers.proofs.Walking.{found-holds, Straying, straying-none, straying-far, straying-low, straying-turn, straying-end}
 use borrow.Author.Needs.{needs}
 use Rattle.class_numbers.proofs.mark_strays.Statement.{statement}
 use Rattle.class_numbers.proofs.mark_strays.Tie as tie
@@ -14,7 +14,7 @@ abbrev μ-loop : tie.MeasureT-loop
 loop-holds : tie.Need-loop-holds Inv-loop μ-loop
 loop-holds c =
     let p = c .before .before .before .before .before .pre in
-    straying-none (p .2) (p .3) (c .before .stretch-at .ensures .0) (c .stretch-at2 .ensures .0)
+    straying-none (p .2) (p .3) (found-holds (c .before .stretch-from .ensures) .0) (found-holds (c .stretch-from2 .ensures) .0)
 
 onward-requires : tie.Need-onward-requires Inv-loop μ-loop
 onward-requires c κs = (c .before .before .before .before .before .before .before .pre .0, c .before .loop .inv .lefts, c .loop-test .taken)

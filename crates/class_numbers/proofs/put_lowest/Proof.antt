@@ -1,6 +1,6 @@
 use Prim.Native.Nat.{_-_}
 use native.Mathlib.Omega.{arith}
-use Rattle.class_numbers.proofs.Walking.{Finding, finding-none, finding-turn, finding-end}
+use Rattle.class_numbers.proofs.Walking.{found-holds, Finding, finding-none, finding-turn, finding-end}
 use borrow.Author.Needs.{needs}
 use Rattle.class_numbers.proofs.put_lowest.Statement.{statement}
 use Rattle.class_numbers.proofs.put_lowest.Tie as tie
@@ -14,23 +14,23 @@ abbrev μ-loop : tie.MeasureT-loop
 loop-holds : tie.Need-loop-holds Inv-loop μ-loop
 loop-holds c = finding-none (c .before .before .before .before .before .before .pre .1) (c .before .before .clear .ensures)
 
-stretch-at-requires : tie.Need-stretch-at-requires Inv-loop μ-loop
-stretch-at-requires c κs = (c .before .before .before .before .before .before .before .before .pre .0, c .before .loop .inv .begins, c .loop-test .taken)
+stretch-from-requires : tie.Need-stretch-from-requires Inv-loop μ-loop
+stretch-from-requires c κs = (c .before .before .before .before .before .before .before .before .pre .0, c .before .loop .inv .hint, c .loop-test .taken)
 
 add-put-first : tie.Need-add-put-first Inv-loop μ-loop
 add-put-first c = search needs
 
 add-g : tie.Need-add-g Inv-loop μ-loop
-add-g c = omega (arith, c .before .before .before .before .before .before .stretch-at .ensures .0 .low)
+add-g c = omega (arith, c .before .before .before .before .before .before .stretch-from .ensures .stretch .end)
 
 loop-less : tie.Need-loop-less Inv-loop μ-loop
-loop-less c = omega (arith, c .before .before .before .before .before .before .stretch-at .ensures .1, c .before .before .before .before .before .before .before .loop-test .taken)
+loop-less c = omega (arith, c .before .before .before .before .before .before .stretch-from .ensures .stretch .holds, c .before .before .before .before .before .before .before .loop-test .taken)
 
 loop-again : tie.Need-loop-again Inv-loop μ-loop
 loop-again c =
     let p = c .before .before .before in
     let s = p .before .before .before in
-    finding-turn (s .before .before .loop .inv) (s .stretch-at .ensures) (p .put-first .ensures)
+    finding-turn (s .before .before .loop .inv) (found-holds (s .stretch-from .ensures)) (p .put-first .ensures)
 
 same-length : tie.Need-same-length Inv-loop μ-loop
 same-length c = omega (arith, c .before .loop .inv .lowest .elsewhere .size, c .before .before .before .before .clear .ensures .elsewhere .size)
@@ -46,7 +46,7 @@ put-lowest-spec =
     μ-loop
     (λ c κs. search needs)
     loop-holds
-    stretch-at-requires
+    stretch-from-requires
     add-put-first
     (λ c. search needs)
     (λ c κs. search needs)

@@ -1,16 +1,16 @@
 use borrow.Author.Needs.{needs}
 use Rattle.cover_rows.proofs.Rows.{Rowing, rowing-all, rowing-null, rowing-asks, rowing-gone, rowing-turn, rowing-end}
-use Rattle.meaning.specs.Maps.{mapEntries}
+use Rattle.meaning.specs.Maps.{glyphEntries}
 use mathlib.Core.Path.{_∙_}
 use Prim.Native.Nat.{_-_}
 use Rattle.cover_rows.proofs.write_row.Statement.{statement}
 use Rattle.cover_rows.proofs.write_row.Tie as tie
 
 abbrev Inv-loop : tie.InvT-loop
-Inv-loop src row glyphs m t₀ area₀ pos p₀ i₀ t area p i = Rowing (mapEntries glyphs) src row m t₀ area₀ pos t area p i
+Inv-loop src row glyphs form m t₀ area₀ pos p₀ i₀ t area p i = Rowing (glyphEntries form glyphs) src row m t₀ area₀ pos t area p i
 
 abbrev μ-loop : tie.MeasureT-loop
-μ-loop src row glyphs m t₀ area₀ pos p₀ i₀ t area p i = row .len - i
+μ-loop src row glyphs form m t₀ area₀ pos p₀ i₀ t area p i = row .len - i
 
 loop-holds : tie.Need-loop-holds Inv-loop μ-loop
 loop-holds c = rowing-all (c .before .before .before .before .pre)

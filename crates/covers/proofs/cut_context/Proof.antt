@@ -1,13 +1,23 @@
-use Rattle.covers.proofs.Cut.{cut-short, cut-into}
+use native.Mathlib.Omega.{arith}
 use borrow.Author.Needs.{needs}
+use Rattle.covers.proofs.Cut.{cut-asks, cut-few, cut-short, cut-into}
 use Rattle.covers.proofs.cut_context.Statement.{statement}
 use Rattle.covers.proofs.cut_context.Tie as tie
 
 returns : tie.Need-returns
-returns c = cut-short (c .before .before .before .before .before .before .before .before .before .pre) (c .before .before .before .cover-parts .ensures) (c .if1 .taken)
+returns c = cut-few (c .before .before .before .before .before .before .before .before .before .pre) (c .before .before .before .cover-parts .ensures) (c .before .most-notes .ensures) (c .if1 .taken)
+
+add-if2 : tie.Need-add-if2
+add-if2 c = omega (arith, c .before .before .before .before .before .cover-parts .ensures .records, c .before .before .before .before .before .before .before .before .before .before .before .good)
 
 returns-2 : tie.Need-returns-2
-returns-2 c = cut-into (c .before .before .before .before .before .before .before .before .before .before .before .before .before .before .before .before .before .before .before .before .before .pre) (c .before .before .before .before .before .before .before .before .before .before .before .before .before .before .before .cover-parts .ensures) (c .before .before .before .before .before .before .before .before .before .write-context .ensures) (c .before .before .settle .ensures)
+returns-2 c = cut-short (c .before .before .before .before .before .before .before .before .before .before .before .before .pre) (c .before .before .before .before .before .before .cover-parts .ensures) (c .before .before .before .before .most-notes .ensures) (c .if2 .taken)
+
+write-context-requires : tie.Need-write-context-requires
+write-context-requires c κs = cut-asks (c .before .before .before .before .before .before .before .before .before .before .before .before .before .before .pre) (c .before .before .before .before .before .before .before .before .cover-parts .ensures) (c .before .before .before .before .before .before .most-notes .ensures) (c .before .before .before .before .before .if1 .left) (c .before .before .if2 .left)
+
+returns-3 : tie.Need-returns-3
+returns-3 c = cut-into (c .before .before .before .before .before .before .before .before .before .before .before .before .before .before .before .before .before .before .before .before .before .before .before .before .pre) (c .before .before .before .before .before .before .before .before .before .before .before .before .before .before .before .before .before .before .cover-parts .ensures) (c .before .before .before .before .before .before .before .before .before .before .before .before .before .before .before .before .most-notes .ensures) (c .before .before .before .before .before .before .before .before .before .write-context .ensures) (c .before .before .settle .ensures)
 
 pub cut-context-spec : {M : Type 1} → statement M
 cut-context-spec =
@@ -16,10 +26,15 @@ cut-context-spec =
     (λ c κs. search needs)
     (λ c. search needs)
     (λ c. search needs)
+    (λ c κs. search needs)
+    (λ c. search needs)
     returns
+    (λ c. search needs)
+    add-if2
+    returns-2
+    write-context-requires
     (λ c κs. search needs)
-    (λ c κs. search needs)
     (λ c. search needs)
     (λ c. search needs)
     (λ c. search needs)
-    returns-2)
+    returns-3)

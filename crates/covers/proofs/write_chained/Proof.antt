@@ -68,6 +68,9 @@ returns-3 c =
     let w = u .before .before .before .before in
     ahead-settles (w .before .before .before .before .before .before .before .pre) (counted-written (w .before .before .before .before .before .before .before .pre) (w .write-counted-records .ensures)) (u .put .ensures .1) (d .write-counted-row .ensures) (i .if1 .left) (f .write-counted-row2 .ensures) (j .before .before .before .if2 .left) (j .write-counted-row3 .ensures)
 
+same-length-6 : tie.Need-same-length-6
+same-length-6 c = returns-3 c .same
+
 pub write-chained-spec : {M : Type 1} → statement M
 write-chained-spec =
     tie.close
@@ -85,5 +88,5 @@ write-chained-spec =
     returns-2
     write-counted-row-requires-3
     (λ c. search needs)
-    (λ c. search needs)
+    same-length-6
     returns-3)

@@ -1,12 +1,12 @@
 -- The proof of the cycle of calls {in_all}: a call of itself has one round less, and its scratch is enough for any source. Assumes nothing.
 use Prim.Native.Nat.{ℕ, _<_}
-use native.Mathlib.Omega.{arith}
 use mathlib.Core.Path.{sym}
-use lib.ListN.{length, length-replicate}
+use native.Mathlib.Omega.{arith}
+use lib.ListN.{length}
 use borrow.Author.Needs.{needs}
 use borrow.Fn.Kinds.{In}
 use borrow.Fn.PlainCycle.{Measures, is, falls, and}
-use Rattle.cut.proofs.Sizes.{cleared, all-cells, all-bytes, never-short}
+use Rattle.cut.proofs.Sizes.{cleared, cleared-length, all-cells, all-bytes, never-short}
 use Rattle.cut.specs.Cutting.{classCells, enoughBytes}
 use Rattle.cut.proofs.cut_in.Reads as cut-in-reads
 use Rattle.cut.proofs.in_all.Reads as in-all
@@ -16,7 +16,7 @@ use Rattle.cut.proofs.+in_all.{statement}
 use Rattle.cut.proofs.+in_all.Tie.{close}
 
 abbrev μ-in-all : Measures 4 in-all-kinds.ps ℕ
-μ-in-all κs a = a .1 .1 .1 .1 .0
+μ-in-all κs a = a .1 .1 .1 .1 .1 .0
 
 -- what `in_all` is given at the measure t, and what a call of it asks below t
 abbrev in-all-at : ℕ → In 4 in-all-kinds.ps
@@ -49,8 +49,8 @@ pub +in-all-spec : {M : Type 1} → statement M
     (in-all-requires t)
     (λ c. search needs)
     (λ c. search needs)
-    (λ c. sym (length-replicate {A = ℕ} 655360 0))
-    (λ c. sym (length-replicate {A = ℕ} 655360 0))
+    (λ c. sym (cleared-length classCells))
+    (λ c. sym (cleared-length enoughBytes))
     (cut-in-requires t)
-    (λ c. c .before .before .before .before .cut-in .kept .1 .1 .1 .1 .1 .1 .0)
+    (λ c. c .before .out2 .given)
     (returns t))

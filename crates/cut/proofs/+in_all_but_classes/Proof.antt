@@ -1,12 +1,12 @@
 -- The proof of the cycle of calls {in_all_but_classes}: a call of itself has one round less, and its scratch is enough for any source but a context by classes. Assumes nothing.
 use Prim.Native.Nat.{ℕ, _<_}
-use native.Mathlib.Omega.{arith}
 use mathlib.Core.Path.{sym}
-use lib.ListN.{length, length-replicate}
+use native.Mathlib.Omega.{arith}
+use lib.ListN.{length}
 use borrow.Author.Needs.{needs}
 use borrow.Fn.Kinds.{In}
 use borrow.Fn.PlainCycle.{Measures, is, falls, and}
-use Rattle.cut.proofs.Sizes.{cleared, other-cells, all-bytes, never-short}
+use Rattle.cut.proofs.Sizes.{cleared, cleared-length, other-cells, all-bytes, never-short}
 use Rattle.cut.specs.Cutting.{otherCells, enoughBytes}
 use Rattle.cut.proofs.cut_in.Reads as cut-in-reads
 use Rattle.cut.proofs.in_all_but_classes.Reads as in-all-but-classes
@@ -16,7 +16,7 @@ use Rattle.cut.proofs.+in_all_but_classes.{statement}
 use Rattle.cut.proofs.+in_all_but_classes.Tie.{close}
 
 abbrev μ-in-all-but-classes : Measures 4 in-all-but-classes-kinds.ps ℕ
-μ-in-all-but-classes κs a = a .1 .1 .1 .1 .0
+μ-in-all-but-classes κs a = a .1 .1 .1 .1 .1 .0
 
 -- what `in_all_but_classes` is given at the measure t, and what a call of it asks below t
 abbrev in-all-but-classes-at : ℕ → In 4 in-all-but-classes-kinds.ps
@@ -49,8 +49,8 @@ pub +in-all-but-classes-spec : {M : Type 1} → statement M
     (in-all-but-classes-requires t)
     (λ c. search needs)
     (λ c. search needs)
-    (λ c. search needs)
-    (λ c. sym (length-replicate {A = ℕ} 655360 0))
+    (λ c. sym (cleared-length otherCells))
+    (λ c. sym (cleared-length enoughBytes))
     (cut-in-requires t)
-    (λ c. c .before .before .before .before .cut-in .kept .1 .1 .1 .1 .1 .1 .0)
+    (λ c. c .before .out2 .given)
     (returns t))

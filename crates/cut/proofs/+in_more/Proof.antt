@@ -14,7 +14,7 @@ use Rattle.cut.proofs.+in_more.{statement}
 use Rattle.cut.proofs.+in_more.Tie.{close}
 
 abbrev μ-in-more : Measures 4 in-more-kinds.ps ℕ
-μ-in-more κs a = a .1 .1 .1 .1 .0
+μ-in-more κs a = a .1 .1 .1 .1 .1 .0
 
 -- what `in_more` is given at the measure t, and what a call of it asks below t
 abbrev in-more-at : ℕ → In 4 in-more-kinds.ps

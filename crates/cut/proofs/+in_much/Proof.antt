@@ -14,7 +14,7 @@ use Rattle.cut.proofs.+in_much.{statement}
 use Rattle.cut.proofs.+in_much.Tie.{close}
 
 abbrev μ-in-much : Measures 4 in-much-kinds.ps ℕ
-μ-in-much κs a = a .1 .1 .1 .1 .0
+μ-in-much κs a = a .1 .1 .1 .1 .1 .0
 
 -- what `in_much` is given at the measure t, and what a call of it asks below t
 abbrev in-much-at : ℕ → In 4 in-much-kinds.ps

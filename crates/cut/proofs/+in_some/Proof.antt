@@ -14,7 +14,7 @@ use Rattle.cut.proofs.+in_some.{statement}
 use Rattle.cut.proofs.+in_some.Tie.{close}
 
 abbrev μ-in-some : Measures 4 in-some-kinds.ps ℕ
-μ-in-some κs a = a .1 .1 .1 .1 .0
+μ-in-some κs a = a .1 .1 .1 .1 .1 .0
 
 -- what `in_some` is given at the measure t, and what a call of it asks below t
 abbrev in-some-at : ℕ → In 4 in-some-kinds.ps

@@ -2,7 +2,7 @@
 use native.Mathlib.Omega.{arith}
 use lib.ListN.{length}
 use borrow.Author.Needs.{needs}
-use Rattle.meaning.specs.Maps.{mapEntries}
+use Rattle.meaning.specs.Maps.{mapEntries, glyphEntries}
 use Rattle.cut.proofs.Says.{asks-plain, asks-chained, asks-ligatures, asks-pairs, asks-singles, tries-plain, tries-chained, tries-ligatures, tries-pairs, tries-singles}
 use Rattle.cut.proofs.cut_in.Statement.{statement}
 use Rattle.cut.proofs.cut_in.Tie as tie
@@ -36,31 +36,31 @@ returns : tie.Need-returns
 returns c =
     let k = c .before .before .before .before .before .before in
     let a = k .before .before .before .before .before .before .before .before .before .before .before .args in
-    tries-plain (a .kind) (a .src .now) (mapEntries (a .glyphs .now)) (mapEntries (a .lookups .now)) (length (a .t .now)) (length (a .area .now)) (k .context-in .result) (a .out .now) (k .context-in .last .1 .1 .1 .1 .1 .1 .0) (omega arith) (k .context-in .ensures)
+    tries-plain (a .kind) (a .src .now) (glyphEntries (a .form) (a .glyphs .now)) (mapEntries (a .lookups .now)) (length (a .t .now)) (length (a .area .now)) (k .context-in .result) (a .out .now) (k .context-in .last .1 .1 .1 .1 .1 .1 .1 .0) (omega arith) (k .context-in .ensures)
 
 returns-2 : tie.Need-returns-2
 returns-2 c =
     let k = c .before .before .before .before .before .before in
     let a = k .before .before .before .before .before .before .before .before .before .before .before .args in
-    tries-chained (a .kind) (a .src .now) (mapEntries (a .glyphs .now)) (mapEntries (a .lookups .now)) (length (a .t .now)) (length (a .area .now)) (k .context-in2 .result) (a .out .now) (k .context-in2 .last .1 .1 .1 .1 .1 .1 .0) (omega arith) (k .context-in2 .ensures)
+    tries-chained (a .kind) (a .src .now) (glyphEntries (a .form) (a .glyphs .now)) (mapEntries (a .lookups .now)) (length (a .t .now)) (length (a .area .now)) (k .context-in2 .result) (a .out .now) (k .context-in2 .last .1 .1 .1 .1 .1 .1 .1 .0) (omega arith) (k .context-in2 .ensures)
 
 returns-3 : tie.Need-returns-3
 returns-3 c =
     let k = c .before .before .before .before .before .before in
     let a = k .before .before .before .before .before .before .before .before .before .before .before .args in
-    tries-ligatures (a .kind) (a .src .now) (mapEntries (a .glyphs .now)) (mapEntries (a .lookups .now)) (length (a .t .now)) (length (a .area .now)) (k .ligatures .result) (a .out .now) (k .ligatures .last .1 .1 .1 .1 .0) (omega arith) (k .ligatures .ensures)
+    tries-ligatures (a .kind) (a .src .now) (glyphEntries (a .form) (a .glyphs .now)) (mapEntries (a .lookups .now)) (length (a .t .now)) (length (a .area .now)) (k .ligatures .result) (a .out .now) (k .ligatures .last .1 .1 .1 .1 .1 .0) (omega arith) (k .ligatures .ensures)
 
 returns-4 : tie.Need-returns-4
 returns-4 c =
     let k = c .before .before .before .before .before .before in
     let a = k .before .before .before .before .before .before .before .before .before .before .before .args in
-    tries-pairs (a .kind) (a .src .now) (mapEntries (a .glyphs .now)) (mapEntries (a .lookups .now)) (length (a .t .now)) (length (a .area .now)) (k .pairs-in .result) (a .out .now) (k .pairs-in .last .1 .1 .1 .1 .0) (omega arith) (k .pairs-in .ensures)
+    tries-pairs (a .kind) (a .src .now) (glyphEntries (a .form) (a .glyphs .now)) (mapEntries (a .lookups .now)) (length (a .t .now)) (length (a .area .now)) (k .pairs-in .result) (a .out .now) (k .pairs-in .last .1 .1 .1 .1 .1 .0) (omega arith) (k .pairs-in .ensures)
 
 returns-5 : tie.Need-returns-5
 returns-5 c =
     let k = c .before .before .before .before .before .before in
     let a = k .before .before .before .before .before .before .before .before .before .before .before .args in
-    tries-singles (a .kind) (a .src .now) (mapEntries (a .glyphs .now)) (mapEntries (a .lookups .now)) (length (a .t .now)) (length (a .area .now)) (k .singles .result) (a .out .now) (k .singles .last .1 .1 .1 .1 .0) (omega arith) (omega arith) (omega arith) (omega arith) (k .singles .ensures)
+    tries-singles (a .kind) (a .src .now) (glyphEntries (a .form) (a .glyphs .now)) (mapEntries (a .lookups .now)) (length (a .t .now)) (length (a .area .now)) (k .singles .result) (a .out .now) (k .singles .last .1 .1 .1 .1 .1 .0) (omega arith) (omega arith) (omega arith) (omega arith) (k .singles .ensures)
 
 pub cut-in-spec : {M : Type 1} → statement M
 cut-in-spec =

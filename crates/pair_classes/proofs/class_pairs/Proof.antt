@@ -1,6 +1,6 @@
 use mathlib.Core.List.{[]}
 use borrow.Author.Needs.{needs}
-use Rattle.meaning.specs.Maps.{mapEntries}
+use Rattle.meaning.specs.Maps.{glyphEntries}
 use Rattle.meaning.specs.Tables.{pairTable}
 use Rattle.meaning.specs.Cut.{cut}
 use Rattle.meaning.specs.Subset.{written}
@@ -21,7 +21,7 @@ returns : tie.Need-returns
 returns c =
     let a = c .before .before .before .before .before .before .before .before .before .before .before .before .before .before .before .before .before .args in
     let k = c .before .before .before .before .before .before .cut-in in
-    front-tries (a .area .now) (c .before .before .before .before .before .before .before .before .before .before .front .ensures) (a .t .now) (k .result) (a .out .now) (k .last .1 .1 .1 .1 .0) (written (a .out .now) (cut (mapEntries (a .glyphs .now)) [] (pairTable (a .src .now)))) (k .ensures)
+    front-tries (a .area .now) (c .before .before .before .before .before .before .before .before .before .before .front .ensures) (a .t .now) (k .result) (a .out .now) (k .last .1 .1 .1 .1 .1 .0) (written (a .out .now) (cut (glyphEntries (a .form) (a .glyphs .now)) [] (pairTable (a .src .now)))) (k .ensures)
 
 pub class-pairs-spec : {M : Type 1} → statement M
 class-pairs-spec =

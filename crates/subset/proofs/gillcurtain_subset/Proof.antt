@@ -15,13 +15,13 @@ one-number-requires : tie.Need-one-number-requires
 one-number-requires c κs =
     let s = c .before .before in
     let a = s .before .before .before .before .before .before .args in
-    length-most (a .kind) (a .source .now) (a .glyphs .now) (a .lookups .now) (a .out .now) (s .subset .result) (s .subset .ensures) (source-bytes s)
+    length-most (a .kind) (a .form) (a .layout) (a .source .now) (a .glyphs .now) (a .lookups .now) (a .out .now) (s .subset .result) (s .subset .ensures) (source-bytes s)
 
 returns : tie.Need-returns
 returns c =
     let s = c .before .before .before in
     let a = s .before .before .before .before .before .before .args in
-    code-says (a .kind) (a .source .now) (a .glyphs .now) (a .lookups .now) (a .out .now) (s .subset .result) (s .subset .ensures) (source-bytes s) (c .one-number .ensures)
+    code-says (a .kind) (a .form) (a .layout) (a .source .now) (a .glyphs .now) (a .lookups .now) (a .out .now) (s .subset .result) (s .subset .ensures) (source-bytes s) (c .one-number .ensures)
 
 pub gillcurtain-subset-spec : {M : Type 1} → statement M
 gillcurtain-subset-spec =

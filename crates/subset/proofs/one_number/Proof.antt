@@ -1,4 +1,4 @@
--- `subset::one_number` meets its contract: no number is over 12, and the length is short. Assumes nothing.
+-- `subset::one_number` meets its contract: no number is over 14, and the length is short. Assumes nothing.
 use native.Mathlib.Omega.{arith}
 use borrow.Author.Needs.{needs}
 use Rattle.subset.proofs.Coded.{number-most}

@@ -1,6 +1,5 @@
 -- `subset::too_long` meets its contract. Assumes nothing.
 use mathlib.Core.Path.{refl}
-use borrow.Author.Needs.{needs}
 use Rattle.meaning.specs.Subset.{limit}
 use Rattle.subset.proofs.too_long.Statement.{statement}
 use Rattle.subset.proofs.too_long.Tie as tie

@@ -1,0 +1,4 @@
+pub mod Rows
+pub mod Spans
+pub mod Seeking
+pub mod Forms
