@@ -1,18 +1,20 @@
 /* Times the exported calls on job files.
  *
- *   bench MILLISECONDS job...
+ *   bench [--packed] MILLISECONDS job...
  *
  * For each job: its kind, the source's bytes, the retained glyphs, the answer
  * with its length, and nanoseconds of processor time a call (the fastest batch
  * counts), with scratch of its own and with lent scratch. Buffer and scratch
- * are lent anew for each call and not cleared. A file may be longer than a
+ * are lent anew for each call and not cleared. With --packed the calls are for
+ * the packed layout, and else for the plain one. A file may be longer than a
  * label job: the calls have no limit but that of the source. Its glyph map is of
  * pairs or of runs, as its tag says.
  *
  * Compiled with WITH_HARFBUZZ, and linked with HarfBuzz's own cut of a subtable
  * behind the functions of hbx.h, it times that too, batch by batch in turn, and
- * prints nanoseconds of it and how many times as long the calls take. HarfBuzz
- * gets a map of runs spelled out in pairs, which is not timed. */
+ * prints nanoseconds of it, how many times as long the calls take, and the bytes
+ * that it keeps. HarfBuzz gets a map of runs spelled out in pairs, which is not
+ * timed. */
 #include <stdio.h>
 #include <stdlib.h>
 #include <string.h>
@@ -28,7 +30,7 @@ enum { TRAILER = 30, ROOM = 262144, GLYPHS = 65536 };
 struct part { const uint8_t *at; size_t len; };
 struct job
 {
-  unsigned kind, form;
+  unsigned kind, form, layout;
   struct part source, glyphs, lookups, pairs;
   uint8_t *out, *scratch;
 #ifdef WITH_HARFBUZZ
@@ -46,26 +48,27 @@ struct way
   double best;
 };
 
-static uint64_t cut_plain (const struct job *j)
+static uint64_t cut_own (const struct job *j)
 {
-  return gillcurtain_subset (j->kind, j->form, GILLCURTAIN_PLAIN, j->source.at, j->source.len,
+  return gillcurtain_subset (j->kind, j->form, j->layout, j->source.at, j->source.len,
                              j->glyphs.at, j->glyphs.len, j->lookups.at, j->lookups.len, j->out, ROOM);
 }
 
 static uint64_t cut_lent (const struct job *j)
 {
-  return gillcurtain_subset_with (j->kind, j->form, GILLCURTAIN_PLAIN, j->source.at, j->source.len,
+  return gillcurtain_subset_with (j->kind, j->form, j->layout, j->source.at, j->source.len,
                                   j->glyphs.at, j->glyphs.len, j->lookups.at, j->lookups.len,
                                   j->scratch, GILLCURTAIN_SCRATCH, j->out, ROOM);
 }
 
 #ifdef WITH_HARFBUZZ
-/* What the call does: both maps, the check and the cut. */
+/* What the call does: both maps, the check and the cut; the bytes that are kept. */
 static uint64_t cut_harfbuzz (const struct job *j)
 {
-  unsigned length;
+  unsigned length = 0;
   hbx_maps (j->harfbuzz, j->pairs.at, j->pairs.len, j->lookups.at, j->lookups.len);
-  return hbx_subset (j->harfbuzz, j->kind, j->source.at, j->source.len, 1, j->out, ROOM, &length);
+  hbx_subset (j->harfbuzz, j->kind, j->source.at, j->source.len, 1, j->out, ROOM, &length);
+  return length;
 }
 #endif
 
@@ -170,23 +173,26 @@ int main (int argc, char **argv)
   static uint8_t out[ROOM];
   uint8_t *scratch = malloc (GILLCURTAIN_SCRATCH);
   struct way ways[] = {
-    { .name = "own", .cut = cut_plain },
+    { .name = "own", .cut = cut_own },
     { .name = "lent", .cut = cut_lent },
 #ifdef WITH_HARFBUZZ
     { .name = "HarfBuzz", .cut = cut_harfbuzz },
 #endif
   };
   const unsigned n = sizeof ways / sizeof *ways;
-  if (argc < 3) { fprintf (stderr, "usage: bench MILLISECONDS job...\n"); return 2; }
+  unsigned layout = GILLCURTAIN_PLAIN;
+  if (argc > 1 && !strcmp (argv[1], "--packed")) { layout = GILLCURTAIN_PACKED; argc--; argv++; }
+  if (argc < 3) { fprintf (stderr, "usage: bench [--packed] MILLISECONDS job...\n"); return 2; }
   if (!scratch) { perror ("malloc"); return 1; }
   printf ("# job\tkind\tin\tglyphs\tanswer\tlength");
   for (unsigned w = 0; w < n; w++) printf ("\t%s", ways[w].name);
   for (unsigned w = 0; w < 2 && 2 < n; w++) printf ("\t%s / %s", ways[w].name, ways[2].name);
+  if (2 < n) printf ("\t%s's length", ways[2].name);
   printf ("\n");
   for (int a = 2; a < argc; a++)
   {
     const char *slash = strrchr (argv[a], '/'), *name = slash ? slash + 1 : argv[a];
-    struct job job = { .out = out, .scratch = scratch };
+    struct job job = { .layout = layout, .out = out, .scratch = scratch };
     size_t len;
     uint8_t *file = read_file (argv[a], &len);
     if (!read_job (file, len, &job)) { printf ("%s\tfaulty\n", name); free (file); continue; }
@@ -200,6 +206,7 @@ int main (int argc, char **argv)
             gillcurtain_number (ways[0].result), gillcurtain_length (ways[0].result));
     for (unsigned w = 0; w < n; w++) printf ("\t%.0f", ways[w].best);
     for (unsigned w = 0; w < 2 && 2 < n; w++) printf ("\t%.2f", ways[w].best / ways[2].best);
+    if (2 < n) printf ("\t%zu", (size_t) ways[2].result);
     printf ("\n");
     fflush (stdout);
 #ifdef WITH_HARFBUZZ

@@ -1,8 +1,9 @@
 /* Cuts the first worked example, P1, and says in words what came back: a
  * context by glyph with three rules, of which the maps leave two. Cuts it again
- * with the glyph map as runs, and a context that covers a long run of glyphs.
- * Then replays three recorded runs over one lookup, after asking what that may
- * cost. Last, lists what differs between P1 and what is kept of it. */
+ * with the glyph map as runs, a context that covers a long run of glyphs, and in
+ * both layouts a chained context that has one coverage at three places. Then
+ * replays three recorded runs over one lookup, after asking what that may cost.
+ * Last, lists what differs between P1 and what is kept of it. */
 #include <stdio.h>
 #include <stdlib.h>
 #include "gillcurtain.h"
@@ -24,7 +25,7 @@ static const char *const meaning[] = {
   [GILLCURTAIN_KEPT] = "kept",
   [GILLCURTAIN_BAD_KIND] = "the kind is none of 1 to 5",
   [GILLCURTAIN_BAD_FORM] = "the glyph map is neither of pairs nor of runs",
-  [GILLCURTAIN_BAD_LAYOUT] = "the layout is not the plain one",
+  [GILLCURTAIN_BAD_LAYOUT] = "the layout is neither the plain nor the packed one",
   [GILLCURTAIN_BAD_GLYPHS] = "the glyph map is not good",
   [GILLCURTAIN_BAD_LOOKUPS] = "the lookup map is not good",
   [GILLCURTAIN_LONG_SOURCE] = "the source is over 262,144 bytes",
@@ -99,6 +100,32 @@ static int cut_wide (uint8_t *out, size_t room)
   return 1;
 }
 
+/* A chained context with glyphs 3 and 5 before, at and after the place, by one coverage. */
+static const uint8_t thrice[] = {
+  0, 3, 0, 1, 0, 16, 0, 1, 0, 16, 0, 1, 0, 16, 0, 0,   /* format 3, three places, no record */
+  0, 1, 0, 2, 0, 3, 0, 5                               /* the coverage: 3 5 */
+};
+
+/* Cuts it into `out` in a layout; how long it becomes, 0 if it is refused. */
+static size_t cut_thrice (enum gillcurtain_layout layout, uint8_t *out, size_t room)
+{
+  uint64_t result = gillcurtain_subset (GILLCURTAIN_CHAINED, GILLCURTAIN_PAIRS, layout, thrice, sizeof thrice,
+                                        glyphs, sizeof glyphs, lookups, sizeof lookups, out, room);
+  return gillcurtain_number (result) == GILLCURTAIN_KEPT ? gillcurtain_length (result) : 0;
+}
+
+/* Cuts it in both layouts, which say the same; the packed one has the coverage once. */
+static int cut_packed (void)
+{
+  uint8_t plain[64], packed[64];
+  size_t plain_len = cut_thrice (GILLCURTAIN_PLAIN, plain, sizeof plain);
+  size_t packed_len = cut_thrice (GILLCURTAIN_PACKED, packed, sizeof packed);
+  uint64_t differences = gillcurtain_compare (GILLCURTAIN_CHAINED, plain, plain_len, packed, packed_len, NULL, 0);
+  printf ("one coverage at three places: %zu bytes plain, %zu packed\n", plain_len, packed_len);
+  print (packed, packed_len);
+  return packed_len && packed_len <= plain_len && differences == 0;
+}
+
 /* One lookup, kind 5, which puts glyph 6 for glyph 5; of the three runs the last was not recorded so. */
 static const uint8_t list[] = { 0, 5, 0, 0, 0, 0, 0, 0, 0, 12 };
 static const uint8_t buffer[] = { 0, 1, 0, 6, 0, 1, 0, 1, 0, 1, 0, 5 };
@@ -159,5 +186,6 @@ int main (void)
   if (gillcurtain_number (result) != GILLCURTAIN_KEPT) return 1;
   print (out, gillcurtain_length (result));
   uint8_t small[sizeof wide];
-  return cut_wide (small, sizeof small) && replay () && differ (out, gillcurtain_length (result)) ? 0 : 1;
+  if (!cut_wide (small, sizeof small) || !cut_packed ()) return 1;
+  return replay () && differ (out, gillcurtain_length (result)) ? 0 : 1;
 }

@@ -51,7 +51,8 @@ enum gillcurtain_form {
 
 /* The layouts of what is kept. */
 enum gillcurtain_layout {
-  GILLCURTAIN_PLAIN = 0         /* no part is shared */
+  GILLCURTAIN_PLAIN = 0,        /* no part is shared */
+  GILLCURTAIN_PACKED = 1        /* equal sets, coverages and class tables are written once */
 };
 
 /* The answers. Where several apply, the first of 1, 13, 14, 2 to 7, 12, 8, 9, 10 is given, in that order. */
@@ -65,7 +66,7 @@ enum gillcurtain_answer {
   GILLCURTAIN_MALFORMED = 6,    /* the length is the place: where the lowest faulty part starts */
   GILLCURTAIN_DEVICE = 7,       /* a device table or variation index */
   GILLCURTAIN_NOTHING = 8,      /* nothing survives */
-  GILLCURTAIN_TOO_BIG = 9,      /* it would be over 262,144 bytes, or an offset or a count over 65,535 */
+  GILLCURTAIN_TOO_BIG = 9,      /* in this layout: over 262,144 bytes, or an offset or a count over 65,535 */
   GILLCURTAIN_NO_ROOM = 10,     /* `out` is too short; the length is what is needed */
   GILLCURTAIN_PAST_RULE = 12,   /* a record's sequence index is not below its rule's input count */
   GILLCURTAIN_BAD_FORM = 13,    /* no form of a glyph map has this mark */
@@ -77,7 +78,7 @@ enum gillcurtain_answer {
 #define GILLCURTAIN_STACK (14u << 18)
 
 /* The same where GILLCURTAIN_SCRATCH bytes of scratch are lent. */
-#define GILLCURTAIN_LITTLE_STACK (1u << 18)
+#define GILLCURTAIN_LITTLE_STACK (5u << 16)
 
 /* The scratch that is enough for any call: so many cells of 32 bits, so many
  * bytes of area, and both in one piece. */
@@ -93,7 +94,10 @@ enum gillcurtain_answer {
  * starts in both after the run before it has ended; all 65,536 glyphs take two.
  * A map gives the same bytes in either form.
  * The small subtable is written to the front of `out`, in this layout; bytes
- * after it keep what they held, and a refusal writes nothing.
+ * after it keep what they held, and a refusal writes nothing. In the packed
+ * layout a set with its rules, a coverage or a class table that is equal to an
+ * earlier one of its kind is not written again: the header points to the earlier
+ * one. It says the same as the plain layout, and is never longer.
  * The result is the answer times 2^56, plus the length, which is 0 with every
  * refusal but two: with GILLCURTAIN_NO_ROOM it is what is needed, and with
  * GILLCURTAIN_MALFORMED it is the place of the fault, in bytes from the

@@ -2,8 +2,8 @@
  *
  * Each part in turn is empty and its pointer null; marks differ from good ones
  * by 2^32. Then tables of each kind, among them a chained context by class whose
- * classes share their rules, are cut under maps of all glyphs, as pairs, as two
- * runs and as runs of one, and compared with themselves, with scratch of the
+ * classes share their rules, are cut in both layouts under maps of all glyphs, as
+ * pairs, as two runs and as runs of one, and compared with themselves, with scratch of the
  * call's own, with lent scratch and with too little of it. Each call runs on as
  * much stack as the header says, above pages that nobody may touch, which was
  * filled before; the most that was used of it is printed. */
@@ -17,8 +17,9 @@
 
 enum { GLYPHS = 65536, PAGE = 4096, MORE = 64 * PAGE, FILL = 0xA5 };
 
-/* The length of what is kept of `source`, where no part is shared, and of a lookup record. */
-enum { KEPT = 68, RECORD = 4 };
+/* The length of what is kept of `source`, where no part is shared, and where the three class tables are one, and the
+ * length of a lookup record. */
+enum { KEPT = 68, PACKED = 52, RECORD = 4 };
 
 /* Glyph 1 is covered and of class 1; its one rule, of class 1 before, at and
  * after the place, runs a lookup. */
@@ -112,12 +113,13 @@ static void bad_marks (void)
 {
   const uint64_t high = (uint64_t) 1 << 32;
   uint8_t out[KEPT];
-  expect ("a kind", gillcurtain_subset (high + GILLCURTAIN_CHAINED, 0, 1, source, sizeof source,
+  expect ("a kind", gillcurtain_subset (high + GILLCURTAIN_CHAINED, 0, 2, source, sizeof source,
                                         lookup, 1, lookup, sizeof lookup, out, KEPT), GILLCURTAIN_BAD_KIND, 0);
   expect ("a form", gillcurtain_subset (GILLCURTAIN_CHAINED, high + GILLCURTAIN_PAIRS, high, source, sizeof source,
                                         lookup, 1, lookup, sizeof lookup, out, KEPT), GILLCURTAIN_BAD_FORM, 0);
-  expect ("a layout", gillcurtain_subset (GILLCURTAIN_CHAINED, GILLCURTAIN_RUNS, high, source, sizeof source,
-                                          lookup, 1, lookup, sizeof lookup, out, KEPT), GILLCURTAIN_BAD_LAYOUT, 0);
+  expect ("a layout", gillcurtain_subset (GILLCURTAIN_CHAINED, GILLCURTAIN_RUNS, high + GILLCURTAIN_PACKED, source,
+                                          sizeof source, lookup, 1, lookup, sizeof lookup, out, KEPT),
+          GILLCURTAIN_BAD_LAYOUT, 0);
 }
 
 /* Tables that say little, for calls that go deep since the map is long. */
@@ -130,15 +132,18 @@ static const uint8_t cells[] = {
 };
 static const uint8_t singles[] = { 0, 1, 0, 6, 0, 0, 0, 1, 0, 1, 0, 1 };
 
-/* With each the length of what is kept, and the answer where it is compared with itself. */
-static const struct { const char *name; unsigned kind; const uint8_t *at; size_t len, kept; unsigned compared; } deep[] = {
-  { "chained by class", GILLCURTAIN_CHAINED, shared, sizeof shared, KEPT, GILLCURTAIN_KEPT },
-  { "by glyph", GILLCURTAIN_CONTEXT, by_glyph, sizeof by_glyph, sizeof by_glyph, GILLCURTAIN_KEPT },
-  { "by cover", GILLCURTAIN_CONTEXT, by_cover, sizeof by_cover, sizeof by_cover, GILLCURTAIN_KEPT },
-  { "ligatures", GILLCURTAIN_LIGATURE, ligatures, sizeof ligatures, sizeof ligatures, GILLCURTAIN_KEPT },
-  { "pairs", GILLCURTAIN_PAIR, pairs, sizeof pairs, sizeof pairs, GILLCURTAIN_KEPT },
-  { "pairs by class", GILLCURTAIN_PAIR, cells, sizeof cells, sizeof cells, GILLCURTAIN_BAD_FORMAT },
-  { "singles", GILLCURTAIN_SINGLE, singles, sizeof singles, sizeof singles, GILLCURTAIN_BAD_KIND }
+/* With each the length of what is kept in the plain layout, how much shorter the packed one is, and the answer where it
+ * is compared with itself. The two class tables of `cells` are equal. */
+static const struct {
+  const char *name; unsigned kind; const uint8_t *at; size_t len, kept, shorter; unsigned compared;
+} deep[] = {
+  { "chained by class", GILLCURTAIN_CHAINED, shared, sizeof shared, KEPT, KEPT - PACKED, GILLCURTAIN_KEPT },
+  { "by glyph", GILLCURTAIN_CONTEXT, by_glyph, sizeof by_glyph, sizeof by_glyph, 0, GILLCURTAIN_KEPT },
+  { "by cover", GILLCURTAIN_CONTEXT, by_cover, sizeof by_cover, sizeof by_cover, 0, GILLCURTAIN_KEPT },
+  { "ligatures", GILLCURTAIN_LIGATURE, ligatures, sizeof ligatures, sizeof ligatures, 0, GILLCURTAIN_KEPT },
+  { "pairs", GILLCURTAIN_PAIR, pairs, sizeof pairs, sizeof pairs, 0, GILLCURTAIN_KEPT },
+  { "pairs by class", GILLCURTAIN_PAIR, cells, sizeof cells, sizeof cells, 4, GILLCURTAIN_BAD_FORMAT },
+  { "singles", GILLCURTAIN_SINGLE, singles, sizeof singles, sizeof singles, 0, GILLCURTAIN_BAD_KIND }
 };
 enum { DEEP = sizeof deep / sizeof *deep };
 
@@ -156,18 +161,23 @@ struct way {
 /* A call, of which table and under which map, on a stack that begins at `stack`, and what it used of it. */
 struct run { const struct way *way; unsigned which, map; uint8_t *stack; size_t used; };
 
-static void cut (const struct run *run, uint8_t *out)
+static void cut (const struct run *run, unsigned layout, uint8_t *out)
 {
   const struct way *way = run->way;
   unsigned which = run->which, map = run->map;
   uint64_t result = way->scratch
-    ? gillcurtain_subset_with (deep[which].kind, maps[map].form, GILLCURTAIN_PLAIN, deep[which].at, deep[which].len,
+    ? gillcurtain_subset_with (deep[which].kind, maps[map].form, layout, deep[which].at, deep[which].len,
                                maps[map].at, maps[map].len, lookups, sizeof lookups,
                                way->scratch, way->scratch_len, out, KEPT)
-    : gillcurtain_subset (deep[which].kind, maps[map].form, GILLCURTAIN_PLAIN, deep[which].at, deep[which].len,
+    : gillcurtain_subset (deep[which].kind, maps[map].form, layout, deep[which].at, deep[which].len,
                           maps[map].at, maps[map].len, lookups, sizeof lookups, out, KEPT);
-  expect (deep[which].name, result, GILLCURTAIN_KEPT, deep[which].kept);
+  size_t shorter = layout == GILLCURTAIN_PACKED ? deep[which].shorter : 0;
+  expect (deep[which].name, result, GILLCURTAIN_KEPT, deep[which].kept - shorter);
 }
+
+static void cut_plain (const struct run *run, uint8_t *out) { cut (run, GILLCURTAIN_PLAIN, out); }
+
+static void cut_packed (const struct run *run, uint8_t *out) { cut (run, GILLCURTAIN_PACKED, out); }
 
 static void compare (const struct run *run, uint8_t *out)
 {
@@ -229,9 +239,12 @@ int main (void)
   static uint32_t compare_scratch[GILLCURTAIN_COMPARE_CELLS];
   uint8_t *lent = (uint8_t *) compare_scratch;
   const struct way ways[] = {
-    { "own scratch", cut, MAPS, NULL, 0, GILLCURTAIN_STACK },
-    { "lent scratch", cut, MAPS, scratch, sizeof scratch, GILLCURTAIN_LITTLE_STACK },
-    { "too little scratch", cut, MAPS, scratch, 64, GILLCURTAIN_STACK },
+    { "own scratch", cut_plain, MAPS, NULL, 0, GILLCURTAIN_STACK },
+    { "lent scratch", cut_plain, MAPS, scratch, sizeof scratch, GILLCURTAIN_LITTLE_STACK },
+    { "too little scratch", cut_plain, MAPS, scratch, 64, GILLCURTAIN_STACK },
+    { "packed, own scratch", cut_packed, MAPS, NULL, 0, GILLCURTAIN_STACK },
+    { "packed, lent scratch", cut_packed, MAPS, scratch, sizeof scratch, GILLCURTAIN_LITTLE_STACK },
+    { "packed, too little scratch", cut_packed, MAPS, scratch, 64, GILLCURTAIN_STACK },
     { "compared, own scratch", compare, 1, NULL, 0, GILLCURTAIN_COMPARE_STACK },
     { "compared, lent scratch", compare, 1, lent, sizeof compare_scratch, GILLCURTAIN_LITTLE_STACK },
     { "compared, too little scratch", compare, 1, lent, sizeof compare_scratch - 4, GILLCURTAIN_COMPARE_STACK }

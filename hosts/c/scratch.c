@@ -1,7 +1,7 @@
 /* Holds the call with lent scratch to the call without: the same answer and the
  * same buffer, for one piece of scratch of many lengths and of each alignment,
- * from none to more than enough, whatever it holds, and for glyph maps of pairs
- * and of runs; and nothing beside the piece is written. */
+ * from none to more than enough, whatever it holds, for glyph maps of pairs and of
+ * runs and for both layouts; and nothing beside the piece is written. */
 #include <stdio.h>
 #include <stdlib.h>
 #include <string.h>
@@ -72,35 +72,36 @@ static int filled (const uint8_t *at, size_t n)
   return n == 0;
 }
 
-/* Whether the call with the piece of scratch answers as the one without, into a buffer of `room` bytes. */
-static int same (unsigned which, const struct map *map, uint8_t *scratch, size_t len, size_t room)
+/* Whether the call with the piece of scratch answers as the one without, in this layout, into a buffer of `room` bytes. */
+static int same (unsigned which, const struct map *map, unsigned layout, uint8_t *scratch, size_t len, size_t room)
 {
-  uint8_t plain[ROOM], with[ROOM];
-  memset (plain, FILL, ROOM);
+  uint8_t without[ROOM], with[ROOM];
+  memset (without, FILL, ROOM);
   memset (with, FILL, ROOM);
   memset (scratch - BESIDE, FILL, len + 2 * BESIDE);
-  uint64_t expected = gillcurtain_subset (sources[which].kind, map->form, GILLCURTAIN_PLAIN,
+  uint64_t expected = gillcurtain_subset (sources[which].kind, map->form, layout,
                                           sources[which].at, sources[which].len, map->at, map->len,
-                                          lookups, sizeof lookups, plain, room);
-  uint64_t result = gillcurtain_subset_with (sources[which].kind, map->form, GILLCURTAIN_PLAIN,
+                                          lookups, sizeof lookups, without, room);
+  uint64_t result = gillcurtain_subset_with (sources[which].kind, map->form, layout,
                                              sources[which].at, sources[which].len, map->at, map->len,
                                              lookups, sizeof lookups, scratch, len, with, room);
-  if (result == expected && !memcmp (plain, with, ROOM)
+  if (result == expected && !memcmp (without, with, ROOM)
       && filled (scratch - BESIDE, BESIDE) && filled (scratch + len, BESIDE)) return 1;
-  printf ("%s, %zu %s, scratch of %zu bytes, buffer of %zu: answer %u, length %zu\n", sources[which].name,
-          map->len / map->form, map->name, len, room, gillcurtain_number (result), gillcurtain_length (result));
+  printf ("%s, %zu %s, layout %u, scratch of %zu bytes, buffer of %zu: answer %u, length %zu\n", sources[which].name,
+          map->len / map->form, map->name, layout, len, room, gillcurtain_number (result), gillcurtain_length (result));
   return 0;
 }
 
-/* Every source under this map, with scratch of every length and alignment, into buffers of some lengths in turn. */
-static unsigned all_scratch (const struct map *map, uint8_t *piece, unsigned *calls)
+/* Every source under this map, in this layout, with scratch of every length and alignment, into buffers of some lengths
+ * in turn. */
+static unsigned all_scratch (const struct map *map, unsigned layout, uint8_t *piece, unsigned *calls)
 {
   static const size_t rooms[] = { 0, 20, ROOM };
   unsigned faults = 0;
   for (unsigned which = 0; which < sizeof sources / sizeof *sources; which++)
     for (unsigned l = 0; l < sizeof lengths / sizeof *lengths; l++)
       for (unsigned shift = 0; shift < 4; shift++, ++*calls)
-        faults += !same (which, map, piece + BESIDE + shift, lengths[l], rooms[*calls % 3]);
+        faults += !same (which, map, layout, piece + BESIDE + shift, lengths[l], rooms[*calls % 3]);
   return faults;
 }
 
@@ -116,7 +117,8 @@ int main (void)
     for (unsigned g = 0; g < sizeof glyphs / sizeof *glyphs; g++)
     {
       one_more (&map, forms[f], glyphs[g]);
-      faults += all_scratch (&map, piece, &calls);
+      faults += all_scratch (&map, GILLCURTAIN_PLAIN, piece, &calls);
+      faults += all_scratch (&map, GILLCURTAIN_PACKED, piece, &calls);
     }
   one_more (&map, GILLCURTAIN_PAIRS, 4);
   uint64_t none = gillcurtain_subset_with (GILLCURTAIN_PAIR, map.form, GILLCURTAIN_PLAIN, pairs, sizeof pairs,

@@ -1,10 +1,11 @@
 //! Cuts the first worked example, P1, and says in words what came back: a context by glyph with
-//! three rules, of which the maps leave two. Cuts it again with the glyph map as runs, and a context
-//! that covers a long run of glyphs. Then replays three recorded runs over one lookup, after asking
-//! what that may cost. Last, lists what differs between P1 and what is kept of it.
+//! three rules, of which the maps leave two. Cuts it again with the glyph map as runs, a context that
+//! covers a long run of glyphs, and in both layouts a chained context that has one coverage at three
+//! places. Then replays three recorded runs over one lookup, after asking what that may cost. Last,
+//! lists what differs between P1 and what is kept of it.
 
 use gillcurtain::{compare, differences, replay, replay_cost, subset};
-use gillcurtain::{Answer, Compared, Comparer, Glyphs, Subsetter, CONTEXT};
+use gillcurtain::{Answer, Compared, Comparer, Glyphs, Layout, Subsetter, CHAINED, CONTEXT};
 
 const SOURCE: [u16; 28] = [
     1, 48, 2, 10, 36, // format 1, coverage, two sets
@@ -22,6 +23,12 @@ const LOOKUPS: [u16; 4] = [4, 0, 7, 2];
 // Glyphs 1000 to 1999 become 0 to 999: one run. Of the covered glyphs 990 to 1009 ten are retained.
 const WIDE: [u16; 9] = [3, 1, 0, 8, 2, 1, 990, 1009, 0];
 const THOUSAND: [u16; 3] = [1000, 0, 1000];
+
+// A chained context with glyphs 3 and 5 before, at and after the place, by one coverage.
+const THRICE: [u16; 12] = [
+    3, 1, 16, 1, 16, 1, 16, 0, // format 3, three places, no record
+    1, 2, 3, 5, // the coverage: 3 5
+];
 
 // One lookup, kind 5, which puts glyph 6 for glyph 5; of the three runs the last was not recorded so.
 const LIST: [u16; 5] = [5, 0, 0, 0, 12];
@@ -46,20 +53,42 @@ fn say(length: usize, room: usize, how: &str, answer: Answer) -> Answer {
 /// Cuts the first so many words of P1 into `out`.
 fn cut(words: usize, out: &mut [u8]) -> Answer {
     let source = bytes(&SOURCE[..words]);
-    let answer = subset(CONTEXT, &source, Glyphs::Pairs(&bytes(&GLYPHS)), &bytes(&LOOKUPS), out);
+    let glyphs = bytes(&GLYPHS);
+    let answer = subset(CONTEXT, Layout::Plain, &source, Glyphs::Pairs(&glyphs), &bytes(&LOOKUPS), out);
     say(source.len(), out.len(), "", answer)
 }
 
 /// Cuts P1 into `out` with the glyph map as runs.
 fn cut_by_runs(out: &mut [u8]) -> Answer {
     let source = bytes(&SOURCE);
-    let answer = subset(CONTEXT, &source, Glyphs::Runs(&bytes(&RUNS)), &bytes(&LOOKUPS), out);
+    let runs = bytes(&RUNS);
+    let answer = subset(CONTEXT, Layout::Plain, &source, Glyphs::Runs(&runs), &bytes(&LOOKUPS), out);
     say(source.len(), out.len(), " with the map as runs", answer)
 }
 
 /// Cuts P1 into `out` with lent scratch, which serves any number of calls.
 fn cut_with(subsetter: &mut Subsetter, out: &mut [u8]) -> Answer {
-    subsetter.subset(CONTEXT, &bytes(&SOURCE), Glyphs::Pairs(&bytes(&GLYPHS)), &bytes(&LOOKUPS), out)
+    let (source, glyphs) = (bytes(&SOURCE), bytes(&GLYPHS));
+    subsetter.subset(CONTEXT, Layout::Plain, &source, Glyphs::Pairs(&glyphs), &bytes(&LOOKUPS), out)
+}
+
+/// Cuts the chained context in a layout.
+fn cut_thrice(layout: Layout) -> Vec<u8> {
+    let (source, glyphs, mut out) = (bytes(&THRICE), bytes(&GLYPHS), vec![0; 64]);
+    match subset(CHAINED, layout, &source, Glyphs::Pairs(&glyphs), &bytes(&LOOKUPS), &mut out) {
+        Answer::Kept(n) => out.truncate(n),
+        _ => std::process::exit(1),
+    }
+    out
+}
+
+/// Cuts it in both layouts, which say the same; the packed one has the coverage once.
+fn cut_packed() {
+    let (plain, packed) = (cut_thrice(Layout::Plain), cut_thrice(Layout::Packed));
+    println!("one coverage at three places: {} bytes plain, {} packed", plain.len(), packed.len());
+    print(&packed);
+    assert!(packed.len() <= plain.len());
+    assert_eq!(compare(CHAINED, &plain, &packed, &mut []), Compared::Listed(0));
 }
 
 /// Prints bytes in lines of 16.
@@ -99,11 +128,13 @@ fn main() {
     };
     print(&room[..n]);
     let (run, mut small) = (bytes(&THOUSAND), [0; 18]);
-    let Answer::Kept(wide) = subset(CONTEXT, &bytes(&WIDE), Glyphs::Runs(&run), &[], &mut small) else {
+    let answer = subset(CONTEXT, Layout::Plain, &bytes(&WIDE), Glyphs::Runs(&run), &[], &mut small);
+    let Answer::Kept(wide) = answer else {
         std::process::exit(1);
     };
     println!("a run of 1000 glyphs, in {} bytes: answer 0, kept", run.len());
     print(&small[..wide]);
+    cut_packed();
     let cost = replay_cost(&bytes(&LIST), &bytes(&BUFFER));
     println!("cost: answer {}, at most {} lookups asked for each glyph", cost.number, cost.steps);
     let told = replay(&bytes(&LIST), &bytes(&BUFFER), &bytes(&TRACE));

@@ -17,8 +17,27 @@ pub const PAIR: u64 = 4;
 /// Single substitution.
 pub const SINGLE: u64 = 5;
 
-/// The mark of the plain layout, in which no part is shared.
-const PLAIN: u64 = 0;
+/// The layout of what is kept.
+#[derive(Clone, Copy, Debug, Default, PartialEq, Eq)]
+pub enum Layout {
+    /// No part is shared.
+    #[default]
+    Plain,
+    /// A set with its rules, a coverage or a class table that is equal to an earlier one of its kind
+    /// is not written again: the header points to the earlier one. It says the same as the plain
+    /// layout, and is never longer.
+    Packed,
+}
+
+impl Layout {
+    /// The mark of the layout.
+    fn mark(self) -> u64 {
+        match self {
+            Layout::Plain => 0,
+            Layout::Packed => 1,
+        }
+    }
+}
 
 /// A glyph map in one of its two forms. Numbers have two bytes, big-endian. Both columns, old and
 /// new, ascend, from entry to entry too. A map gives the same bytes in either form.
@@ -54,7 +73,7 @@ impl<'a> Glyphs<'a> {
 pub const STACK: usize = 14 << 18;
 
 /// The stack, in bytes, that a call of [`Subsetter::new`] may use at most: less than any thread has.
-pub const LITTLE_STACK: usize = 1 << 18;
+pub const LITTLE_STACK: usize = 5 << 16;
 
 /// The scratch that is enough for any call: so many cells of 32 bits, and so many bytes of area.
 const CELLS: usize = 655_360;
@@ -78,8 +97,9 @@ pub enum Answer {
     /// A record's sequence index is not below its rule's input count.
     PastRule,
     Nothing,
+    /// In this layout.
     TooBig,
-    /// The buffer is too short; so many bytes are needed.
+    /// The buffer is too short; so many bytes are needed in this layout.
     NoRoom(usize),
 }
 
@@ -262,15 +282,22 @@ pub fn replay_cost(list: &[u8], buffer: &[u8]) -> Cost {
 
 /// Cuts `source`, a subtable of this kind. `lookups` is a map: entries of four bytes, the old number
 /// and the new one, both big-endian, with the old numbers ascending. The small subtable is written
-/// in the plain layout. Bytes of `out` after it keep what they held, and a refusal writes nothing.
-pub fn subset(kind: u64, source: &[u8], glyphs: Glyphs, lookups: &[u8], out: &mut [u8]) -> Answer {
+/// in this layout. Bytes of `out` after it keep what they held, and a refusal writes nothing.
+pub fn subset(
+    kind: u64,
+    layout: Layout,
+    source: &[u8],
+    glyphs: Glyphs,
+    lookups: &[u8],
+    out: &mut [u8],
+) -> Answer {
     // SAFETY: each pointer comes with the length of its slice, `out` is lent to nobody else, and
     // nothing is asked of what the bytes are.
     let result = unsafe {
         gillcurtain_subset(
             kind,
             glyphs.form(),
-            PLAIN,
+            layout.mark(),
             source.as_ptr(),
             source.len(),
             glyphs.bytes().as_ptr(),
@@ -311,6 +338,7 @@ impl Subsetter {
     pub fn subset(
         &mut self,
         kind: u64,
+        layout: Layout,
         source: &[u8],
         glyphs: Glyphs,
         lookups: &[u8],
@@ -322,7 +350,7 @@ impl Subsetter {
             gillcurtain_subset_in(
                 kind,
                 glyphs.form(),
-                PLAIN,
+                layout.mark(),
                 source.as_ptr(),
                 source.len(),
                 glyphs.bytes().as_ptr(),

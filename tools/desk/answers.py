@@ -27,9 +27,10 @@ ANSWERS = {
     7: ("pair value format has a bit of 0x00F0",
         "The pairs have device or variation offsets, which are not covered. Take these out of the font first."),
     8: ("nothing survives", "No fault: leave this subtable out of the label's font."),
-    9: ("the plain layout is over 262,144 bytes, or an offset or a count in it over 65,535",
-        "Parts that the source shares are written out for each use. Retain fewer glyphs, or split the subtable."),
-    10: ("the buffer is shorter than the plain layout",
+    9: ("the layout asked for is over 262,144 bytes, or an offset or a count in it over 65,535",
+        "In the plain layout parts that the source shares are written out for each use: a call may ask for the packed "
+        "one. Else retain fewer glyphs, or split the subtable."),
+    10: ("the buffer is shorter than the layout asked for",
          "Lend a buffer of the length returned. Calls only: the program lends 262,144 bytes, which is always enough."),
     11: ("job file faulty (program only)",
          "`tools/job show` says why, and `tools/job make` makes sound ones. Was the file cut, or something added?"),
@@ -38,8 +39,8 @@ ANSWERS = {
          "ask its maker; `tools/job show` names the rule and the record."),
     13: ("the mark of the glyph map's form is neither 4 nor 6",
          "Give 4 for pairs or 6 for runs. Calls only: the tag of a job file, LSJ1 or LSJ2, says its form."),
-    14: ("the mark of the layout is not 0",
-         "Give 0, the plain layout. Calls only: the program always asks for that one."),
+    14: ("the mark of the layout is neither 0 nor 1",
+         "Give 0 for the plain layout or 1 for the packed one. Calls only: the program always asks for the plain one."),
 }
 
 # Which answer goes before which, where several apply.

@@ -65,6 +65,8 @@ def add_read(command):
     which.add_argument("--job", metavar="FILE", help="the job that was run; what changed is said too")
     which.add_argument("--kind", type=int, choices=sorted(KINDS), help="the kind, if the job is not at hand")
     one.add_argument("--all", action="store_true", help=ALL_HELP)
+    one.add_argument("--packed", action="store_true", help="the table kept as a call for the packed layout gives it: "
+                     "equal sets, coverages and class tables once; the program prints the plain layout")
     one.add_argument("-o", "--output", metavar="OUT", help="write the table that is kept to this file, as bytes")
     one.add_argument("printed", metavar="PRINTED", nargs="?", default="-",
                      help="what was printed; standard input if not given")

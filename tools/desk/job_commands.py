@@ -1,9 +1,10 @@
 """The commands of tools/job that take and make job files: make, combine, show and read."""
 import re, sys
 from .answers import AFTER_THE_CUT, ANSWERS, KINDS
-from .jobs import (EXAMPLE, FORMS, RUNS, build_job, combined, entries_map, entry_bytes, glyph_map, map_bytes,
+from .jobs import (EXAMPLE, FORMS, PACKED, RUNS, build_job, combined, entries_map, entry_bytes, glyph_map, map_bytes,
                    map_entries, map_text, new_ids, parts_of, split_job)
 from .judge import complaints, source_complaints
+from .layouts import in_layout
 from .prose import print_reasons, print_table, say
 from .tables import coverages, decode, tally
 from .words import Trouble, hex_bytes, joined, number, ranges_text, read_bytes, table_bytes, write_bytes
@@ -110,8 +111,10 @@ def read(args):
         raise Trouble("No reason for that is seen in the job given. Is it the job that was run?")
     print_reasons([pair for pair in found if pair[0] == answer], args.all)
     if answer == 0:
-        kept = hex_bytes(rest)
-        read_kept(int(parts[1]), kept, job["kind"] if job else args.kind, job, tree)
+        kind, kept = job["kind"] if job else args.kind, printed_bytes(int(parts[1]), rest)
+        if args.packed:
+            kept = packed(kind, kept)
+        read_kept(kept, kind, job, tree)
         if args.output:
             write_bytes(args.output, kept)
     elif answer == 8 and job:
@@ -119,11 +122,27 @@ def read(args):
             print(f"  {name}: {len(glyphs & new_ids(job).keys())} of {len(glyphs)} glyphs are retained")
 
 
-def read_kept(count, data, kind, job, before):
+def printed_bytes(count, text):
+    data = hex_bytes(text)
     if count != len(data):
         raise Trouble(f"{count} bytes are announced and {len(data)} follow: the print is cut or damaged")
+    return data
+
+
+def packed(kind, data):
+    """What is kept in the packed layout; as it is where it is no sound table of its kind, which is said later."""
     if kind is None:
-        return print(f"It has {count} bytes; give --job or --kind to see them decoded.")
+        raise Trouble("--packed needs --job or --kind")
+    if decode(kind, data)["faulty"]:
+        return data
+    made = in_layout(kind, data, PACKED)
+    print(f"In the packed layout it has {len(made)} bytes, in the plain one {len(data)}.")
+    return made
+
+
+def read_kept(data, kind, job, before):
+    if kind is None:
+        return print(f"It has {len(data)} bytes; give --job or --kind to see them decoded.")
     after = decode(kind, data)
     print_table(after, len(data))
     if after["faulty"]:

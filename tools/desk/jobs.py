@@ -13,6 +13,9 @@ FORMS = {"pairs": PAIRS, "runs": RUNS}
 TAGS = {PAIRS: b"LSJ1", RUNS: b"LSJ2"}
 TAGGED = {tag: form for form, tag in TAGS.items()}
 
+# The layouts of what is kept. A job file asks for the plain one.
+PLAIN, PACKED = 0, 1
+
 # The worked case P1 (docs/RULES.md).
 EXAMPLE = {
     "kind": "1", "glyphs": "3:1 5:2 9:3", "lookups": "4:0 7:2",
@@ -140,9 +143,10 @@ def tag_fault(data):
 
 
 def call_job(call):
-    """The job file of a stored call (tools/run_vectors); None if none can hold it, by its mark or its length."""
+    """The job file of a stored call (tools/run_vectors); None if none can hold it, by its marks or its length."""
     form, parts = call.get("mark", PAIRS), (bytes.fromhex(call[part]) for part in ("source", "gmap", "lmap"))
-    job = build_job(call["kind"], *parts, form=form) if form in TAGS else b""
+    plain = call.get("packed", PLAIN) == PLAIN
+    job = build_job(call["kind"], *parts, form=form) if form in TAGS and plain else b""
     return job if 0 < len(job) <= JOB_LIMIT else None
 
 

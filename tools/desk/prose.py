@@ -26,11 +26,19 @@ def value_text(node):
     return " ".join(map(str, value)) if isinstance(value, list) else str(value)
 
 
+def sharing(node, again):
+    """Whether an offset leads where others lead too; what stands there is printed under the first of them."""
+    reached = node.get("reached")
+    if not reached or reached.ways == 1:
+        return ""
+    return " (shared, as above)" if again else f" (shared: {reached.ways} offsets lead there)"
+
+
 def print_tree(nodes, shown, indent=""):
     for node in nodes:
         again = node["parts"] and id(node["parts"]) in shown
         margin = f"{node['at']:04x} {'!' if node['name'] == 'fault' else ' '} {indent}"
-        say(f"{label(node)}: {value_text(node)}{' (as above)' if again else ''}", margin, " " * len(margin) + "  ")
+        say(f"{label(node)}: {value_text(node)}{sharing(node, again)}", margin, " " * len(margin) + "  ")
         if not again:
             shown.add(id(node["parts"]))
             print_tree(node["parts"], shown, indent + "  ")

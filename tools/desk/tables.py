@@ -1,7 +1,8 @@
 """Tables read part by part: what each says, and what is wrong with its own bytes.
 
 A node has a name, a place ("at"), a value, and the nodes under it ("parts"). An offset's node has "to", the place that
-it reaches or None, and all offsets that reach one place in one shape have the same list as "parts".
+it reaches or None, and "reached", the part there; all offsets that reach one place in one shape have the same one, and
+the same list as "parts".
 """
 import heapq, itertools, re, struct
 from .answers import KINDS
@@ -125,9 +126,10 @@ def fields(part, shape):
             notes = set_notes(part, count) if name == "set" else itertools.repeat(None)
             for index, ((at, (offset,)), note) in enumerate(zip(part.take(count, name + " offsets"), notes)):
                 node = part.add(name, at, index=index if many else None, note=note,
-                                to=part.start + offset if offset else None)
+                                to=part.start + offset if offset else None, reached=None)
                 if offset:
-                    node["parts"] = part.source.reach(node["to"], inside, child_name(part, node)).nodes
+                    node["reached"] = part.source.reach(node["to"], inside, child_name(part, node))
+                    node["parts"] = node["reached"].nodes
         elif name == "record":
             for index, (at, (place, lookup)) in enumerate(part.take(count, "records", 2)):
                 part.add("record", at, {"at": place, "lookup": lookup})
@@ -303,11 +305,18 @@ def pairs(part, _):
 READERS = {"subtable": subtable, "coverage": glyph_table, "class table": glyph_table, "pairs": pairs}
 
 
+def read_table(kind, data):
+    """A subtable with its parts, as far as they can be read."""
+    source = Source(kind, data)
+    source.reach(0, "subtable", "the header")
+    source.read_all()
+    return source
+
+
 def decode(kind, data):
     """What a subtable says, as far as it can be read: its nodes, its faulty parts, and whether all was looked at."""
-    source = Source(kind, data)
-    nodes = source.reach(0, "subtable", "the header").nodes
-    source.read_all()
+    source = read_table(kind, data)
+    nodes = source.parts[0, "subtable"].nodes
     faulty = [part for part in source.parts.values() if part.faults]
     return {"name": KINDS[kind], "at": 0, "parts": nodes, "faulty": sorted(faulty, key=lambda part: part.start),
             "whole": source.left >= 0}

@@ -16,11 +16,11 @@ use Rattle.meaning.specs.Parts.{coverage, coverageSound}
 use Rattle.meaning.specs.Tables.{Table, fieldCount}
 use Rattle.meaning.specs.Fault.{faultThrough, coverageFault, pairSetFault, enough, headerFault, goodFormats}
 use Rattle.meaning.specs.Cut.{RuleMaps, cut, standIn}
-use Rattle.meaning.specs.Layout.{block, tableWords}
+use Rattle.meaning.specs.Layout.{block}
 use Rattle.laws.specs.Stands.{All}
 use Rattle.laws.specs.Through.{Opt}
 use Rattle.laws.specs.Runs.{both}
-use Rattle.laws.specs.SoundGood.{part-sound, lowest-none, header-good}
+use Rattle.laws.specs.SoundGood.{Bytes, part-sound, lowest-none, header-good}
 use Rattle.numbers.specs.Alike.{Alike, holds-alike}
 use Rattle.pair_sets.specs.Formats.{pairSize, placesOf}
 use Rattle.pair_sets.specs.Puts.{Puts}
@@ -31,7 +31,7 @@ use Rattle.tried.specs.declared.Tried.{Tried}
 use Rattle.member_sets.specs.Sound.{inside-is, through-sound}
 use Rattle.area.specs.Part.{part, notes, oldAt}
 use Rattle.meaning.specs.Maps.{mapEntries, glyphEntries}
-use Rattle.meaning.specs.Subset.{limit, written}
+use Rattle.meaning.specs.Subset.{limit, wordsIn, writtenIn}
 use Rattle.fold.specs.Cells.{Holds, holds-kept}
 use Rattle.fold.specs.Laid.{Laid}
 use Rattle.fold.specs.Runs.{LaidGlyphs}
@@ -42,14 +42,15 @@ use Rattle.meet.specs.Met.{met, Met, met-count}
 use Rattle.meet_runs.specs.Either.{Most, MeetsGlyphs}
 use Rattle.meet_runs.proofs.Forms.{met-most}
 use Rattle.kept_sets.specs.Sorts.{headerSize, setFaultOf, leftIn, Told, told-pairs, pairs-sound, left-kept, inside-kept}
-use Rattle.kept_sets.specs.Kept.{setAt, keptOf, Ready, keptIn}
+use Rattle.kept_sets.specs.Kept.{areaMost, setAt, keptOf, Ready, keptIn}
 use Rattle.kept_sets.specs.declared.Sort.{Sort}
 use Rattle.kept_sets.specs.declared.Sort.the-variants.{Rules, Ligatures, Pairs}
-use Rattle.kept_table.specs.Table.{areaMost, tableOf}
+use Rattle.kept_table.specs.Table.{tableOf}
 use Rattle.by_glyph.specs.Asked.{SoundSets, behind, MapsLaid, keptFrom}
 use Rattle.kept_table.specs.Answers.{ByCover, Answered, answered-as, answered-said}
 use Rattle.by_glyph.specs.Whole.{cellsMost}
 use Rattle.by_glyph.specs.PairTables.{pairTable, pairFault, pairsOf, oneMap, AnsweredPairs, sound-pairs, pairs-cut}
+use Rattle.by_glyph.proofs.Smallness.{small-left}
 
 -- notes name glyphs of the coverage
 module _ (f : ℕ → Option ℕ) where
@@ -179,8 +180,8 @@ module _ {sort : Sort} {s : List ℕ} {form : ℕ} {glyphs t₀ : List ℕ} {map
     many : length (coverage s cover) ≤ word s (headerSize sort - 2)
     many = rw e (a .enough z)
 
-    pub may-write : Ready sort s t maps (behind maps) m
-    may-write = record {
+    pub may-write : Bytes s → Ready sort s t maps (behind maps) m
+    may-write b = record {
       short = a .short;
       few = omega (arith, noted-few h, many, a .header);
       counted = omega (arith, noted-few h, many, a .counted);
@@ -189,6 +190,7 @@ module _ {sort : Sort} {s : List ℕ} {form : ℕ} {glyphs t₀ : List ℕ} {map
         inside = omega (arith, noted-index h i j, many, a .header);
         sound = a .sets (oldAt t (behind maps + i)) (omega (arith, noted-index h i j, many));
       };
+      small = λ p q. small-left sort s b t maps p;
       inside = inside-kept (h .kept) (l .inside);
       before = l .before;
     }
@@ -242,13 +244,13 @@ formats-same {g} {h} {s} {ns} {ms} {f} e n w = record {
 -- what is answered of a table of pairs is answered of what is left of it
 module _ {s : List ℕ} {form : ℕ} {glyphs t₀ : List ℕ} {g : Map} (a : SoundSets (pairsOf s) s) (l : MapsLaid form glyphs t₀ (oneMap g)) (z : word s 2 ≡ 0 → ⊥) {cover : ℕ} (e : cover ≡ word s 2)
     {t : List ℕ} {m : ℕ} (h : Met (find (glyphEntries form glyphs)) (coverage s cover) t₀ (behind (oneMap g)) t m) where
-  pub pairs-answered : {few : Type 0} {out₀ : List ℕ} {n : ℕ} {r : Tried} {out : List ℕ} → AnsweredPairs s t g (behind (oneMap g)) m out₀ n r out
-      → Answered few out₀ (block tableWords (cut (glyphEntries form glyphs) [] (pairTable s))) n r out
-  pairs-answered w =
+  pub pairs-answered : {few : Type 0} {packing : ℕ} {out₀ : List ℕ} {n : ℕ} {r : Tried} {out : List ℕ} → AnsweredPairs packing s t g (behind (oneMap g)) m out₀ n r out
+      → Answered few out₀ (block (wordsIn packing) (cut (glyphEntries form glyphs) [] (pairTable s))) n r out
+  pairs-answered {packing = packing} w =
       let f = w .formats in
       let new = formats-same (holds-alike (holds-kept (h .kept) (l .before .input) (l .holds))) (h .noted ∙ ap (λ (i : ℕ). met (find (glyphEntries form glyphs)) 0 (coverage s i)) e) (w .new) in
       let sound = sound-pairs s f (new .f1) (new .f2) a in
-      answered-said (λ x. absurd x) (ap (tableOf (Pairs f)) (kept-said sound l z e h) ∙ pairs-cut (glyphEntries form glyphs) s (oneMap g) (l .holds) f new z sound) (w .answered)
+      answered-said (λ x. absurd x) (ap (tableOf (eqb packing 1) (Pairs f)) (kept-said sound l z e h) ∙ pairs-cut (glyphEntries form glyphs) s (oneMap g) (l .holds) f new z sound packing) (w .answered)
 
 -- a map that has no room
 pub no-room : {list t₀ t : List ℕ} {at : ℕ} {m : Map} → Laid list t₀ t at m → ascends (keys (mapEntries list)) ≡ true → m .mask ≡ 0 → length t₀ < at + 65536
@@ -297,10 +299,10 @@ module _ {form : ℕ} {g t₀ t : List ℕ} {m : Map} (a : LaidGlyphs form g t�
 
 -- With few cells behind the maps, the lent ones were few; so what is answered behind the maps is answered of all.
 module _ {form : ℕ} {g t₀ t : List ℕ} {m : Map} (a : LaidGlyphs form g t₀ t 0 m)
-    {out₀ : List ℕ} {words : Option (List ℕ)} {n : ℕ} {r : Tried} {out : List ℕ} (left : Option Table) (fit : Opt ByCover left) (e : words ≡ block tableWords left) where
-  pub one-answered : Answered (length t ≤ behind (oneMap m) + 65536) out₀ words n r out → Tries (length t₀ < cellsMost) (n < areaMost) r out₀ out (written out₀ left)
-  one-answered = answered-as (λ h. omega (arith, h, a .kept .size, a .place, a .few)) left fit e
+    {out₀ : List ℕ} {words : Option (List ℕ)} {n : ℕ} {r : Tried} {out : List ℕ} (packing : ℕ) (left : Option Table) (fit : Opt (ByCover packing) left) (e : words ≡ block (wordsIn packing) left) where
+  pub one-answered : Answered (length t ≤ behind (oneMap m) + 65536) out₀ words n r out → Tries (length t₀ < cellsMost) (n < areaMost) r out₀ out (writtenIn packing out₀ left)
+  one-answered = answered-as (λ h. omega (arith, h, a .kept .size, a .place, a .few)) packing left fit e
 
   pub two-answered : {l t₂ : List ℕ} {k : Map} → Laid l t t₂ (m .mask + 1) k → ascends (keys (mapEntries l)) ≡ true → Answered (length t₂ ≤ k .at + k .mask + 1 + 65536) out₀ words n r out
-      → Tries (length t₀ < cellsMost) (n < areaMost) r out₀ out (written out₀ left)
-  two-answered b v = answered-as (λ h. omega (arith, h, a .kept .size, b .kept .size, b .place, a .few, b .few v)) left fit e
+      → Tries (length t₀ < cellsMost) (n < areaMost) r out₀ out (writtenIn packing out₀ left)
+  two-answered b v = answered-as (λ h. omega (arith, h, a .kept .size, b .kept .size, b .place, a .few, b .few v)) packing left fit e

@@ -1,2 +1,3 @@
+pub mod Smallness
 pub mod Asking
 pub mod Fitting

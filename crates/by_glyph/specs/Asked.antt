@@ -6,14 +6,15 @@ use mathlib.Core.Option.{none}
 use mathlib.Core.List.{List, []}
 use native.Mathlib.Nat.{zero-add}
 use lib.ListN.{length}
+use lib.Dec.{eqb}
 use borrow.Author.Tests.{ne-eqb, eq-eqb}
 use Rattle.meaning.specs.Words.{word, find, bind}
 use Rattle.meaning.specs.Maps.{glyphEntries}
 use Rattle.meaning.specs.Parts.{coverage, coverageSound}
 use Rattle.meaning.specs.Tables.{reach, reaches, ruleSet, ligatureSet}
 use Rattle.meaning.specs.Cut.{RuleMaps, cut, cutSet, cutLigatures, keptSets, keptByGlyph, keptLigatures}
-use Rattle.meaning.specs.Layout.{block, ruleWords, ligatureWords, setWords, tableWords}
-use Rattle.meaning.specs.Subset.{limit}
+use Rattle.meaning.specs.Layout.{block, ruleWords, ligatureWords, setWords}
+use Rattle.meaning.specs.Subset.{limit, wordsIn}
 use Rattle.glyph_runs.specs.Runs.{GlyphMap}
 use Rattle.fold.specs.Cells.{Holds}
 use Rattle.numbers.specs.Alike.{holds-alike, set-alike, ligatures-alike}
@@ -88,19 +89,19 @@ module _ (g : List (ℕ × ℕ)) (s : List ℕ) {t : List ℕ} (maps : Maps) (i 
   ligatures-left p = ap (block (setWords ligatureWords)) (ligatures-alike (holds-alike i) (ligatureSet s p))
 
   module _ (z : word s 2 ≡ 0 → ⊥) where
-    pub ligatures-cut : SoundSets Ligatures s → tableOf Ligatures (keptFrom Ligatures s g t maps) ≡ block tableWords (cut g [] (ligatureTable s))
-    ligatures-cut a =
-        ap (tableOf Ligatures) (kept-met (ligatureSet s) (cutLigatures g) (setWords ligatureWords) (leftIn Ligatures t maps s) ligatures-left s 6 g 0 (coverage s (word s 2)) (word s 4) (a .enough z))
-        ∙ ligatures-as (keptSets (cutLigatures g) g (coverage s (word s 2)) (reaches (ligatureSet s) s 0 6 (word s 4)))
-        ∙ ap (block tableWords) (sym (ligatures-there g [] s z))
+    pub ligatures-cut : (packing : ℕ) → SoundSets Ligatures s → tableOf (eqb packing 1) Ligatures (keptFrom Ligatures s g t maps) ≡ block (wordsIn packing) (cut g [] (ligatureTable s))
+    ligatures-cut packing a =
+        ap (tableOf (eqb packing 1) Ligatures) (kept-met (ligatureSet s) (cutLigatures g) (setWords ligatureWords) (leftIn Ligatures t maps s) ligatures-left s 6 g 0 (coverage s (word s 2)) (word s 4) (a .enough z))
+        ∙ ligatures-as packing (keptSets (cutLigatures g) g (coverage s (word s 2)) (reaches (ligatureSet s) s 0 6 (word s 4)))
+        ∙ ap (block (wordsIn packing)) (sym (ligatures-there g [] s z))
 
   module _ (l : List (ℕ × ℕ)) (b : Holds t (maps .back) g) (h : Holds t (maps .ahead) g) (k : Holds t (maps .lookups) l) (chained : Bool) where
     rules-left : (p : ℕ) → leftIn (Rules chained) t maps s p ≡ block (setWords (ruleWords chained)) (cutSet chained (glyphMaps g l) (ruleSet chained s p))
     unfolding setLeft
     rules-left p = ap (block (setWords (ruleWords chained))) (set-alike (holds-alike b) (holds-alike i) (holds-alike h) (holds-alike k) chained (ruleSet chained s p))
 
-    pub rules-cut : (word s 2 ≡ 0 → ⊥) → SoundSets (Rules chained) s → tableOf (Rules chained) (keptFrom (Rules chained) s g t maps) ≡ block tableWords (cut g l (glyphContext chained s))
-    rules-cut z a =
-        ap (tableOf (Rules chained)) (kept-met (ruleSet chained s) (cutSet chained (glyphMaps g l)) (setWords (ruleWords chained)) (leftIn (Rules chained) t maps s) rules-left s 6 g 0 (coverage s (word s 2)) (word s 4) (a .enough z))
-        ∙ rules-as chained (keptSets (cutSet chained (glyphMaps g l)) g (coverage s (word s 2)) (reaches (ruleSet chained s) s 0 6 (word s 4)))
-        ∙ ap (block tableWords) (sym (rules-there g l s z chained))
+    pub rules-cut : (packing : ℕ) → (word s 2 ≡ 0 → ⊥) → SoundSets (Rules chained) s → tableOf (eqb packing 1) (Rules chained) (keptFrom (Rules chained) s g t maps) ≡ block (wordsIn packing) (cut g l (glyphContext chained s))
+    rules-cut packing z a =
+        ap (tableOf (eqb packing 1) (Rules chained)) (kept-met (ruleSet chained s) (cutSet chained (glyphMaps g l)) (setWords (ruleWords chained)) (leftIn (Rules chained) t maps s) rules-left s 6 g 0 (coverage s (word s 2)) (word s 4) (a .enough z))
+        ∙ rules-as packing chained (keptSets (cutSet chained (glyphMaps g l)) g (coverage s (word s 2)) (reaches (ruleSet chained s) s 0 6 (word s 4)))
+        ∙ ap (block (wordsIn packing)) (sym (rules-there g l s z chained))

@@ -1,22 +1,25 @@
 -- The kept sets of the notes are those of the definitions, and make the same table.
 use Prim.Native.Nat.{ℕ, zero, suc, _+_, _*_, _≤_}
-use mathlib.Core.Path.{_≡_, refl, ap}
+use mathlib.Core.Path.{_≡_, refl, sym, ap, _∙_}
 use mathlib.Core.Bool.{Bool, true, false, cond}
 use mathlib.Core.Option.{Option, none, some}
-use mathlib.Core.List.{List, [], _∷_, map}
+use mathlib.Core.List.{List, [], _∷_, map, append-nil}
 use native.Mathlib.Nat.{zero-add}
 use native.Mathlib.Omega.{arith}
 use lib.ListN.{length}
 use lib.Dec.{eqb}
 use Rattle.meaning.specs.Words.{word, find, bind, push}
-use Rattle.meaning.specs.Tables.{Rule, Ligature, reach, reaches}
+use Rattle.meaning.specs.Tables.{Rule, Ligature, Table, reach, reaches, dropNull}
 use Rattle.meaning.specs.Cut.{keptSets, glyphsOf, setsOf, keptByGlyph, keptLigatures}
-use Rattle.meaning.specs.Layout.{block, ruleWords, ligatureWords, setWords, tableWords}
+use Rattle.meaning.specs.Layout.{offsets, blocks, block, ruleWords, ligatureWords, setWords, coverageWords, setsLayout, tableWords}
+use Rattle.meaning.specs.Packed.{firstOfEach, together, setsHeader, header, packed, packedWords}
+use Rattle.meaning.specs.Subset.{wordsIn}
+use Rattle.laws.specs.PackedReading.{sharedOffsets, sharedBlocks, packed-sets}
 use Rattle.area.specs.Closed.{members}
 use Rattle.meet.specs.Met.{met}
 use Rattle.kept_sets.specs.Kept.{setAt, keptOf, wordsOf}
 use Rattle.kept_sets.specs.declared.Sort.the-variants.{Rules, Ligatures}
-use Rattle.kept_table.specs.Table.{tableOf}
+use Rattle.kept_table.specs.Table.{setsIn, tableOf}
 
 -- a kept set as the words of its layout
 abbrev pub asWords : {A : Type 0} → (A → List ℕ) → List (ℕ × A) → List (ℕ × List ℕ)
@@ -63,13 +66,45 @@ unfolding setsOf block
 sets-as F [] = refl
 sets-as F (k ∷ ks) = ap (λ (l : List (Option (List ℕ))). some (F (k .1)) ∷ l) (sets-as F ks)
 
--- the table of kept sets of rules, and of ligatures
-pub rules-as : (chained : Bool) (ks : List (ℕ × List Rule)) → tableOf (Rules chained) (asWords (setWords (ruleWords chained)) ks) ≡ block tableWords (keptByGlyph chained ks)
-unfolding tableOf block keptByGlyph tableWords
-rules-as chained [] = refl
-rules-as chained (k ∷ ks) = rw (glyphs-as (setWords (ruleWords chained)) (k ∷ ks), sets-as (setWords (ruleWords chained)) (k ∷ ks)) refl
+-- a table by sets with a coverage, in either layout
+sets-plain : (cov more : List ℕ) (sets : List (Option (List ℕ))) → setsIn false cov more sets ≡ setsLayout 1 (some cov ∷ []) more sets
+unfolding setsIn setsLayout offsets blocks
+sets-plain cov more sets = rw (append-nil cov) refl
 
-pub ligatures-as : (ks : List (ℕ × List Ligature)) → tableOf Ligatures (asWords (setWords ligatureWords) ks) ≡ block tableWords (keptLigatures ks)
-unfolding tableOf block keptLigatures tableWords
-ligatures-as [] = refl
-ligatures-as (k ∷ ks) = rw (glyphs-as (setWords ligatureWords) (k ∷ ks), sets-as (setWords ligatureWords) (k ∷ ks)) refl
+sets-packed : (cov more : List ℕ) (sets : List (Option (List ℕ))) → setsIn true cov more sets ≡ packed (setsHeader 1 (some cov) [] more sets)
+unfolding setsIn offsets blocks sharedOffsets sharedBlocks dropNull firstOfEach together
+sets-packed cov more sets = sym (packed-sets 1 (some cov) [] more sets ∙ rw (append-nil cov, append-nil cov) refl)
+
+packed-is : (t : Table) → packed (header t) ≡ packedWords t
+unfolding packedWords
+packed-is t = refl
+
+pub sets-in : (packing : ℕ) (cov more : List ℕ) (sets : List (Option (List ℕ))) (t : Table) → setsLayout 1 (some cov ∷ []) more sets ≡ tableWords t → setsHeader 1 (some cov) [] more sets ≡ header t
+    → setsIn (eqb packing 1) cov more sets ≡ wordsIn packing t
+unfolding wordsIn
+sets-in packing cov more sets t e f = step (eqb packing 1)
+  where
+    step : (b : Bool) → setsIn b cov more sets ≡ cond b (packedWords t) (tableWords t)
+    step false = sets-plain cov more sets ∙ e
+    step true = sets-packed cov more sets ∙ ap packed f ∙ packed-is t
+
+rules-in : (packing : ℕ) (chained : Bool) (cov : List ℕ) (sets : List (Option (List Rule)))
+    → setsIn (eqb packing 1) (coverageWords cov) [] (map (block (setWords (ruleWords chained))) sets) ≡ wordsIn packing (Table.by-glyph chained (some cov) sets)
+unfolding tableWords header block
+rules-in packing chained cov sets = sets-in packing (coverageWords cov) [] (map (block (setWords (ruleWords chained))) sets) (Table.by-glyph chained (some cov) sets) refl refl
+
+ligatures-in : (packing : ℕ) (cov : List ℕ) (sets : List (Option (List Ligature)))
+    → setsIn (eqb packing 1) (coverageWords cov) [] (map (block (setWords ligatureWords)) sets) ≡ wordsIn packing (Table.ligatures (some cov) sets)
+unfolding tableWords header block
+ligatures-in packing cov sets = sets-in packing (coverageWords cov) [] (map (block (setWords ligatureWords)) sets) (Table.ligatures (some cov) sets) refl refl
+
+-- the table of kept sets of rules, and of ligatures
+pub rules-as : (packing : ℕ) (chained : Bool) (ks : List (ℕ × List Rule)) → tableOf (eqb packing 1) (Rules chained) (asWords (setWords (ruleWords chained)) ks) ≡ block (wordsIn packing) (keptByGlyph chained ks)
+unfolding tableOf block keptByGlyph
+rules-as packing chained [] = refl
+rules-as packing chained (k ∷ ks) = rw (glyphs-as (setWords (ruleWords chained)) (k ∷ ks), sets-as (setWords (ruleWords chained)) (k ∷ ks)) (ap (λ (l : List ℕ). some l) (rules-in packing chained (glyphsOf (k ∷ ks)) (setsOf (k ∷ ks))))
+
+pub ligatures-as : (packing : ℕ) (ks : List (ℕ × List Ligature)) → tableOf (eqb packing 1) Ligatures (asWords (setWords ligatureWords) ks) ≡ block (wordsIn packing) (keptLigatures ks)
+unfolding tableOf block keptLigatures
+ligatures-as packing [] = refl
+ligatures-as packing (k ∷ ks) = rw (glyphs-as (setWords ligatureWords) (k ∷ ks), sets-as (setWords ligatureWords) (k ∷ ks)) (ap (λ (l : List ℕ). some l) (ligatures-in packing (glyphsOf (k ∷ ks)) (setsOf (k ∷ ks))))

@@ -11,8 +11,10 @@ use Rattle.meaning.specs.Words.{word, find, bind}
 use Rattle.meaning.specs.Parts.{coverage}
 use Rattle.meaning.specs.Tables.{Table, Pair, fieldCount, reach, reaches, pairSet}
 use Rattle.meaning.specs.Fault.{pairSetFault, enough, headerFault, goodFormats}
-use Rattle.meaning.specs.Cut.{cut, cutPairs, keptSets, setsOf, newFormat, newSecond, thinPair, thin, keptPairs}
-use Rattle.meaning.specs.Layout.{block, pairSetWords, tableWords}
+use Rattle.meaning.specs.Cut.{cut, cutPairs, keptSets, glyphsOf, setsOf, newFormat, newSecond, thinPair, thin, keptPairs}
+use Rattle.meaning.specs.Layout.{block, pairSetWords, coverageWords, tableWords}
+use Rattle.meaning.specs.Packed.{header}
+use Rattle.meaning.specs.Subset.{wordsIn}
 use Rattle.fold.specs.Cells.{Holds}
 use Rattle.fold.specs.declared.Map.{Map}
 use Rattle.area.specs.Part.{notes}
@@ -25,13 +27,13 @@ use Rattle.pair_sets.specs.Formats.{pairs-left}
 use Rattle.pair_sets.specs.declared.Formats.{Formats}
 use Rattle.pair_formats.specs.New.{NewFormats, first-format, second-format}
 use Rattle.kept_sets.specs.Sorts.{setFaultOf, setLeft, leftIn}
-use Rattle.kept_sets.specs.Kept.{wordsOf, Ready, keptIn}
+use Rattle.kept_sets.specs.Kept.{wordsOf, Small, Ready, keptIn}
 use Rattle.kept_sets.specs.declared.Sort.{Sort}
 use Rattle.kept_sets.specs.declared.Sort.the-variants.{Pairs}
 use Rattle.tried.specs.declared.Tried.{Tried}
-use Rattle.kept_table.specs.Table.{tableOf}
+use Rattle.kept_table.specs.Table.{setsIn, tableOf}
 use Rattle.kept_table.specs.Answers.{Answered}
-use Rattle.by_glyph.specs.KeptIs.{asWords, kept-met, glyphs-as}
+use Rattle.by_glyph.specs.KeptIs.{asWords, kept-met, glyphs-as, sets-in}
 use Rattle.by_glyph.specs.Asked.{SoundSets, keptFrom}
 
 -- the table of a pair source, and where it is faulty, as the source says them
@@ -50,10 +52,10 @@ abbrev pub oneMap : Map → Maps
 oneMap g = record { back = g; input = g; ahead = g; lookups = g }
 
 -- What is answered of a table of pairs: the table of the kept sets, with the new formats that they ask for.
-pub record AnsweredPairs (s t : List ℕ) (g : Map) (at m : ℕ) (out₀ : List ℕ) (a : ℕ) (r : Tried) (out : List ℕ) : Type 0 where
+pub record AnsweredPairs (packing : ℕ) (s t : List ℕ) (g : Map) (at m : ℕ) (out₀ : List ℕ) (a : ℕ) (r : Tried) (out : List ℕ) : Type 0 where
   pub formats : Formats
   pub new : NewFormats (entriesIn t g) s (notes t at m) formats
-  pub answered : Answered (⊥) out₀ (tableOf (Pairs formats) (keptIn (Pairs formats) s t (oneMap g) at m)) a r out
+  pub answered : Answered (⊥) out₀ (tableOf (eqb packing 1) (Pairs formats) (keptIn (Pairs formats) s t (oneMap g) at m)) a r out
 
 -- What the source's formats say is said of any with the same: the sets are sound.
 module _ (s : List ℕ) (f : Formats) (e : f .f1 ≡ word s 4) (h : f .f2 ≡ word s 6) where
@@ -64,13 +66,14 @@ module _ (s : List ℕ) (f : Formats) (e : f .f1 ≡ word s 4) (h : f .f2 ≡ wo
   pub sound-pairs : SoundSets (pairsOf s) s → SoundSets (Pairs f) s
   sound-pairs a = record { short = a .short; counted = a .counted; header = a .header; cover = a .cover; enough = a .enough; sets = λ i l z. same-fault _ (a .sets i l z) }
 
-  pub ready-pairs : {t : List ℕ} {maps : Maps} {at m : ℕ} → Ready (pairsOf s) s t maps at m → Ready (Pairs f) s t maps at m
-  ready-pairs a = record {
+  pub ready-pairs : {t : List ℕ} {maps : Maps} {at m : ℕ} → ((p : ℕ) → Small (leftIn (Pairs f) t maps s p)) → Ready (pairsOf s) s t maps at m → Ready (Pairs f) s t maps at m
+  ready-pairs k a = record {
     short = a .short;
     few = a .few;
     counted = a .counted;
     fits = a .fits;
     reaches = λ i l. record { inside = a .reaches i l .inside; sound = λ z. same-fault _ (a .reaches i l .sound z) };
+    small = λ p q. k p;
     inside = a .inside;
     before = a .before;
   }
@@ -78,7 +81,7 @@ module _ (s : List ℕ) (f : Formats) (e : f .f1 ≡ word s 4) (h : f .f2 ≡ wo
 -- The words of kept pair sets, with the fields of the new formats.
 module _ (f : Formats) where
   -- a pair set with these fields
-  abbrev thinned : List Pair → List ℕ
+  abbrev pub thinned : List Pair → List ℕ
   thinned ps = pairSetWords (map (thinPair (f .f1) (f .f2) (f .n1) (f .n2)) ps)
 
   sets-thin : (ks : List (ℕ × List Pair)) → members (wordsOf (asWords thinned ks)) ≡ map (block pairSetWords) (setsOf (thin (f .f1) (f .f2) (f .n1) (f .n2) ks))
@@ -86,11 +89,16 @@ module _ (f : Formats) where
   sets-thin [] = refl
   sets-thin (k ∷ ks) = ap (λ (l : List (Option (List ℕ))). some (thinned (k .1)) ∷ l) (sets-thin ks)
 
-  pairs-as : (ks : List (ℕ × List Pair)) → f .n1 ≡ newFormat (λ p. p .first-values) (f .f1) ks → f .n2 ≡ newSecond (f .f2) ks
-      → tableOf (Pairs f) (asWords thinned ks) ≡ block tableWords (keptPairs (f .f1) (f .f2) ks)
-  unfolding tableOf block keptPairs tableWords
-  pairs-as [] a b = refl
-  pairs-as (k ∷ ks) a b = rw (← a, ← b, glyphs-as thinned (k ∷ ks), sets-thin (k ∷ ks)) refl
+  pairs-in : (packing : ℕ) (cov : List ℕ) (sets : List (Option (List Pair)))
+      → setsIn (eqb packing 1) (coverageWords cov) (f .n1 ∷ f .n2 ∷ []) (map (block pairSetWords) sets) ≡ wordsIn packing (Table.pairs-of (some cov) (f .n1) (f .n2) sets)
+  unfolding tableWords header block
+  pairs-in packing cov sets = sets-in packing (coverageWords cov) (f .n1 ∷ f .n2 ∷ []) (map (block pairSetWords) sets) (Table.pairs-of (some cov) (f .n1) (f .n2) sets) refl refl
+
+  pairs-as : (packing : ℕ) (ks : List (ℕ × List Pair)) → f .n1 ≡ newFormat (λ p. p .first-values) (f .f1) ks → f .n2 ≡ newSecond (f .f2) ks
+      → tableOf (eqb packing 1) (Pairs f) (asWords thinned ks) ≡ block (wordsIn packing) (keptPairs (f .f1) (f .f2) ks)
+  unfolding tableOf block keptPairs
+  pairs-as packing [] a b = refl
+  pairs-as packing (k ∷ ks) a b = rw (← a, ← b, glyphs-as thinned (k ∷ ks), sets-thin (k ∷ ks)) (ap (λ (l : List ℕ). some l) (pairs-in packing (glyphsOf (k ∷ ks)) (setsOf (thin (f .f1) (f .f2) (f .n1) (f .n2) (k ∷ ks)))))
 
 -- what is left of a null coverage's table, and of one that is not null
 module _ (g l : List (ℕ × ℕ)) (s : List ℕ) where
@@ -104,7 +112,7 @@ module _ (g l : List (ℕ × ℕ)) (s : List ℕ) where
 
 -- What is left of a table of pairs, as the words of its kept sets say it.
 module _ (g : List (ℕ × ℕ)) (s : List ℕ) {t : List ℕ} (maps : Maps) (i : Holds t (maps .input) g) (f : Formats) where
-  pairs-agree : (p : ℕ) → leftIn (Pairs f) t maps s p ≡ block (thinned f) (cutPairs g (pairSet (fieldCount (f .f1)) (fieldCount (f .f2)) s p))
+  pub pairs-agree : (p : ℕ) → leftIn (Pairs f) t maps s p ≡ block (thinned f) (cutPairs g (pairSet (fieldCount (f .f1)) (fieldCount (f .f2)) s p))
   unfolding setLeft
   pairs-agree p =
       pairs-left (entriesIn t (maps .input)) (f .f1) (f .f2) (f .n1) (f .n2) s p
@@ -121,8 +129,8 @@ module _ (g : List (ℕ × ℕ)) (s : List ℕ) {t : List ℕ} (maps : Maps) (i 
     second : f .n2 ≡ newSecond (f .f2) kept
     second = new .n2 ∙ rw (← new .f1, ← new .f2) (second-format g s (f .f1) (f .f2) (coverage s (word s 2)) (word s 8) (a .enough z))
 
-    pub pairs-cut : tableOf (Pairs f) (keptFrom (Pairs f) s g t maps) ≡ block tableWords (cut g [] (pairTable s))
-    pairs-cut =
-        ap (tableOf (Pairs f)) (kept-met (pairSet (fieldCount (f .f1)) (fieldCount (f .f2)) s) (cutPairs g) (thinned f) (leftIn (Pairs f) t maps s) pairs-agree s 10 g 0 (coverage s (word s 2)) (word s 8) (a .enough z))
-        ∙ pairs-as f kept first second
-        ∙ ap (block tableWords) (rw (new .f1, new .f2) (sym (pairs-there g [] s z)))
+    pub pairs-cut : (packing : ℕ) → tableOf (eqb packing 1) (Pairs f) (keptFrom (Pairs f) s g t maps) ≡ block (wordsIn packing) (cut g [] (pairTable s))
+    pairs-cut packing =
+        ap (tableOf (eqb packing 1) (Pairs f)) (kept-met (pairSet (fieldCount (f .f1)) (fieldCount (f .f2)) s) (cutPairs g) (thinned f) (leftIn (Pairs f) t maps s) pairs-agree s 10 g 0 (coverage s (word s 2)) (word s 8) (a .enough z))
+        ∙ pairs-as f packing kept first second
+        ∙ ap (block (wordsIn packing)) (rw (new .f1, new .f2) (sym (pairs-there g [] s z)))

@@ -10,10 +10,10 @@ use lib.Seq.{length-take-le}
 use Rattle.meaning.specs.Words.{word}
 use Rattle.meaning.specs.Parts.{coverage}
 use Rattle.meaning.specs.Tables.{Table, reach, reaches, ruleSet, ligatureSet}
-use Rattle.meaning.specs.Subset.{Outcome, refused, written}
+use Rattle.meaning.specs.Subset.{Outcome, refused, writtenIn}
 use Rattle.tried.specs.Tries.{Tries, tries-less}
 use Rattle.tried.specs.declared.Tried.{Tried}
-use Rattle.kept_table.specs.Table.{areaMost}
+use Rattle.kept_sets.specs.Kept.{areaMost}
 
 -- how many cells are enough for any source: those of two maps, and a note for each glyph and one more
 abbrev pub cellsMost : ℕ
@@ -35,9 +35,9 @@ module _ {n : ℕ} (area : List ℕ) (h : Least (length area) areaMost n) where
       tries-less few (length (take n area) < areaMost) few (length area < areaMost) r out after made (λ f. f) (λ l. omega (arith, front-length, h .one (omega (arith, front-length))))
 
 -- nothing is left
-pub written-none : (out : List ℕ) {o : Option Table} → o ≡ none → refused out 8 ≡ written out o
-unfolding written
-written-none out e = rw e refl
+pub written-none : (packing : ℕ) (out : List ℕ) {o : Option Table} → o ≡ none → refused out 8 ≡ writtenIn packing out o
+unfolding writtenIn
+written-none packing out e = rw e refl
 
 -- a context by glyph, and the table of a ligature source, as the source says them
 abbrev pub glyphContext : Bool → List ℕ → Table

@@ -2,10 +2,11 @@
 use fold::Map;
 use fold::lay;
 use fold::lay_glyphs;
+use kept_sets::Notes;
 use kept_sets::Sort;
 use kept_table::AREA;
-use kept_table::Notes;
 use kept_table::write_table;
+use marks::Marks;
 use meet_runs::meet;
 use meet_runs::most;
 use member_sets::PLACES;
@@ -23,18 +24,19 @@ ghost use mathlib.Core.Option.{none};
 ghost use mathlib.Core.List.{[]};
 ghost use Prim.Native.Nat.{_+_, _/_, _≤_, _<_};
 ghost use lib.ListN.{length};
+ghost use lib.Dec.{eqb};
 ghost use Rattle.meaning.specs.Words.{word, ascends, keys};
 ghost use Rattle.meaning.specs.Maps.{mapEntries, glyphEntries};
 ghost use Rattle.meaning.specs.Fault.{headerFault, enough};
 ghost use Rattle.meaning.specs.Cut.{cut};
-ghost use Rattle.meaning.specs.Layout.{block, tableWords};
-ghost use Rattle.meaning.specs.Subset.{limit, written};
+ghost use Rattle.meaning.specs.Layout.{block};
+ghost use Rattle.meaning.specs.Subset.{limit, wordsIn, writtenIn};
 ghost use Rattle.glyph_runs.specs.Runs.{GlyphMap};
 ghost use Rattle.kept_sets.specs.Sorts.{setFaultOf, isPairs};
-ghost use Rattle.kept_sets.specs.Kept.{Ready, keptIn};
+ghost use Rattle.kept_sets.specs.Kept.{areaMost, Ready, keptIn};
 ghost use Rattle.kept_sets.specs.declared.Sort.the-variants.{Rules, Ligatures};
 ghost use Rattle.tried.specs.Tries.{Tries};
-ghost use Rattle.kept_table.specs.Table.{areaMost, tableOf};
+ghost use Rattle.kept_table.specs.Table.{tableOf};
 ghost use Rattle.kept_table.specs.Answers.{Answered};
 ghost use Rattle.by_glyph.specs.Asked.{SoundSets, behind, MapsLaid, keptFrom};
 ghost use Rattle.by_glyph.specs.PairTables.{pairsOf, oneMap, pairFault, pairTable, AnsweredPairs};
@@ -53,7 +55,7 @@ fn write_shared(
     out: &mut [u8],
 ) -> Tried
     requires { ⌜ Ready sort (now src) (now t) maps (notes .at) (notes .count) × (length (now area) ≤ areaMost) × (isPairs sort ≡ false) ⌝ }
-    ensures { λ r. ⌜ Answered ⊥ (now (out .entry)) (tableOf sort (keptIn sort (now (src .entry)) (now (t .entry)) maps (notes .at) (notes .count))) (length (now (area .entry))) r (now (out .exit)) ⌝ }
+    ensures { λ r. ⌜ Answered ⊥ (now (out .entry)) (tableOf (eqb (notes .packing) 1) sort (keptIn sort (now (src .entry)) (now (t .entry)) maps (notes .at) (notes .count))) (length (now (area .entry))) r (now (out .exit)) ⌝ }
 {
     if rounds != 0 {
         return write_shared(sort, src, t, notes, maps, rounds - 1, area, out);
@@ -67,27 +69,37 @@ fn cut_sets(
     sort: Sort,
     src: &[u8],
     glyphs: &[u8],
-    form: usize,
+    marks: Marks,
     maps: Maps,
     t: &mut [u32],
     area: &mut [u8],
     out: &mut [u8],
 ) -> Tried
-    requires { ⌜ SoundSets sort (now src) × MapsLaid form (now glyphs) (now t) maps × (length (now area) ≤ areaMost) × (word (now src) 2 ≡ 0 → ⊥) × (isPairs sort ≡ false) ⌝ }
-    ensures { λ r. ⌜ Answered (length (now (t .entry)) ≤ behind maps + 65536) (now (out .entry)) (tableOf sort (keptFrom sort (now (src .entry)) (glyphEntries form (now (glyphs .entry))) (now (t .entry)) maps)) (length (now (area .entry))) r (now (out .exit)) ⌝ }
+    requires { ⌜ SoundSets sort (now src) × MapsLaid (marks .form) (now glyphs) (now t) maps × (length (now area) ≤ areaMost) × (word (now src) 2 ≡ 0 → ⊥) × (isPairs sort ≡ false) ⌝ }
+    ensures { λ r. ⌜ Answered (length (now (t .entry)) ≤ behind maps + 65536) (now (out .entry)) (tableOf (eqb (marks .layout) 1) sort (keptFrom sort (now (src .entry)) (glyphEntries (marks .form) (now (glyphs .entry))) (now (t .entry)) maps)) (length (now (area .entry))) r (now (out .exit)) ⌝ }
 {
     let cover = word_inside(src, 2);
     let notes = maps.lookups.at + maps.lookups.mask + 1;
-    if t.len() <= notes + most(src, cover, glyphs, form) {
+    if t.len() <= notes + most(src, cover, glyphs, marks.form) {
         return Tried::FewCells;
     }
-    let m = meet(src, cover, glyphs, form, maps.input, t, notes);
+    let m = meet(src, cover, glyphs, marks.form, maps.input, t, notes);
     let found = Notes {
         at: notes,
         count: m,
+        packing: marks.layout,
     };
     if crowded(src, 6, word_inside(src, 4)) {
-        return write_shared(sort, src, t, found, maps, glyphs.len() % form, area, out);
+        return write_shared(
+            sort,
+            src,
+            t,
+            found,
+            maps,
+            glyphs.len() % marks.form,
+            area,
+            out,
+        );
     }
     let mut no_marks = [0u8; 1];
     write_table(sort, src, &mut no_marks, t, found, maps, area, out)
@@ -97,18 +109,18 @@ fn cut_sets(
 fn cut_ligatures(
     src: &[u8],
     glyphs: &[u8],
-    form: usize,
+    marks: Marks,
     t: &mut [u32],
     area: &mut [u8],
     out: &mut [u8],
 ) -> Tried
-    requires { ⌜ (headerFault (enough (now src) (word (now src) 4)) 0 4 (setFaultOf Ligatures (now src)) (now src) ≡ none) × (length (now src) ≤ limit) × GlyphMap form (now glyphs) × (length (now area) ≤ areaMost) ⌝ }
-    ensures { λ r. ⌜ Tries (length (now (t .entry)) < cellsMost) (length (now (area .entry)) < areaMost) r (now (out .entry)) (now (out .exit)) (written (now (out .entry)) (cut (glyphEntries form (now (glyphs .entry))) [] (ligatureTable (now (src .entry))))) ⌝ }
+    requires { ⌜ (headerFault (enough (now src) (word (now src) 4)) 0 4 (setFaultOf Ligatures (now src)) (now src) ≡ none) × (length (now src) ≤ limit) × GlyphMap (marks .form) (now glyphs) × (length (now area) ≤ areaMost) ⌝ }
+    ensures { λ r. ⌜ Tries (length (now (t .entry)) < cellsMost) (length (now (area .entry)) < areaMost) r (now (out .entry)) (now (out .exit)) (writtenIn (marks .layout) (now (out .entry)) (cut (glyphEntries (marks .form) (now (glyphs .entry))) [] (ligatureTable (now (src .entry))))) ⌝ }
 {
     if word_inside(src, 2) == 0 {
         return Tried::Became(Laid::Nothing);
     }
-    let g = lay_glyphs(glyphs, form, t, 0);
+    let g = lay_glyphs(glyphs, marks.form, t, 0);
     if g.mask == 0 {
         return Tried::FewCells;
     }
@@ -118,7 +130,7 @@ fn cut_ligatures(
         ahead: g,
         lookups: g,
     };
-    cut_sets(Sort::Ligatures, src, glyphs, form, maps, t, area, out)
+    cut_sets(Sort::Ligatures, src, glyphs, marks, maps, t, area, out)
 }
 
 // The same for contexts by glyph, plain or chained.
@@ -126,19 +138,19 @@ fn cut_contexts(
     chained: bool,
     src: &[u8],
     glyphs: &[u8],
-    form: usize,
+    marks: Marks,
     lookups: &[u8],
     t: &mut [u32],
     area: &mut [u8],
     out: &mut [u8],
 ) -> Tried
-    requires { ⌜ (headerFault (enough (now src) (word (now src) 4)) 0 4 (setFaultOf (Rules chained) (now src)) (now src) ≡ none) × (length (now src) ≤ limit) × GlyphMap form (now glyphs) × (ascends (keys (mapEntries (now lookups))) ≡ true) × (length (now area) ≤ areaMost) ⌝ }
-    ensures { λ r. ⌜ Tries (length (now (t .entry)) < cellsMost) (length (now (area .entry)) < areaMost) r (now (out .entry)) (now (out .exit)) (written (now (out .entry)) (cut (glyphEntries form (now (glyphs .entry))) (mapEntries (now (lookups .entry))) (glyphContext chained (now (src .entry))))) ⌝ }
+    requires { ⌜ (headerFault (enough (now src) (word (now src) 4)) 0 4 (setFaultOf (Rules chained) (now src)) (now src) ≡ none) × (length (now src) ≤ limit) × GlyphMap (marks .form) (now glyphs) × (ascends (keys (mapEntries (now lookups))) ≡ true) × (length (now area) ≤ areaMost) ⌝ }
+    ensures { λ r. ⌜ Tries (length (now (t .entry)) < cellsMost) (length (now (area .entry)) < areaMost) r (now (out .entry)) (now (out .exit)) (writtenIn (marks .layout) (now (out .entry)) (cut (glyphEntries (marks .form) (now (glyphs .entry))) (mapEntries (now (lookups .entry))) (glyphContext chained (now (src .entry))))) ⌝ }
 {
     if word_inside(src, 2) == 0 {
         return Tried::Became(Laid::Nothing);
     }
-    let g = lay_glyphs(glyphs, form, t, 0);
+    let g = lay_glyphs(glyphs, marks.form, t, 0);
     if g.mask == 0 {
         return Tried::FewCells;
     }
@@ -152,7 +164,7 @@ fn cut_contexts(
         ahead: g,
         lookups: l,
     };
-    cut_sets(Sort::Rules(chained), src, glyphs, form, maps, t, area, out)
+    cut_sets(Sort::Rules(chained), src, glyphs, marks, maps, t, area, out)
 }
 
 // What is left of a table of pairs, whose retained covered glyphs are noted: its new value formats, and then the table with the fields that stay.
@@ -165,7 +177,7 @@ fn write_pair_table(
     out: &mut [u8],
 ) -> Tried
     requires { ⌜ Ready (pairsOf (now src)) (now src) (now t) (oneMap g) (notes .at) (notes .count) × (length (now area) ≤ areaMost) ⌝ }
-    ensures { λ r. ⌜ AnsweredPairs (now (src .entry)) (now (t .entry)) g (notes .at) (notes .count) (now (out .entry)) (length (now (area .entry))) r (now (out .exit)) ⌝ }
+    ensures { λ r. ⌜ AnsweredPairs (notes .packing) (now (src .entry)) (now (t .entry)) g (notes .at) (notes .count) (now (out .entry)) (length (now (area .entry))) r (now (out .exit)) ⌝ }
 {
     let f = new_formats(src, t, notes.at, notes.count, g);
     let mut places = [0u8; 8];
@@ -192,24 +204,25 @@ fn write_pair_table(
 fn cut_pair_sets(
     src: &[u8],
     glyphs: &[u8],
-    form: usize,
+    marks: Marks,
     g: Map,
     t: &mut [u32],
     area: &mut [u8],
     out: &mut [u8],
 ) -> Tried
-    requires { ⌜ SoundSets (pairsOf (now src)) (now src) × MapsLaid form (now glyphs) (now t) (oneMap g) × (length (now area) ≤ areaMost) × (word (now src) 2 ≡ 0 → ⊥) ⌝ }
-    ensures { λ r. ⌜ Answered (length (now (t .entry)) ≤ behind (oneMap g) + 65536) (now (out .entry)) (block tableWords (cut (glyphEntries form (now (glyphs .entry))) [] (pairTable (now (src .entry))))) (length (now (area .entry))) r (now (out .exit)) ⌝ }
+    requires { ⌜ SoundSets (pairsOf (now src)) (now src) × MapsLaid (marks .form) (now glyphs) (now t) (oneMap g) × (length (now area) ≤ areaMost) × (word (now src) 2 ≡ 0 → ⊥) ⌝ }
+    ensures { λ r. ⌜ Answered (length (now (t .entry)) ≤ behind (oneMap g) + 65536) (now (out .entry)) (block (wordsIn (marks .layout)) (cut (glyphEntries (marks .form) (now (glyphs .entry))) [] (pairTable (now (src .entry))))) (length (now (area .entry))) r (now (out .exit)) ⌝ }
 {
     let cover = word_inside(src, 2);
     let notes = g.at + g.mask + 1;
-    if t.len() <= notes + most(src, cover, glyphs, form) {
+    if t.len() <= notes + most(src, cover, glyphs, marks.form) {
         return Tried::FewCells;
     }
-    let m = meet(src, cover, glyphs, form, g, t, notes);
+    let m = meet(src, cover, glyphs, marks.form, g, t, notes);
     let found = Notes {
         at: notes,
         count: m,
+        packing: marks.layout,
     };
     write_pair_table(src, g, t, found, area, out)
 }
@@ -218,22 +231,22 @@ fn cut_pair_sets(
 fn cut_pairs(
     src: &[u8],
     glyphs: &[u8],
-    form: usize,
+    marks: Marks,
     t: &mut [u32],
     area: &mut [u8],
     out: &mut [u8],
 ) -> Tried
-    requires { ⌜ (pairFault (now src) ≡ none) × (length (now src) ≤ limit) × GlyphMap form (now glyphs) × (length (now area) ≤ areaMost) ⌝ }
-    ensures { λ r. ⌜ Tries (length (now (t .entry)) < cellsMost) (length (now (area .entry)) < areaMost) r (now (out .entry)) (now (out .exit)) (written (now (out .entry)) (cut (glyphEntries form (now (glyphs .entry))) [] (pairTable (now (src .entry))))) ⌝ }
+    requires { ⌜ (pairFault (now src) ≡ none) × (length (now src) ≤ limit) × GlyphMap (marks .form) (now glyphs) × (length (now area) ≤ areaMost) ⌝ }
+    ensures { λ r. ⌜ Tries (length (now (t .entry)) < cellsMost) (length (now (area .entry)) < areaMost) r (now (out .entry)) (now (out .exit)) (writtenIn (marks .layout) (now (out .entry)) (cut (glyphEntries (marks .form) (now (glyphs .entry))) [] (pairTable (now (src .entry))))) ⌝ }
 {
     if word_inside(src, 2) == 0 {
         return Tried::Became(Laid::Nothing);
     }
-    let g = lay_glyphs(glyphs, form, t, 0);
+    let g = lay_glyphs(glyphs, marks.form, t, 0);
     if g.mask == 0 {
         return Tried::FewCells;
     }
-    cut_pair_sets(src, glyphs, form, g, t, area, out)
+    cut_pair_sets(src, glyphs, marks, g, t, area, out)
 }
 
 // The lesser of two numbers.
@@ -251,16 +264,16 @@ fn least(a: usize, b: usize) -> usize
 pub fn ligatures(
     src: &[u8],
     glyphs: &[u8],
-    form: usize,
+    marks: Marks,
     t: &mut [u32],
     area: &mut [u8],
     out: &mut [u8],
 ) -> Tried
-    requires { ⌜ (headerFault (enough (now src) (word (now src) 4)) 0 4 (setFaultOf Ligatures (now src)) (now src) ≡ none) × (length (now src) ≤ limit) × GlyphMap form (now glyphs) ⌝ }
-    ensures { λ r. ⌜ Tries (length (now (t .entry)) < cellsMost) (length (now (area .entry)) < areaMost) r (now (out .entry)) (now (out .exit)) (written (now (out .entry)) (cut (glyphEntries form (now (glyphs .entry))) [] (ligatureTable (now (src .entry))))) ⌝ }
+    requires { ⌜ (headerFault (enough (now src) (word (now src) 4)) 0 4 (setFaultOf Ligatures (now src)) (now src) ≡ none) × (length (now src) ≤ limit) × GlyphMap (marks .form) (now glyphs) ⌝ }
+    ensures { λ r. ⌜ Tries (length (now (t .entry)) < cellsMost) (length (now (area .entry)) < areaMost) r (now (out .entry)) (now (out .exit)) (writtenIn (marks .layout) (now (out .entry)) (cut (glyphEntries (marks .form) (now (glyphs .entry))) [] (ligatureTable (now (src .entry))))) ⌝ }
 {
     let bytes = least(area.len(), AREA);
-    cut_ligatures(src, glyphs, form, t, &mut area[..bytes], out)
+    cut_ligatures(src, glyphs, marks, t, &mut area[..bytes], out)
 }
 
 // The same of a context by glyph, plain or chained, under a glyph map and a lookup map.
@@ -268,21 +281,21 @@ pub fn contexts(
     chained: bool,
     src: &[u8],
     glyphs: &[u8],
-    form: usize,
+    marks: Marks,
     lookups: &[u8],
     t: &mut [u32],
     area: &mut [u8],
     out: &mut [u8],
 ) -> Tried
-    requires { ⌜ (headerFault (enough (now src) (word (now src) 4)) 0 4 (setFaultOf (Rules chained) (now src)) (now src) ≡ none) × (length (now src) ≤ limit) × GlyphMap form (now glyphs) × (ascends (keys (mapEntries (now lookups))) ≡ true) ⌝ }
-    ensures { λ r. ⌜ Tries (length (now (t .entry)) < cellsMost) (length (now (area .entry)) < areaMost) r (now (out .entry)) (now (out .exit)) (written (now (out .entry)) (cut (glyphEntries form (now (glyphs .entry))) (mapEntries (now (lookups .entry))) (glyphContext chained (now (src .entry))))) ⌝ }
+    requires { ⌜ (headerFault (enough (now src) (word (now src) 4)) 0 4 (setFaultOf (Rules chained) (now src)) (now src) ≡ none) × (length (now src) ≤ limit) × GlyphMap (marks .form) (now glyphs) × (ascends (keys (mapEntries (now lookups))) ≡ true) ⌝ }
+    ensures { λ r. ⌜ Tries (length (now (t .entry)) < cellsMost) (length (now (area .entry)) < areaMost) r (now (out .entry)) (now (out .exit)) (writtenIn (marks .layout) (now (out .entry)) (cut (glyphEntries (marks .form) (now (glyphs .entry))) (mapEntries (now (lookups .entry))) (glyphContext chained (now (src .entry))))) ⌝ }
 {
     let bytes = least(area.len(), AREA);
     cut_contexts(
         chained,
         src,
         glyphs,
-        form,
+        marks,
         lookups,
         t,
         &mut area[..bytes],
@@ -294,14 +307,14 @@ pub fn contexts(
 pub fn pairs(
     src: &[u8],
     glyphs: &[u8],
-    form: usize,
+    marks: Marks,
     t: &mut [u32],
     area: &mut [u8],
     out: &mut [u8],
 ) -> Tried
-    requires { ⌜ (pairFault (now src) ≡ none) × (length (now src) ≤ limit) × GlyphMap form (now glyphs) ⌝ }
-    ensures { λ r. ⌜ Tries (length (now (t .entry)) < cellsMost) (length (now (area .entry)) < areaMost) r (now (out .entry)) (now (out .exit)) (written (now (out .entry)) (cut (glyphEntries form (now (glyphs .entry))) [] (pairTable (now (src .entry))))) ⌝ }
+    requires { ⌜ (pairFault (now src) ≡ none) × (length (now src) ≤ limit) × GlyphMap (marks .form) (now glyphs) ⌝ }
+    ensures { λ r. ⌜ Tries (length (now (t .entry)) < cellsMost) (length (now (area .entry)) < areaMost) r (now (out .entry)) (now (out .exit)) (writtenIn (marks .layout) (now (out .entry)) (cut (glyphEntries (marks .form) (now (glyphs .entry))) [] (pairTable (now (src .entry))))) ⌝ }
 {
     let bytes = least(area.len(), AREA);
-    cut_pairs(src, glyphs, form, t, &mut area[..bytes], out)
+    cut_pairs(src, glyphs, marks, t, &mut area[..bytes], out)
 }

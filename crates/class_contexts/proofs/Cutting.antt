@@ -1,9 +1,9 @@
 -- From the cells of the maps to what is left of the context.
 use Prim.Native.Nat.{ℕ, _+_, _/_, _%_, _≤_, _<_}
 use mathlib.Core.Path.{_≡_, refl, sym, ap, _∙_, subst}
-use mathlib.Core.Bool.{Bool, true, false}
-use mathlib.Core.Option.{Option, some}
-use mathlib.Core.List.{List, _∷_, map}
+use mathlib.Core.Bool.{Bool, true, false, cond}
+use mathlib.Core.Option.{Option}
+use mathlib.Core.List.{List, [], _∷_, map}
 use mathlib.Core.Logic.{_⊎_, inl, inr}
 use native.Mathlib.Decide.{decLt}
 use native.Mathlib.Omega.{arith}
@@ -12,9 +12,9 @@ use Rattle.meaning.specs.Words.{word}
 use Rattle.meaning.specs.Maps.{glyphEntries}
 use Rattle.meaning.specs.Parts.{coverage}
 use Rattle.meaning.specs.Tables.{classContext}
-use Rattle.meaning.specs.Cut.{cut, cutSet, newCoverage, slots}
-use Rattle.meaning.specs.Layout.{block, coverageWords, ruleWords, setWords}
-use Rattle.meaning.specs.Subset.{Outcome, limit, written}
+use Rattle.meaning.specs.Cut.{cut, cutSet, newCoverage}
+use Rattle.meaning.specs.Layout.{block, coverageWords, classWords, ruleWords, setWords}
+use Rattle.meaning.specs.Subset.{Outcome, limit, writtenIn}
 use Rattle.laws.specs.CutGood.{Values}
 use Rattle.laws.specs.SoundGood.{coverage-up}
 use Rattle.fold.specs.Cells.{Holds, kept-more}
@@ -26,13 +26,14 @@ use Rattle.class_slots.specs.Slots.{slotBlocks, present-few}
 use Rattle.tried.specs.Tries.{Tries, tries-less}
 use Rattle.tried.specs.declared.Tried.{Tried}
 use Rattle.tried.specs.declared.Tried.the-variants.{FewCells}
-use Rattle.class_layouts.specs.Tail.{tableBlock, tableBlocks, tailBlocks}
+use Rattle.class_layouts.specs.Tail.{tableBlock, tableBlocks, coverOf}
 use Rattle.class_layouts.specs.Written.{enoughBytes, Writes, leftInto}
 use Rattle.glyph_runs.specs.Runs.{form-is, map-good}
 use Rattle.class_maps.specs.Same.{Same, kept-same, part-alike, inside-same, holds-same, present-same}
-use Rattle.class_contexts.specs.Sides.{newTable, TableFor, Asks, SideIn, Sided, InputIn, InputLaid}
-use Rattle.class_contexts.specs.Meaning.{backAt, inputAt, aheadAt, tailOf, rulesMaps, blocksOf, cut-words, slots-alike}
+use Rattle.class_contexts.specs.Sides.{TableFor, Asks, SideIn, Sided, InputIn, InputLaid}
+use Rattle.class_contexts.specs.Meaning.{backAt, inputAt, aheadAt, rulesMaps, tablesOf, blocksOf, cut-words, slots-alike}
 use Rattle.class_contexts.specs.Cutting.{enoughCells, preparedOf, Cuts, CutsInto}
+use Rattle.class_contexts.proofs.Smallness.{left-fits}
 use Rattle.class_layouts.specs.declared.NewTable.{NewTable}
 use Rattle.class_layouts.specs.declared.Noted.{Noted}
 use Rattle.class_contexts.specs.declared.Begun.{Begun}
@@ -47,7 +48,7 @@ module _ {g : List (ℕ × ℕ)} {s : List ℕ} {at : ℕ} {t u : List ℕ} {end
   table-stays {n} h a =
       let e : notes u (n .list) (n .len) ≡ notes t (n .list) (n .len) = ap (map (λ c. (c / 65536, c % 65536))) (part-alike k (n .list) (n .len) (omega arith) h) in
       record {
-        in-cells = record { inside = omega (arith, a .in-cells .inside, k .size); few = a .in-cells .few; ascend = rw e (a .in-cells .ascend) };
+        in-cells = record { inside = omega (arith, a .in-cells .inside, k .size); few = a .in-cells .few; ascend = rw e (a .in-cells .ascend); words = rw e (a .in-cells .words) };
         is = rw e (a .is);
       }
 
@@ -72,7 +73,7 @@ too-few {n} {m} h l = step (decLt n m)
     step (yes d) = omega arith
     step (no d) = absurd (h (omega arith))
 
-pub few-cells : {chained : Bool} {s : List ℕ} {g : List (ℕ × ℕ)} {l : Map} {t area out : List ℕ} → length t < 655360 → CutsInto chained s g l t area FewCells out out
+pub few-cells : {chained : Bool} {s : List ℕ} {g : List (ℕ × ℕ)} {l : Map} {t area out : List ℕ} {packing : ℕ} → length t < 655360 → CutsInto packing chained s g l t area FewCells out out
 few-cells h = record { cuts = λ {es = es} o v. (h, refl) }
 
 module _ {chained : Bool} {s : List ℕ} {form : ℕ} {glyphs : List ℕ} {begun : Begun} {t₀ area : List ℕ} (a : Cuts chained s form glyphs begun t₀ area) where
@@ -128,9 +129,9 @@ module _ {chained : Bool} {s : List ℕ} {form : ℕ} {glyphs : List ℕ} {begun
             pub ahead-few : d .map .mask ≡ 0 → length t₀ < 655360
             ahead-few z = omega (arith, too-few (λ h. w .room h z) (omega (arith, second-end)), u .kept .size, v .kept .size)
 
-            module _ (zd : d .map .mask ≡ 0 → ⊥) where
+            module _ (zd : d .map .mask ≡ 0 → ⊥) (packing : ℕ) where
               abbrev prepared : Prepared
-              prepared = preparedOf l noted i b d
+              prepared = preparedOf l noted i b d packing
 
               abbrev cov : List ℕ
               cov = coverage s (word s 2)
@@ -171,6 +172,7 @@ module _ {chained : Bool} {s : List ℕ} {form : ℕ} {glyphs : List ℕ} {begun
                   alike = u .alike;
                   few = u .few;
                   number = input-in .count ∙ sym (ap length (input-in .held));
+                  words = λ at k {ws} e h. left-fits chained s (a .bytes) t₃ (prepared .maps) at e h;
                 };
                 few = omega (arith, input-in .count, ap length (input-in .held), present-few t₃ (i .map .at) 0 (i .map .mask + 1), u .few);
                 tail-in = record {
@@ -184,7 +186,7 @@ module _ {chained : Bool} {s : List ℕ} {form : ℕ} {glyphs : List ℕ} {begun
                 short = a .short;
               }
 
-              pub may-write : {p : Prepared} → p ≡ preparedOf l noted i b d → Writes chained s t₃ p area
+              pub may-write : {p : Prepared} → p ≡ preparedOf l noted i b d packing → Writes chained s t₃ p area
               may-write e = rw e writes
 
               -- the blocks of the slots, and what follows the sets
@@ -195,16 +197,19 @@ module _ {chained : Bool} {s : List ℕ} {form : ℕ} {glyphs : List ℕ} {begun
                   let same = set-alike {m = mapsIn t₃ (prepared .maps)} {n = m} (holds-alike (rw eb at (back-in .holds))) (holds-alike (rw ei at (input-in .holds))) (holds-alike (rw ea at (ahead-in .holds))) (holds-alike (holds-same all l (omega arith) (omega (arith, a .before)) h)) chained in
                   rw (input-in .held, input-in .marked, ei) (ap (map F) (slots-alike (cutSet chained (mapsIn t₃ (prepared .maps))) (cutSet chained m) same _ _ _))
 
-              tail-is : tailBlocks chained t₃ (prepared .tail) ≡ tailOf chained (coverageWords (newCoverage g cov)) (newTable g s (backAt chained s)) (newTable g s (inputAt chained s)) (newTable g s (aheadAt chained s))
-              tail-is = rw news-same (step chained (coverageWords (newCoverage g cov)) (rw eb at (back-in .table .is)) (rw ei at (input-in .table .is)) (rw ea at (ahead-in .table .is)))
-                where
-                  step : (c : Bool) (k : List ℕ) {x y z : Option (List ℕ)} → tableBlock t₃ (b .table) ≡ x → tableBlock t₃ (i .table) ≡ y → tableBlock t₃ (d .table) ≡ z
-                      → _≡_ {A = List (Option (List ℕ))} (some k ∷ tableBlocks c t₃ (record { cover = noted; back = b .table; input = i .table; ahead = d .table })) (tailOf c k x y z)
-                  step true k p q r = rw (p, q, r)
-                  step false k p q r = rw q
+              cover-is : coverOf t₃ (prepared .tail) ≡ coverageWords (newCoverage g cov)
+              cover-is = ap coverageWords news-same
 
-              pub cut-into : {p : Prepared} (r : Tried) (out after : List ℕ) → p ≡ preparedOf l noted i b d → Tries ⊥ (length area < enoughBytes) r out after (leftInto out chained s t₃ p) → CutsInto chained s g l t₀ area r out after
-              cut-into r out after e h = record { cuts = λ {es = es} o v. tries-less ⊥ (length area < enoughBytes) (length t₀ < enoughCells) (length area < enoughBytes) r out after (written out (cut g es (classContext chained s))) (λ f. absurd f) (λ f. f) (subst (λ (x : Outcome). Tries ⊥ (length area < enoughBytes) r out after x) (ap (λ (q : Prepared). leftInto out chained s t₃ q) e ∙ said es o v) h) }
+              tables-are : tableBlocks chained t₃ (prepared .tail) ≡ tablesOf chained s g
+              tables-are = step chained _ _ _ (rw eb at (back-in .table .is)) (rw ei at (input-in .table .is)) (rw ea at (ahead-in .table .is))
                 where
-                  said : (es : List (ℕ × ℕ)) → Holds t₀ l es → Values es → leftInto out chained s t₃ prepared ≡ written out (cut g es (classContext chained s))
-                  said es o v = rw (tail-is, blocks-are o) (sym (cut-words chained s g es (a .good) (map-good (a .map)) v (a .covers) (a .classed) out))
+                  step : (c : Bool) (x y z : Option (List (ℕ × ℕ))) → tableBlock t₃ (b .table) ≡ block classWords x → tableBlock t₃ (i .table) ≡ block classWords y → tableBlock t₃ (d .table) ≡ block classWords z
+                      → tableBlocks c t₃ (record { cover = noted; back = b .table; input = i .table; ahead = d .table }) ≡ map (block classWords) (cond c (x ∷ y ∷ z ∷ []) (y ∷ []))
+                  step true x y z p q r = rw (p, q, r)
+                  step false x y z p q r = rw q
+
+              pub cut-into : {p : Prepared} (r : Tried) (out after : List ℕ) → p ≡ preparedOf l noted i b d packing → Tries ⊥ (length area < enoughBytes) r out after (leftInto out chained s t₃ p) → CutsInto packing chained s g l t₀ area r out after
+              cut-into r out after e h = record { cuts = λ {es = es} o v. tries-less ⊥ (length area < enoughBytes) (length t₀ < enoughCells) (length area < enoughBytes) r out after (writtenIn packing out (cut g es (classContext chained s))) (λ f. absurd f) (λ f. f) (subst (λ (x : Outcome). Tries ⊥ (length area < enoughBytes) r out after x) (ap (λ (q : Prepared). leftInto out chained s t₃ q) e ∙ said es o v) h) }
+                where
+                  said : (es : List (ℕ × ℕ)) → Holds t₀ l es → Values es → leftInto out chained s t₃ prepared ≡ writtenIn packing out (cut g es (classContext chained s))
+                  said es o v = rw (cover-is, tables-are, blocks-are o) (sym (cut-words chained s g es (a .good) (map-good (a .map)) v (a .covers) (a .classed) packing out))

@@ -10,6 +10,7 @@ use native.Mathlib.Numerals.{add-one}
 use native.Mathlib.Omega.{arith}
 use lib.ListN.{length, take}
 use lib.Seq.{length-take-le}
+use lib.Dec.{eqb}
 use borrow.Author.Tests.{ne-eqb}
 use Rattle.meaning.specs.Words.{word, inside, find, push, mapSome, isSome, keys, member}
 use Rattle.meaning.specs.Maps.{mapEntries, glyphEntries}
@@ -17,8 +18,8 @@ use Rattle.meaning.specs.Parts.{coverage, coverageSound, classesSound}
 use Rattle.meaning.specs.Tables.{Rule, reach, classContext}
 use Rattle.meaning.specs.Fault.{faultThrough, coverageFault, classesFault, ruleFault, setFault, headerFault, contextFault}
 use Rattle.meaning.specs.Cut.{cut, cutSet, heldBy, newCoverage, retained, slots, keepSlot, trim}
-use Rattle.meaning.specs.Layout.{block, ruleWords, setWords}
-use Rattle.meaning.specs.Subset.{Outcome, limit, written, refused}
+use Rattle.meaning.specs.Layout.{block, coverageWords, ruleWords, setWords}
+use Rattle.meaning.specs.Subset.{Outcome, limit, writtenIn, refused}
 use Rattle.laws.specs.Runs.{both}
 use Rattle.laws.specs.Through.{Opt}
 use Rattle.laws.specs.ReadsBack.{Good}
@@ -42,7 +43,7 @@ use Rattle.tried.specs.declared.Tried.the-variants.{Became}
 use Rattle.room.specs.declared.Laid.the-variants.{Nothing}
 use Rattle.class_layouts.specs.Table.{tableInto}
 use Rattle.class_layouts.specs.Written.{enoughBytes}
-use Rattle.class_contexts.specs.Meaning.{inputAt, setsOf, SoundContext, rulesMaps, cut-words}
+use Rattle.class_contexts.specs.Meaning.{inputAt, setsOf, SoundContext, rulesMaps, tablesOf, cut-words}
 use Rattle.class_contexts.specs.Cutting.{enoughCells, Sound, Begins, Cuts, CutsInto, Least}
 use Rattle.class_contexts.specs.declared.BothMaps.{BothMaps}
 
@@ -147,15 +148,15 @@ module _ {chained : Bool} {s : List ℕ} {form : ℕ} {glyphs : List ℕ} {maps 
     noted-is = met-news g h ∙ ap (λ (c : ℕ). newCoverage g (coverage s c)) f
 
     -- no covered glyph is retained
-    pub none-noted : {out : List ℕ} → k ≡ 0 → CutsInto chained s g (maps .lookups) t area (Became Nothing) out out
+    pub none-noted : {packing : ℕ} {out : List ℕ} → k ≡ 0 → CutsInto packing chained s g (maps .lookups) t area (Became Nothing) out out
     unfolding part tableInto heldBy
-    none-noted {out} z = record { cuts = λ {es = es} o v. sym (cut-words chained s g es (a .good) (map-good (a .map)) v (a .covers) (a .classed) out ∙ gone _ es) }
+    none-noted {packing} {out} z = record { cuts = λ {es = es} o v. sym (cut-words chained s g es (a .good) (map-good (a .map)) v (a .covers) (a .classed) packing out ∙ gone es) }
       where
         empty : newCoverage g (coverage s (word s 2)) ≡ []
         empty = sym noted-is ∙ ap (λ (n : ℕ). news t₁ at n) z
 
-        gone : (tail : List (Option (List ℕ))) (es : List (ℕ × ℕ)) → tableInto out tail (trim (map (block (setWords (ruleWords chained))) (slots (cutSet chained (rulesMaps chained s g es)) (heldBy (classesAt s (inputAt chained s)) (retained g (coverage s (word s 2)))) (setsOf chained s) (heldBy (classesAt s (inputAt chained s)) (keys g))))) ≡ refused out 8
-        gone tail es = rw (retained-none g (coverage s (word s 2)) empty, ← (trim-blocks (setWords (ruleWords chained)) (slots (cutSet chained (rulesMaps chained s g es)) [] (setsOf chained s) (heldBy (classesAt s (inputAt chained s)) (keys g)))), no-slots (cutSet chained (rulesMaps chained s g es)) (setsOf chained s) (heldBy (classesAt s (inputAt chained s)) (keys g))) refl
+        gone : (es : List (ℕ × ℕ)) → tableInto (eqb packing 1) out (coverageWords (newCoverage g (coverage s (word s 2)))) (tablesOf chained s g) (trim (map (block (setWords (ruleWords chained))) (slots (cutSet chained (rulesMaps chained s g es)) (heldBy (classesAt s (inputAt chained s)) (retained g (coverage s (word s 2)))) (setsOf chained s) (heldBy (classesAt s (inputAt chained s)) (keys g))))) ≡ refused out 8
+        gone es = rw (retained-none g (coverage s (word s 2)) empty, ← (trim-blocks (setWords (ruleWords chained)) (slots (cutSet chained (rulesMaps chained s g es)) [] (setsOf chained s) (heldBy (classesAt s (inputAt chained s)) (keys g)))), no-slots (cutSet chained (rulesMaps chained s g es)) (setsOf chained s) (heldBy (classesAt s (inputAt chained s)) (keys g))) refl
 
     -- there are no more than entries
     few-noted : k ≤ 65536
@@ -164,6 +165,7 @@ module _ {chained : Bool} {s : List ℕ} {form : ℕ} {glyphs : List ℕ} {maps 
     pub may-cut : (k ≡ 0 → ⊥) → Cuts chained s form glyphs (record { lookups = maps .lookups; cover = record { at = at; len = k } }) t₁ area
     may-cut z = record {
       sound = a .sound;
+      bytes = a .bytes;
       good = a .good;
       map = a .map;
       lookups = record { within = omega (arith, a .lookups .within, h .kept .size) };
@@ -179,8 +181,8 @@ module _ {chained : Bool} {s : List ℕ} {form : ℕ} {glyphs : List ℕ} {maps 
       cells = omega (arith, a .cells, h .kept .size);
     }
 
-    pub cut-after : {r : Tried} {out after : List ℕ} → CutsInto chained s g (maps .lookups) t₁ area r out after → CutsInto chained s g (maps .lookups) t area r out after
-    cut-after {r} {out} {after} c = record { cuts = λ {es = es} o v. rw (h .kept .size) at (c .cuts (holds-kept (h .kept) (omega (arith, a .before)) o) v) }
+    pub cut-after : {packing : ℕ} {r : Tried} {out after : List ℕ} → CutsInto packing chained s g (maps .lookups) t₁ area r out after → CutsInto packing chained s g (maps .lookups) t area r out after
+    cut-after c = record { cuts = λ {es = es} o v. rw (h .kept .size) at (c .cuts (holds-kept (h .kept) (omega (arith, a .before)) o) v) }
 
 module _ {chained : Bool} {s : List ℕ} {form : ℕ} {glyphs lookups : List ℕ} (o : Sound chained s form glyphs lookups) {t₀ t₁ : List ℕ} {l : Map} (a : Laid lookups t₀ t₁ 0 l) where
   -- too few cells for the lookups
@@ -212,6 +214,7 @@ module _ {chained : Bool} {s : List ℕ} {form : ℕ} {glyphs lookups : List ℕ
           → Begins chained s form glyphs (record { lookups = l; glyphs = m }) t₂ area
       may-begin bs bg e z f y k h = record {
         sound = context-sound chained s (o .sound) (o .format) (o .source);
+        bytes = bs;
         good = context-good chained s bs (o .sound) (o .format);
         map = record { form-good = o .form-good; good = o .glyphs-good; bytes = bg };
         lookups = lookups-held .inside;
@@ -224,10 +227,10 @@ module _ {chained : Bool} {s : List ℕ} {form : ℕ} {glyphs lookups : List ℕ
         cells = omega (arith, a .kept .size, b .kept .size);
       }
 
-      pub maps-cut : {area : List ℕ} (r : Tried) (out after : List ℕ) → Bytes lookups → CutsInto chained s (glyphEntries form glyphs) l t₂ area r out after
-          → Tries (length t₀ < 655360) (length area < enoughBytes) r out after (written out (cut (glyphEntries form glyphs) (mapEntries lookups) (classContext chained s)))
-      maps-cut {area} r out after bl c =
-          tries-less (length t₂ < 655360) (length area < enoughBytes) (length t₀ < 655360) (length area < enoughBytes) r out after (written out (cut (glyphEntries form glyphs) (mapEntries lookups) (classContext chained s))) (λ f. omega (arith, f, a .kept .size, b .kept .size)) (λ f. f) (c .cuts lookups-held (map-values lookups bl))
+      pub maps-cut : {area : List ℕ} {packing : ℕ} (r : Tried) (out after : List ℕ) → Bytes lookups → CutsInto packing chained s (glyphEntries form glyphs) l t₂ area r out after
+          → Tries (length t₀ < 655360) (length area < enoughBytes) r out after (writtenIn packing out (cut (glyphEntries form glyphs) (mapEntries lookups) (classContext chained s)))
+      maps-cut {area} {packing} r out after bl c =
+          tries-less (length t₂ < 655360) (length area < enoughBytes) (length t₀ < 655360) (length area < enoughBytes) r out after (writtenIn packing out (cut (glyphEntries form glyphs) (mapEntries lookups) (classContext chained s))) (λ f. omega (arith, f, a .kept .size, b .kept .size)) (λ f. f) (c .cuts lookups-held (map-values lookups bl))
 
 -- A front of the scratch that is long enough, or all of it.
 pub front-length : {n c : ℕ} (t : List ℕ) → Least (length t) c n → n ≡ length (take n t)

@@ -1,3 +1,4 @@
+pub mod Smallness
 pub mod Siding
 pub mod Cutting
 pub mod Entry

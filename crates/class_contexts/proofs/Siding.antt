@@ -8,9 +8,11 @@ use Rattle.meaning.specs.Words.{values}
 use Rattle.meaning.specs.Maps.{glyphEntries}
 use Rattle.meaning.specs.Cut.{classMap, newClasses}
 use Rattle.laws.specs.Runs.{up-ascends}
-use Rattle.laws.specs.CutGood.{GoodMap}
+use Rattle.laws.specs.CutGood.{GoodMap, new-classes}
+use Rattle.laws.specs.Fits.{classes-fit}
 use Rattle.fold.specs.Cells.{Inside, Kept, kept-more}
 use Rattle.fold.specs.declared.Map.{Map}
+use Rattle.area.specs.Part.{notes}
 use Rattle.glyph_runs.specs.Runs.{map-good}
 use Rattle.class_lists.specs.Tables.{classesAt}
 use Rattle.class_lists.specs.Elsewhere.{elsewhere-kept}
@@ -27,14 +29,18 @@ use Rattle.class_contexts.specs.declared.Input.{Input}
 -- the entries of the new class table are written in the place of the classes
 entered : {s : List ℕ} {at : ℕ} {g : List (ℕ × ℕ)} {t u : List ℕ} {list n : ℕ} {r : ClassMap} → GoodMap g → Classes (classesAt s at) g t list r → Entries t u list (r .map) n → TableFor g s at u (record { old = at; list = list; len = n })
 unfolding newClasses
-entered {s} {at} {g} {t} {u} {list} {n} good c e = record {
-  in-cells = record {
-    inside = omega (arith, e .few, c .direct .inside .within, e .elsewhere .size);
-    few = omega (arith, e .few, c .near);
-    ascend = entries-ascend e (c .lists) (c .holds) (up-ascends 0 (values g) (good .new));
-  };
-  is = table-is g s at u (record { old = at; list = list; len = n }) refl (e .entries (classesAt s at) g (classMap g (classesAt s at)) (c .lists) (c .holds) (zero-first g (classesAt s at)));
-}
+entered {s} {at} {g} {t} {u} {list} {n} good c e =
+    let cs = classesAt s at in
+    let is : notes u list n ≡ newClasses g cs = e .entries cs g (classMap g cs) (c .lists) (c .holds) (zero-first g cs) in
+    record {
+      in-cells = record {
+        inside = omega (arith, e .few, c .direct .inside .within, e .elsewhere .size);
+        few = omega (arith, e .few, c .near);
+        ascend = entries-ascend e (c .lists) (c .holds) (up-ascends 0 (values g) (good .new));
+        words = rw is (classes-fit (newClasses g cs) (new-classes g good cs) .0);
+      };
+      is = table-is g s at u (record { old = at; list = list; len = n }) refl is;
+    }
 
 module _ {s : List ℕ} {at form : ℕ} {glyphs : List ℕ} {list : ℕ} (a : Asks s at form glyphs list) {t₀ t₁ : List ℕ} {c : ClassMap} (w : Mapped (classesAt s at) (glyphEntries form glyphs) t₀ t₁ list c) where
   -- too few cells

@@ -11,9 +11,10 @@ use Rattle.meaning.specs.Parts.{coverage}
 use Rattle.meaning.specs.Tables.{classContext}
 use Rattle.meaning.specs.Fault.{contextFault}
 use Rattle.meaning.specs.Cut.{cut, newCoverage}
-use Rattle.meaning.specs.Subset.{limit, written}
+use Rattle.meaning.specs.Subset.{limit, writtenIn}
 use Rattle.laws.specs.ReadsBack.{Good}
 use Rattle.laws.specs.CutGood.{Values}
+use Rattle.laws.specs.SoundGood.{Bytes}
 use Rattle.fold.specs.Cells.{Inside, Holds}
 use Rattle.fold.specs.declared.Map.{Map}
 use Rattle.area.specs.Part.{news}
@@ -42,18 +43,20 @@ pub record Sound (chained : Bool) (s : List ℕ) (form : ℕ) (glyphs lookups : 
   pub glyphs-good : goodGlyphMap form glyphs ≡ true
   pub lookups-ascend : ascends (keys (mapEntries lookups)) ≡ true
 
--- all that the cells hold for a cut
-abbrev pub preparedOf : Map → Noted → Input → Side → Side → Prepared
-preparedOf l noted i b a = record {
+-- all that the cells hold for a cut, and the mark of the layout
+abbrev pub preparedOf : Map → Noted → Input → Side → Side → ℕ → Prepared
+preparedOf l noted i b a packing = record {
   maps = record { back = b .map; input = i .map; ahead = a .map; lookups = l };
   marks = i .marks;
   classes = i .classes;
   tail = record { cover = noted; back = b .table; input = i .table; ahead = a .table };
+  packing = packing;
 }
 
 -- what is asked where both maps lie in cells, that of the lookups first
 pub record Begins (chained : Bool) (s : List ℕ) (form : ℕ) (glyphs : List ℕ) (m : BothMaps) (t area : List ℕ) : Type 0 where
   pub sound : SoundContext chained s
+  pub bytes : Bytes s
   pub good : Good (classContext chained s)
   pub map : GlyphMap form glyphs
   pub lookups : Inside t (m .lookups)
@@ -68,6 +71,7 @@ pub record Begins (chained : Bool) (s : List ℕ) (form : ℕ) (glyphs : List �
 -- what is asked where the covered glyphs are noted in cells: there is one, and the cells of the lookup map stand before them
 pub record Cuts (chained : Bool) (s : List ℕ) (form : ℕ) (glyphs : List ℕ) (b : Begun) (t area : List ℕ) : Type 0 where
   pub sound : SoundContext chained s
+  pub bytes : Bytes s
   pub good : Good (classContext chained s)
   pub map : GlyphMap form glyphs
   pub lookups : Inside t (b .lookups)
@@ -82,9 +86,9 @@ pub record Cuts (chained : Bool) (s : List ℕ) (form : ℕ) (glyphs : List ℕ)
   pub short : length area ≤ 0x1_0000_0000
   pub cells : length t ≤ 0x1_0000_0000
 
--- whatever lookup map of words the cells of l hold, what is left of the context under the glyph map g is handed over
-pub record CutsInto (chained : Bool) (s : List ℕ) (g : List (ℕ × ℕ)) (l : Map) (t area : List ℕ) (r : Tried) (out after : List ℕ) : Type 0 where
-  pub cuts : {es : List (ℕ × ℕ)} → Holds t l es → Values es → Tries (length t < enoughCells) (length area < enoughBytes) r out after (written out (cut g es (classContext chained s)))
+-- whatever lookup map of words the cells of l hold, what is left of the context under the glyph map g is handed over in the layout with the mark `packing`
+pub record CutsInto (packing : ℕ) (chained : Bool) (s : List ℕ) (g : List (ℕ × ℕ)) (l : Map) (t area : List ℕ) (r : Tried) (out after : List ℕ) : Type 0 where
+  pub cuts : {es : List (ℕ × ℕ)} → Holds t l es → Values es → Tries (length t < enoughCells) (length area < enoughBytes) r out after (writtenIn packing out (cut g es (classContext chained s)))
 
 -- r is the lesser of a and b
 pub record Least (a b r : ℕ) : Type 0 where

@@ -1,3 +1,4 @@
+pub mod Layouts
 pub mod Sides
 pub mod Meaning
 pub mod Cutting

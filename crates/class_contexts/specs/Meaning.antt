@@ -1,33 +1,29 @@
 -- Format 2 as its source says it, and what the definitions say is left of it.
 use Prim.Native.Nat.{ℕ, _+_, _*_, _≤_, _<_}
 use mathlib.Core.Path.{_≡_, refl, sym, ap, _∙_, subst}
-use mathlib.Core.Bool.{Bool, true, false, cond, _&&_}
+use mathlib.Core.Bool.{Bool, true, false, cond}
 use mathlib.Core.Option.{Option, none, some}
 use mathlib.Core.List.{List, [], _∷_, map}
 use native.Mathlib.Nat.{zero-add}
-use native.Mathlib.Omega.{arith}
 use lib.ListN.{length, getD}
-use lib.Dec.{leb}
-use borrow.Author.Tests.{eq-eqb, ne-eqb, le-leb}
+use lib.Dec.{eqb}
+use borrow.Author.Tests.{eq-eqb, ne-eqb}
 use Rattle.meaning.specs.Words.{word, bind, keys, member}
 use Rattle.meaning.specs.Parts.{coverage, coverageSound, classes, listed}
 use Rattle.meaning.specs.Tables.{Table, Rule, reach, reaches, ruleSet, classContext}
 use Rattle.meaning.specs.Fault.{ruleFault, setFault}
 use Rattle.meaning.specs.Cut.{RuleMaps, cut, cutSet, heldBy, classMap, classMap?, newClasses?, newCoverage, retained, slots, trim, keptByClass}
-use Rattle.meaning.specs.Layout.{offsets, blocks, block, coverageWords, classWords, ruleWords, setWords, tableWords, wordsFit}
-use Rattle.meaning.specs.Subset.{refused, limit, written}
+use Rattle.meaning.specs.Layout.{block, coverageWords, classWords, ruleWords, setWords}
+use Rattle.meaning.specs.Subset.{refused, limit, writtenIn}
 use Rattle.laws.specs.Through.{Opt}
-use Rattle.laws.specs.ReadsBack.{Good, kindOf, ruleSetKind}
-use Rattle.laws.specs.CutGood.{GoodMap, Values, GoodOf, up-length}
+use Rattle.laws.specs.ReadsBack.{Good, kindOf}
+use Rattle.laws.specs.CutGood.{GoodMap, Values, GoodOf}
 use Rattle.laws.specs.CutTables.{cut-good}
-use Rattle.laws.specs.FitsExactly.{shortTables, coverAt, offsets-exactly, by-class-exactly}
-use Rattle.room.specs.Laid.{laid-words}
 use Rattle.class_lists.specs.Tables.{tableAt, classesAt, NullOrSound, table-there}
 use Rattle.class_maps.specs.SlotWalk.{trim-blocks}
 use Rattle.class_slots.specs.Sets.{slotsAt, countAt}
-use Rattle.class_layouts.specs.Tail.{cover-short, shortBlocks, tailFit}
 use Rattle.class_layouts.specs.Table.{tableInto}
-use Rattle.class_contexts.specs.Sides.{newTable}
+use Rattle.class_contexts.specs.Layouts.{laid-class}
 
 -- where the class tables of backtrack, input and lookahead stand; 0 is none
 abbrev pub backAt : Bool → List ℕ → ℕ
@@ -62,47 +58,13 @@ unfolding classContext reach tableAt
 context-is false s = rw (zero-add (word s 4)) refl
 context-is true s = rw (zero-add (word s 4), zero-add (word s 6), zero-add (word s 8)) refl
 
--- the block of the coverage, and those of the class tables
-abbrev pub tailOf : Bool → List ℕ → Option (List ℕ) → Option (List ℕ) → Option (List ℕ) → List (Option (List ℕ))
-tailOf false cov b i a = some cov ∷ i ∷ []
-tailOf true cov b i a = some cov ∷ b ∷ i ∷ a ∷ []
-
--- Words that fit.
-
--- class tables that are short, as blocks
-tables-short : (cs : List (Option (List (ℕ × ℕ)))) → shortTables cs ≡ shortBlocks (map (block classWords) cs)
-unfolding shortTables shortBlocks block
-tables-short [] = refl
-tables-short (none ∷ cs) = tables-short cs
-tables-short (some es ∷ cs) = ap (λ (t : Bool). leb (length (classWords es)) 65538 && t) (tables-short cs)
-
--- the words of a good table fit exactly if what follows its sets does
-table-fits : (chained : Bool) (cov : List ℕ) (b i a : Option (List (ℕ × ℕ))) (sets : List (Option (List Rule))) → Good (Table.by-class chained (some cov) b i a sets)
-    → let cs = cond chained (b ∷ i ∷ a ∷ []) (i ∷ []) in
-    let tail = some (coverageWords cov) ∷ map (block classWords) cs in
-    let bs = map (block (setWords (ruleWords chained))) sets in
-    wordsFit (tableWords (Table.by-class chained (some cov) b i a sets)) ≡ tailFit (4 + 2 * length tail + 2 * length bs + 2 * length (blocks bs)) tail
-unfolding tailFit shortBlocks ruleSetKind
-table-fits chained cov b i a sets g =
-    let cs = cond chained (b ∷ i ∷ a ∷ []) (i ∷ []) in
-    let tail = some (coverageWords cov) ∷ map (block classWords) cs in
-    let bs = map (block (setWords (ruleWords chained))) sets in
-    let q = coverAt (ruleSetKind chained) 2 cov cs [] sets in
-    let e : q ≡ 4 + 2 * length tail + 2 * length bs + 2 * length (blocks bs) = omega arith in
-    let few = up-length 0 cov (omega arith) (g .0 .0) (g .0 .1) in
-    by-class-exactly chained cov b i a sets g
-    ∙ ap (λ (t : Bool). t && shortTables cs) (sym (offsets-exactly q tail))
-    ∙ ap (λ (t : Bool). wordsFit (offsets q tail) && t) (tables-short cs ∙ rw (le-leb (length (coverageWords cov)) 65538 (cover-short cov (omega (arith, few)))))
-    ∙ ap (λ (n : ℕ). wordsFit (offsets n tail) && (leb (length (coverageWords cov)) 65538 && shortBlocks (map (block classWords) cs))) e
-
 -- a table that is kept, as its words
-kept-words : (k : ℕ) (chained : Bool) (out cov : List ℕ) (b i a : Option (List (ℕ × ℕ))) (l : List (Option (List Rule))) → Opt (GoodOf k) (keptByClass chained cov b i a l)
-    → written out (keptByClass chained cov b i a l) ≡ tableInto out (tailOf chained (coverageWords cov) (block classWords b) (block classWords i) (block classWords a)) (map (block (setWords (ruleWords chained))) l)
-unfolding written keptByClass tableInto tableWords block
-kept-words k true out cov b i a [] g = refl
-kept-words k false out cov b i a [] g = refl
-kept-words k true out cov b i a (x ∷ l) g = sym (laid-words out (tableWords (Table.by-class true (some cov) b i a (x ∷ l))) (table-fits true cov b i a (x ∷ l) (g .0)))
-kept-words k false out cov b i a (x ∷ l) g = sym (laid-words out (tableWords (Table.by-class false (some cov) b i a (x ∷ l))) (table-fits false cov b i a (x ∷ l) (g .0)))
+kept-words : (k packing : ℕ) (chained : Bool) (out cov : List ℕ) (b i a : Option (List (ℕ × ℕ))) (l : List (Option (List Rule))) → Opt (GoodOf k) (keptByClass chained cov b i a l)
+    → writtenIn packing out (keptByClass chained cov b i a l)
+    ≡ tableInto (eqb packing 1) out (coverageWords cov) (map (block classWords) (cond chained (b ∷ i ∷ a ∷ []) (i ∷ []))) (map (block (setWords (ruleWords chained))) l)
+unfolding writtenIn keptByClass tableInto
+kept-words k packing chained out cov b i a [] g = refl
+kept-words k packing chained out cov b i a (x ∷ l) g = laid-class chained cov b i a (x ∷ l) (g .0) packing out
 
 -- what is left of a context whose coverage and input classes are there
 cut-class : (g l : List (ℕ × ℕ)) (chained : Bool) (cov : List ℕ) (b a : Option (List (ℕ × ℕ))) (cs : List (ℕ × ℕ)) (sets : List (Option (List Rule)))
@@ -120,15 +82,21 @@ unfolding cut
 nothing-classed g l chained none x z sets = refl
 nothing-classed g l chained (some cov) x z sets = refl
 
+-- the blocks of the new class tables
+abbrev pub tablesOf : Bool → List ℕ → List (ℕ × ℕ) → List (Option (List ℕ))
+tablesOf chained s g =
+    let i = newClasses? g (tableAt s (inputAt chained s)) in
+    map (block classWords) (cond chained (newClasses? g (tableAt s (backAt chained s)) ∷ i ∷ newClasses? g (tableAt s (aheadAt chained s)) ∷ []) (i ∷ []))
+
 module _ (chained : Bool) (s : List ℕ) (g l : List (ℕ × ℕ)) where
   -- no coverage, or no class table for the input: nothing is left
-  pub not-covered : (out : List ℕ) → word s 2 ≡ 0 → refused out 8 ≡ written out (cut g l (classContext chained s))
-  unfolding written reach
-  not-covered out z = rw (context-is chained s, eq-eqb (word s 2) 0 z, nothing-covered g l chained (tableAt s (backAt chained s)) (tableAt s (inputAt chained s)) (tableAt s (aheadAt chained s)) (setsOf chained s))
+  pub not-covered : (packing : ℕ) (out : List ℕ) → word s 2 ≡ 0 → refused out 8 ≡ writtenIn packing out (cut g l (classContext chained s))
+  unfolding writtenIn reach
+  not-covered packing out z = rw (context-is chained s, eq-eqb (word s 2) 0 z, nothing-covered g l chained (tableAt s (backAt chained s)) (tableAt s (inputAt chained s)) (tableAt s (aheadAt chained s)) (setsOf chained s))
 
-  pub not-classed : (out : List ℕ) → inputAt chained s ≡ 0 → refused out 8 ≡ written out (cut g l (classContext chained s))
-  unfolding written tableAt
-  not-classed out z = rw (context-is chained s, eq-eqb (inputAt chained s) 0 z, nothing-classed g l chained (reach (coverage s) s 0 2) (tableAt s (backAt chained s)) (tableAt s (aheadAt chained s)) (setsOf chained s))
+  pub not-classed : (packing : ℕ) (out : List ℕ) → inputAt chained s ≡ 0 → refused out 8 ≡ writtenIn packing out (cut g l (classContext chained s))
+  unfolding writtenIn tableAt
+  not-classed packing out z = rw (context-is chained s, eq-eqb (inputAt chained s) 0 z, nothing-classed g l chained (reach (coverage s) s 0 2) (tableAt s (backAt chained s)) (tableAt s (aheadAt chained s)) (setsOf chained s))
 
   -- the maps of the rules
   abbrev pub rulesMaps : RuleMaps
@@ -143,10 +111,10 @@ module _ (chained : Bool) (s : List ℕ) (g l : List (ℕ × ℕ)) where
   there z = rw (ne-eqb (word s 2) 0 z, zero-add)
 
   -- what is left, as its words
-  pub cut-words : Good (classContext chained s) → GoodMap g → Values l → (word s 2 ≡ 0 → ⊥) → (inputAt chained s ≡ 0 → ⊥) → (out : List ℕ) → written out (cut g l (classContext chained s))
-      ≡ tableInto out (tailOf chained (coverageWords (newCoverage g (coverage s (word s 2)))) (newTable g s (backAt chained s)) (newTable g s (inputAt chained s)) (newTable g s (aheadAt chained s))) (trim blocksOf)
+  pub cut-words : Good (classContext chained s) → GoodMap g → Values l → (word s 2 ≡ 0 → ⊥) → (inputAt chained s ≡ 0 → ⊥) → (packing : ℕ) (out : List ℕ)
+      → writtenIn packing out (cut g l (classContext chained s)) ≡ tableInto (eqb packing 1) out (coverageWords (newCoverage g (coverage s (word s 2)))) (tablesOf chained s g) (trim blocksOf)
   unfolding listed
-  cut-words good m v z y out =
+  cut-words good m v z y packing out =
       let b = tableAt s (backAt chained s) in
       let a = tableAt s (aheadAt chained s) in
       let cs = classes s (inputAt chained s) in
@@ -158,9 +126,9 @@ module _ (chained : Bool) (s : List ℕ) (g l : List (ℕ × ℕ)) where
       ap (cut g l) (context-is chained s ∙ ap (λ (o : Option (List ℕ)). Table.by-class chained o b (tableAt s (inputAt chained s)) a (setsOf chained s)) (there z) ∙ ap (λ (o : Option (List (ℕ × ℕ))). Table.by-class chained (some cov) b o a (setsOf chained s)) i)
       ∙ cut-class g l chained cov b a cs (setsOf chained s)
       in
-      ap (written out) is
-      ∙ kept-words k chained out (newCoverage g cov) (newClasses? g b) (newClasses? g (some cs)) (newClasses? g a) (trim sl) (subst (Opt (GoodOf k)) is (cut-good g l m v (classContext chained s) good))
-      ∙ ap (λ (bs : List (Option (List ℕ))). tableInto out (tailOf chained (coverageWords (newCoverage g cov)) (newTable g s (backAt chained s)) (block classWords (newClasses? g (some cs))) (newTable g s (aheadAt chained s))) bs) (trim-blocks (setWords (ruleWords chained)) sl)
+      ap (writtenIn packing out) is
+      ∙ kept-words k packing chained out (newCoverage g cov) (newClasses? g b) (newClasses? g (some cs)) (newClasses? g a) (trim sl) (subst (Opt (GoodOf k)) is (cut-good g l m v (classContext chained s) good))
+      ∙ ap (tableInto (eqb packing 1) out (coverageWords (newCoverage g cov)) (map (block classWords) (cond chained (newClasses? g b ∷ newClasses? g (some cs) ∷ newClasses? g a ∷ []) (newClasses? g (some cs) ∷ [])))) (trim-blocks (setWords (ruleWords chained)) sl)
       ∙ sym (rw i refl)
 
 -- slots by a cut that leaves the same of each set

@@ -11,6 +11,7 @@ use class_maps::new_entries;
 use fold::Map;
 use fold::lay;
 use fold::lay_glyphs;
+use marks::Marks;
 use meet_runs::meet;
 use meet_runs::most;
 use room::Laid;
@@ -23,7 +24,7 @@ ghost use lib.ListN.{length};
 ghost use Rattle.meaning.specs.Maps.{mapEntries, glyphEntries};
 ghost use Rattle.meaning.specs.Tables.{classContext};
 ghost use Rattle.meaning.specs.Cut.{cut};
-ghost use Rattle.meaning.specs.Subset.{written};
+ghost use Rattle.meaning.specs.Subset.{writtenIn};
 ghost use Rattle.tried.specs.Tries.{Tries};
 ghost use Rattle.class_layouts.specs.Written.{enoughBytes};
 ghost use Rattle.class_contexts.specs.Sides.{Asks, Sided, InputLaid};
@@ -165,9 +166,16 @@ fn ahead_at(chained: bool, src: &[u8]) -> usize
     0
 }
 
-// All that the cells hold for the cut, from its parts.
-fn prepare(lookups: Map, cover: Noted, input: Input, back: Side, ahead: Side) -> Prepared
-    ensures { λ r. ⌜ r ≡ preparedOf lookups cover input back ahead ⌝ }
+// All that the cells hold for the cut, from its parts, with the mark of the layout.
+fn prepare(
+    lookups: Map,
+    cover: Noted,
+    input: Input,
+    back: Side,
+    ahead: Side,
+    packing: usize,
+) -> Prepared
+    ensures { λ r. ⌜ r ≡ preparedOf lookups cover input back ahead packing ⌝ }
 {
     let input_map = input.map;
     let marks = input.marks;
@@ -191,6 +199,7 @@ fn prepare(lookups: Map, cover: Noted, input: Input, back: Side, ahead: Side) ->
             input: input_table,
             ahead: ahead_table,
         },
+        packing,
     }
 }
 
@@ -198,16 +207,17 @@ fn prepare(lookups: Map, cover: Noted, input: Input, back: Side, ahead: Side) ->
 fn cut_noted(
     chained: bool,
     src: &[u8],
-    form: usize,
+    marks: Marks,
     glyphs: &[u8],
     begun: Begun,
     t: &mut [u32],
     area: &mut [u8],
     out: &mut [u8],
 ) -> Tried
-    requires { ⌜ Cuts chained (now src) form (now glyphs) begun (now t) (now area) ⌝ }
-    ensures { λ r. ⌜ CutsInto chained (now (src .entry)) (glyphEntries form (now (glyphs .entry))) (begun .lookups) (now (t .entry)) (now (area .entry)) r (now (out .entry)) (now (out .exit)) ⌝ }
+    requires { ⌜ Cuts chained (now src) (marks .form) (now glyphs) begun (now t) (now area) ⌝ }
+    ensures { λ r. ⌜ CutsInto (marks .layout) chained (now (src .entry)) (glyphEntries (marks .form) (now (glyphs .entry))) (begun .lookups) (now (t .entry)) (now (area .entry)) r (now (out .entry)) (now (out .exit)) ⌝ }
 {
+    let form = marks.form;
     let noted = begun.cover;
     let input = class_input(src, input_at(chained, src), form, glyphs, noted, t);
     if input.map.mask == 0 {
@@ -223,7 +233,7 @@ fn cut_noted(
     if ahead.map.mask == 0 {
         return Tried::FewCells;
     }
-    let prepared = prepare(begun.lookups, noted, input, back, ahead);
+    let prepared = prepare(begun.lookups, noted, input, back, ahead, marks.layout);
     write_left(chained, src, t, prepared, glyphs.len() % form, area, out)
 }
 
@@ -231,16 +241,17 @@ fn cut_noted(
 fn cut_maps(
     chained: bool,
     src: &[u8],
-    form: usize,
+    marks: Marks,
     glyphs: &[u8],
     maps: BothMaps,
     t: &mut [u32],
     area: &mut [u8],
     out: &mut [u8],
 ) -> Tried
-    requires { ⌜ Begins chained (now src) form (now glyphs) maps (now t) (now area) ⌝ }
-    ensures { λ r. ⌜ CutsInto chained (now (src .entry)) (glyphEntries form (now (glyphs .entry))) (maps .lookups) (now (t .entry)) (now (area .entry)) r (now (out .entry)) (now (out .exit)) ⌝ }
+    requires { ⌜ Begins chained (now src) (marks .form) (now glyphs) maps (now t) (now area) ⌝ }
+    ensures { λ r. ⌜ CutsInto (marks .layout) chained (now (src .entry)) (glyphEntries (marks .form) (now (glyphs .entry))) (maps .lookups) (now (t .entry)) (now (area .entry)) r (now (out .entry)) (now (out .exit)) ⌝ }
 {
+    let form = marks.form;
     let m = maps.glyphs;
     let at = m.at + m.mask + 1;
     let cover = word_at(src, 2);
@@ -256,22 +267,22 @@ fn cut_maps(
         lookups,
         cover: Noted { at, len },
     };
-    cut_noted(chained, src, form, glyphs, begun, t, area, out)
+    cut_noted(chained, src, marks, glyphs, begun, t, area, out)
 }
 
 // The same from the maps' lists, with lent scratch whose content is arbitrary.
 fn cut_in(
     chained: bool,
     src: &[u8],
-    form: usize,
+    marks: Marks,
     glyphs: &[u8],
     lookups: &[u8],
     t: &mut [u32],
     area: &mut [u8],
     out: &mut [u8],
 ) -> Tried
-    requires { ⌜ Sound chained (now src) form (now glyphs) (now lookups) × (length (now t) ≤ 0x1_0000_0000) × (length (now area) ≤ 0x1_0000_0000) ⌝ }
-    ensures { λ r. ⌜ Tries (length (now (t .entry)) < enoughCells) (length (now (area .entry)) < enoughBytes) r (now (out .entry)) (now (out .exit)) (written (now (out .entry)) (cut (glyphEntries form (now (glyphs .entry))) (mapEntries (now (lookups .entry))) (classContext chained (now (src .entry))))) ⌝ }
+    requires { ⌜ Sound chained (now src) (marks .form) (now glyphs) (now lookups) × (length (now t) ≤ 0x1_0000_0000) × (length (now area) ≤ 0x1_0000_0000) ⌝ }
+    ensures { λ r. ⌜ Tries (length (now (t .entry)) < enoughCells) (length (now (area .entry)) < enoughBytes) r (now (out .entry)) (now (out .exit)) (writtenIn (marks .layout) (now (out .entry)) (cut (glyphEntries (marks .form) (now (glyphs .entry))) (mapEntries (now (lookups .entry))) (classContext chained (now (src .entry))))) ⌝ }
 {
     if word_at(src, 2) == 0 {
         return Tried::Became(Laid::Nothing);
@@ -283,7 +294,7 @@ fn cut_in(
     if l.mask == 0 {
         return Tried::FewCells;
     }
-    let m = lay_glyphs(glyphs, form, t, l.mask + 1);
+    let m = lay_glyphs(glyphs, marks.form, t, l.mask + 1);
     if m.mask == 0 {
         return Tried::FewCells;
     }
@@ -291,7 +302,7 @@ fn cut_in(
         lookups: l,
         glyphs: m,
     };
-    cut_maps(chained, src, form, glyphs, maps, t, area, out)
+    cut_maps(chained, src, marks, glyphs, maps, t, area, out)
 }
 
 // The lesser of two numbers.
@@ -304,26 +315,26 @@ fn least(a: usize, b: usize) -> usize
     b
 }
 
-// What is left of a sound context by class, plain or chained, under a glyph map and a lookup map, handed over if there is room, with lent scratch whose content is arbitrary.
+// What is left of a sound context by class, plain or chained, under a glyph map and a lookup map, in the layout that is asked for, handed over if there is room, with lent scratch whose content is arbitrary.
 pub fn by_class(
     chained: bool,
     src: &[u8],
     glyphs: &[u8],
-    form: usize,
+    marks: Marks,
     lookups: &[u8],
     t: &mut [u32],
     area: &mut [u8],
     out: &mut [u8],
 ) -> Tried
-    requires { ⌜ Sound chained (now src) form (now glyphs) (now lookups) ⌝ }
-    ensures { λ r. ⌜ Tries (length (now (t .entry)) < enoughCells) (length (now (area .entry)) < enoughBytes) r (now (out .entry)) (now (out .exit)) (written (now (out .entry)) (cut (glyphEntries form (now (glyphs .entry))) (mapEntries (now (lookups .entry))) (classContext chained (now (src .entry))))) ⌝ }
+    requires { ⌜ Sound chained (now src) (marks .form) (now glyphs) (now lookups) ⌝ }
+    ensures { λ r. ⌜ Tries (length (now (t .entry)) < enoughCells) (length (now (area .entry)) < enoughBytes) r (now (out .entry)) (now (out .exit)) (writtenIn (marks .layout) (now (out .entry)) (cut (glyphEntries (marks .form) (now (glyphs .entry))) (mapEntries (now (lookups .entry))) (classContext chained (now (src .entry))))) ⌝ }
 {
     let cells = least(t.len(), CELLS);
     let bytes = least(area.len(), BYTES);
     cut_in(
         chained,
         src,
-        form,
+        marks,
         glyphs,
         lookups,
         &mut t[..cells],

@@ -8,41 +8,48 @@ use native.Mathlib.Omega.{arith}
 use lib.ListN.{length, length-append, take}
 use lib.Seq.{sets, length-sets, length-take-le}
 use Rattle.meaning.specs.Words.{bytes2, words, flat}
-use Rattle.meaning.specs.Layout.{offsets, blocks, setsLayout}
 use Rattle.laws.specs.Stands.{flat-length, flat-append}
-use Rattle.laws.specs.Through.{offsets-length}
 use Rattle.laws.specs.Written.{Wrote, sets-flat, flat-one}
 use Rattle.area.specs.Extends.{Extends, extends-keeps, wrote-extends}
 use Rattle.area.specs.Part.{part, part-append}
 use Rattle.area.specs.Stored.{extends-store}
 use Rattle.area.proofs.Moved.{part-behind}
 use Rattle.numbers.proofs.Fronts.{part-keeps, extends-part}
-use Rattle.class_maps.specs.SlotWalk.{settled}
+use Rattle.repeats.specs.Shared.{offsetsIn, blocksIn}
 use Rattle.class_slots.specs.Sets.{slotsAt, slots-near}
-use Rattle.class_slots.specs.Slots.{Noted}
+use Rattle.class_slots.specs.Slots.{settled, Noted}
+use Rattle.class_slots.proofs.Halves.{offsets-many, halves-small}
 use Rattle.class_slots.specs.declared.Slots.{Slots}
 use Rattle.class_slots.proofs.Offsets.{Placed, noted-settled}
-use Rattle.class_layouts.specs.Tail.{tailBlocks, Lays, Places}
-use Rattle.class_layouts.specs.Table.{Finishes, Finished}
+use Rattle.class_layouts.specs.Tail.{coverOf, tableBlocks, tailOffsets, tailWords, Lays, Places}
+use Rattle.class_layouts.specs.Table.{classTable, Finishes, Finished}
 use Rattle.class_layouts.specs.declared.Tail.{Tail}
 
 -- the slots follow the format, what the header says of the coverage and the class tables, and the count
-pub tail-many : (chained : Bool) (t : List ℕ) (tail : Tail) → slotsAt chained ≡ 4 + 2 * length (tailBlocks chained t tail)
+pub tail-many : (chained : Bool) (t : List ℕ) (tail : Tail) → slotsAt chained ≡ 6 + 2 * length (tableBlocks chained t tail)
 tail-many true t tail = refl
 tail-many false t tail = refl
 
 -- the words of a table by classes, in order; the blocks of the slots may be said of more slots, of which the last are null
-table-is : (tail bs : List (Option (List ℕ))) (more : List ℕ) {n q f : ℕ} → n ≡ length bs → f ≡ 4 + 2 * length tail + 2 * n → q ≡ f + 2 * length more → blocks bs ≡ more
-    → setsLayout 2 tail [] bs ≡ ((2 ∷ (offsets q tail ++ (n ∷ []))) ++ offsets f bs) ++ (more ++ blocks tail)
-unfolding setsLayout
-table-is tail bs more {n} {q} {f} e g h k =
-    let start : 4 + 2 * length tail + 2 * 0 + 2 * length bs ≡ f = omega (arith, e, g) in
+table-is : (packed : Bool) (cover : List ℕ) (tables bs : List (Option (List ℕ))) (more : List ℕ) {n q f : ℕ} → n ≡ length bs → f ≡ 6 + 2 * length tables + 2 * n → q ≡ f + 2 * length more → blocksIn packed bs ≡ more
+    → classTable packed cover tables bs ≡ ((2 ∷ (tailOffsets packed q cover tables ++ (n ∷ []))) ++ offsetsIn packed f bs) ++ (more ++ tailWords packed cover tables)
+unfolding classTable
+table-is packed cover tables bs more {n} {q} {f} e g h k =
+    let start : 6 + 2 * length tables + 2 * length bs ≡ f = omega (arith, e, g) in
+    let ot = tailOffsets packed q cover tables in
     rw (start, k, ← h, ← e)
-    (sym (ap (λ (l : List ℕ). 2 ∷ l) (append-assoc (offsets q tail ++ (n ∷ [])) (offsets f bs) (more ++ blocks tail) ∙ append-assoc (offsets q tail) (n ∷ []) (offsets f bs ++ (more ++ blocks tail)))))
+    (sym (ap (λ (l : List ℕ). 2 ∷ l) (append-assoc (ot ++ (n ∷ [])) (offsetsIn packed f bs) (more ++ tailWords packed cover tables) ∙ append-assoc ot (n ∷ []) (offsetsIn packed f bs ++ (more ++ tailWords packed cover tables)))))
 
-module _ {chained : Bool} {t : List ℕ} {tail : Tail} {r : Slots} {classes : ℕ} {a₀ : List ℕ} (a : Finishes chained t tail r classes a₀) {slots : ℕ} (s : slots ≡ slotsAt chained) where
-  abbrev tb : List (Option (List ℕ))
-  tb = tailBlocks chained t tail
+module _ (packed : Bool) {chained : Bool} {t : List ℕ} {tail : Tail} {r : Slots} {classes : ℕ} {a₀ : List ℕ} (a : Finishes chained t tail r classes a₀) {slots : ℕ} (s : slots ≡ slotsAt chained) where
+  abbrev cover : List ℕ
+  cover = coverOf t tail
+
+  abbrev tables : List (Option (List ℕ))
+  tables = tableBlocks chained t tail
+
+  -- the words that follow the sets
+  abbrev tw : List ℕ
+  tw = tailWords packed cover tables
 
   abbrev count : ℕ
   count = r .count
@@ -53,7 +60,7 @@ module _ {chained : Bool} {t : List ℕ} {tail : Tail} {r : Slots} {classes : �
   abbrev gap : ℕ
   gap = 2 * (classes - count)
 
-  near : (8 ≤ slots) × (slots ≤ 12) × (slots ≡ 4 + 2 * length tb)
+  near : (8 ≤ slots) × (slots ≤ 12) × (slots ≡ 6 + 2 * length tables)
   near = (omega (arith, s, slots-near chained .0), omega (arith, s, slots-near chained .1), s ∙ tail-many chained t tail)
 
   module _ {a₁ : List ℕ} (settle : a₁ ≡ sets a₀ slots (flat (map (settled (slots + 2 * count)) (words a₀ slots count)))) where
@@ -67,32 +74,31 @@ module _ {chained : Bool} {t : List ℕ} {tail : Tail} {r : Slots} {classes : �
       -- what follows the sets may be written
       pub tail-places : Places a₂ 2 4 gap (r .end)
       tail-places = record {
-        inside = omega (arith, a .start, a .room, same₂, near, s, a .some-slot, a .few);
         before = omega (arith, a .start, near, s, a .some-slot, a .few);
+        room = omega (arith, a .room, same₂);
         near = omega (arith, a .start);
-        gapped = omega (arith, a .start, a .room, same₂);
-        short = omega (arith, a .short, same₂);
+        narrow = omega (arith, a .low);
       }
 
-      module _ {a₃ a₄ : List ℕ} {end : ℕ} (laid : Lays a₂ 2 gap (r .end) tb a₃ end) (counted : a₄ ≡ sets a₃ (slots - 2) (bytes2 count)) where
+      module _ {a₃ a₄ : List ℕ} {end : ℕ} (laid : Lays packed gap (r .end) cover tables a₂ a₃ end) (counted : a₄ ≡ sets a₃ (slots - 2) (bytes2 count)) where
         same₄ : length a₄ ≡ length a₀
         same₄ = ap length counted ∙ length-sets a₃ (slots - 2) (bytes2 count) ∙ laid .same ∙ same₂
 
         -- the words before the offsets of the sets
         abbrev ot : List ℕ
-        ot = offsets (r .end - gap) tb
+        ot = tailOffsets packed (r .end - gap) cover tables
 
         abbrev head : List ℕ
         head = 2 ∷ (ot ++ (count ∷ []))
 
         head-length : 2 * length head ≡ slots
-        head-length = omega (arith, length-append ot (count ∷ []), offsets-length (r .end - gap) tb, near .2)
+        head-length = omega (arith, length-append ot (count ∷ []), offsets-many packed (r .end - gap + 2 * length cover) tables, near .2)
 
         -- they are written in a row
         row : sets (sets a₂ 2 (flat ot)) (slots - 2) (bytes2 count) ≡ sets a₁ 0 (flat head)
         row =
             let two : a₂ ≡ sets a₁ 0 (flat (2 ∷ [])) = format ∙ ap (sets a₁ 0) (sym (flat-one 2)) in
-            let at : slots - 2 ≡ 0 + 2 * length (2 ∷ ot) = omega (arith, offsets-length (r .end - gap) tb, near .2) in
+            let at : slots - 2 ≡ 0 + 2 * length (2 ∷ ot) = omega (arith, offsets-many packed (r .end - gap + 2 * length cover) tables, near .2) in
             ap (λ (b : List ℕ). sets (sets b 2 (flat ot)) (slots - 2) (bytes2 count)) two
             ∙ ap (λ (b : List ℕ). sets b (slots - 2) (bytes2 count)) (sets-flat a₁ 0 (2 ∷ []) ot)
             ∙ ap (λ (i : ℕ). sets (sets a₁ 0 (flat (2 ∷ ot))) i (bytes2 count)) at
@@ -101,11 +107,11 @@ module _ {chained : Bool} {t : List ℕ} {tail : Tail} {r : Slots} {classes : �
 
         module _ (room : end ≤ length a₀) where
           -- and what follows the sets stands behind them
-          behind : Extends (sets a₁ 0 (flat head)) (r .end) (blocks tb) a₄ end
+          behind : Extends (sets a₁ 0 (flat head)) (r .end) tw a₄ end
           behind =
               let x = extends-store (slots - 2) (bytes2 count) (laid .fits (omega (arith, same₂))) (omega (arith, a .start, near, ap length (sym (flat-one count)) ∙ flat-length (count ∷ []))) in
-              subst (λ (b : List ℕ). Extends b (r .end) (blocks tb) a₄ end) row
-              (subst (λ (b : List ℕ). Extends (sets (sets a₂ 2 (flat ot)) (slots - 2) (bytes2 count)) (r .end) (blocks tb) b end) (sym counted) x)
+              subst (λ (b : List ℕ). Extends b (r .end) tw a₄ end) row
+              (subst (λ (b : List ℕ). Extends (sets (sets a₂ 2 (flat ot)) (slots - 2) (bytes2 count)) (r .end) tw b end) (sym counted) x)
 
           header-part : part a₄ 0 slots ≡ flat head
           header-part =
@@ -113,17 +119,17 @@ module _ {chained : Bool} {t : List ℕ} {tail : Tail} {r : Slots} {classes : �
               part-keeps (extends-keeps behind) 0 slots (omega (arith, a .start)) ∙ ap (part (sets a₁ 0 (flat head)) 0) (sym head-length)
               ∙ extends-part (wrote-extends w (omega (arith, a .start, a .room, same₁)))
 
-          module _ (bs : List (Option (List ℕ))) (many : length bs ≡ classes) (u : Noted (slotsAt chained) (slotsAt chained + 2 * classes) bs a₀ (r .end)) (small : length (blocks bs) < 65535) where
+          module _ (bs : List (Option (List ℕ))) (many : length bs ≡ classes) (u : Noted packed (slotsAt chained) (slotsAt chained + 2 * classes) bs a₀ (r .end)) (small : length (blocksIn packed bs) < 65535) where
             abbrev left : List (Option (List ℕ))
             left = take count bs
 
             abbrev os : List ℕ
-            os = offsets (slots + 2 * count) left
+            os = offsetsIn packed (slots + 2 * count) left
 
-            placed : Placed slots first (slots + 2 * count) count bs a₁ (r .end)
+            placed : Placed packed slots first (slots + 2 * count) count bs a₁ (r .end)
             placed =
                 let v = rw (← s) at u in
-                noted-settled v small (omega (arith, many)) (omega (arith, many, a .few)) settle
+                noted-settled v (halves-small packed bs small) (omega (arith, many)) (omega (arith, many, a .few)) settle
 
             long : length left ≡ count
             long = length-take-le count bs (omega (arith, many, a .few))
@@ -134,26 +140,26 @@ module _ {chained : Bool} {t : List ℕ} {tail : Tail} {r : Slots} {classes : �
             offsets-part : part a₄ slots (2 * count) ≡ flat os
             offsets-part = between slots (2 * count) (omega arith) (omega (arith, a .start, a .few, s)) ∙ placed .reached
 
-            sets-part : part a₄ first (2 * length (blocks bs)) ≡ flat (blocks bs)
-            sets-part = between first (2 * length (blocks bs)) (omega arith) (omega (arith, placed .place)) ∙ placed .laid
+            sets-part : part a₄ first (2 * length (blocksIn packed bs)) ≡ flat (blocksIn packed bs)
+            sets-part = between first (2 * length (blocksIn packed bs)) (omega arith) (omega (arith, placed .place)) ∙ placed .laid
 
             head-is : part a₄ 0 (slots + 2 * count) ≡ flat (head ++ os)
             head-is =
                 let z : 0 + slots ≡ slots = omega arith in
                 part-append a₄ 0 slots (2 * count) ∙ ap₂ (λ (x y : List ℕ). x ++ y) header-part (ap (λ (i : ℕ). part a₄ i (2 * count)) z ∙ offsets-part) ∙ sym (flat-append head os)
 
-            rest-is : part a₄ first (end - first) ≡ flat (blocks bs ++ blocks tb)
+            rest-is : part a₄ first (end - first) ≡ flat (blocksIn packed bs ++ tw)
             rest-is =
-                let n : end - first ≡ 2 * length (blocks bs) + 2 * length (blocks tb) = omega (arith, behind .place, placed .place) in
-                ap (part a₄ first) n ∙ part-append a₄ first (2 * length (blocks bs)) (2 * length (blocks tb))
-                ∙ ap₂ (λ (x y : List ℕ). x ++ y) sets-part (ap (λ (i : ℕ). part a₄ i (2 * length (blocks tb))) (sym (placed .place)) ∙ extends-part behind) ∙ sym (flat-append (blocks bs) (blocks tb))
+                let n : end - first ≡ 2 * length (blocksIn packed bs) + 2 * length tw = omega (arith, behind .place, placed .place) in
+                ap (part a₄ first) n ∙ part-append a₄ first (2 * length (blocksIn packed bs)) (2 * length tw)
+                ∙ ap₂ (λ (x y : List ℕ). x ++ y) sets-part (ap (λ (i : ℕ). part a₄ i (2 * length tw)) (sym (placed .place)) ∙ extends-part behind) ∙ sym (flat-append (blocksIn packed bs) tw)
 
-            whole : blocks left ≡ blocks bs → part a₄ 0 (slots + 2 * count) ++ part a₄ first (end - first) ≡ flat (setsLayout 2 tb [] left)
+            whole : blocksIn packed left ≡ blocksIn packed bs → part a₄ 0 (slots + 2 * count) ++ part a₄ first (end - first) ≡ flat (classTable packed cover tables left)
             whole e =
-                ap₂ (λ (x y : List ℕ). x ++ y) head-is rest-is ∙ sym (flat-append (head ++ os) (blocks bs ++ blocks tb))
-                ∙ ap flat (sym (table-is tb left (blocks bs) (sym long) (omega (arith, near .2)) (omega (arith, placed .place, a .few)) e))
+                ap₂ (λ (x y : List ℕ). x ++ y) head-is rest-is ∙ sym (flat-append (head ++ os) (blocksIn packed bs ++ tw))
+                ∙ ap flat (sym (table-is packed cover tables left (blocksIn packed bs) (sym long) (omega (arith, near .2)) (omega (arith, placed .place, a .few)) e))
 
-        pub finish-table : Finished chained tb r classes a₀ a₄ end
+        pub finish-table : Finished packed chained cover tables r classes a₀ a₄ end
         finish-table = record {
           same = same₄;
           place = λ l. behind l .place;

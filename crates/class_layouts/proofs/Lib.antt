@@ -1,3 +1,5 @@
+pub mod Fitting
+pub mod Placing
 pub mod Laying
 pub mod Finishing
 pub mod Handing

@@ -1,15 +1,17 @@
 -- What is left of a context by class, written into the area and handed over.
 use Prim.Native.Nat.{ℕ, _≤_, _<_}
 use mathlib.Core.Path.{_≡_}
-use mathlib.Core.Bool.{Bool}
+use mathlib.Core.Bool.{Bool, true}
 use mathlib.Core.List.{List}
 use lib.ListN.{length}
+use lib.Dec.{eqb}
 use Rattle.meaning.specs.Cut.{trim}
 use Rattle.meaning.specs.Subset.{Outcome, refused}
-use Rattle.class_slots.specs.Slots.{Ready, slotBlocks}
+use Rattle.repeats.specs.Book.{packs}
+use Rattle.class_slots.specs.Slots.{bookCells, Ready, slotBlocks}
 use Rattle.tried.specs.Tries.{Tries}
 use Rattle.tried.specs.declared.Tried.{Tried}
-use Rattle.class_layouts.specs.Tail.{tailBlocks, TailIn}
+use Rattle.class_layouts.specs.Tail.{coverOf, tableBlocks, TailIn}
 use Rattle.class_layouts.specs.Table.{tableInto}
 use Rattle.class_layouts.specs.declared.Prepared.{Prepared}
 
@@ -21,17 +23,22 @@ enoughBytes = 655360
 abbrev pub mostClasses : ℕ
 mostClasses = 65536
 
+-- a book for the layout that is asked for: of one cell, or of enough for packed blocks
+pub record BookFor (packing : ℕ) (book : List ℕ) : Type 0 where
+  pub mode : packs book ≡ eqb packing 1
+  pub enough : packs book ≡ true → bookCells ≤ length book
+
 -- What is answered where an area of n bytes has no room: it is too short, or the layout is too big, if an area that is long enough says so.
 pub record NoRoom (n : ℕ) (r : Tried) : Type 0 where
   pub told : (out : List ℕ) (made : Outcome) → (enoughBytes ≤ n → refused out 9 ≡ made) → Tries ⊥ (n < enoughBytes) r out out made
 
 -- what the writer asks: the cells have all that is needed for the sets and for what follows them, and there are not too many classes
 pub record Writes (chained : Bool) (s t : List ℕ) (p : Prepared) (area : List ℕ) : Type 0 where
-  pub ready : Ready chained s t (p .maps) (p .marks) (p .classes)
+  pub ready : Ready chained s t (p .maps) (record { marks = p .marks; count = p .classes })
   pub few : p .classes ≤ mostClasses
   pub tail-in : TailIn t (p .tail)
   pub short : length area ≤ 0x1_0000_0000
 
 -- what is left, as the cells say it, laid into the buffer
 abbrev pub leftInto : List ℕ → Bool → List ℕ → List ℕ → Prepared → Outcome
-leftInto out chained s t p = tableInto out (tailBlocks chained t (p .tail)) (trim (slotBlocks chained s t (p .maps) (p .marks)))
+leftInto out chained s t p = tableInto (eqb (p .packing) 1) out (coverOf t (p .tail)) (tableBlocks chained t (p .tail)) (trim (slotBlocks chained s t (p .maps) (p .marks)))

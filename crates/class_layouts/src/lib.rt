@@ -4,13 +4,18 @@ use area::over;
 use area::put;
 use area::write_classes;
 use area::write_cover;
+use class_slots::Classes;
 use class_slots::Slots;
-use class_slots::settle;
+use class_slots::Turn;
+use class_slots::place_spot;
+use class_slots::settle_slots;
 use class_slots::slots_at;
 use class_slots::write_slots;
 use fold::Map;
 use member_sets::PLACES;
 use member_sets::crowded;
+use repeats::BOOK;
+use repeats::begin;
 use room::HIGHEST;
 use room::LIMIT;
 use room::LONGEST;
@@ -18,15 +23,18 @@ use room::Laid;
 use rule_sets::Maps;
 use tried::Tried;
 use wire::word_at;
-ghost use mathlib.Core.List.{[], _∷_};
+ghost use mathlib.Core.Path.{_≡_};
+ghost use mathlib.Core.Bool.{true};
 ghost use Prim.Native.Nat.{_+_, _*_, _≤_, _<_};
 ghost use lib.ListN.{length};
 ghost use Rattle.member_sets.specs.Dead.{Dead};
 ghost use Rattle.rule_sets.specs.Left.{mapsIn, ruleLeft};
 ghost use Rattle.tried.specs.Tries.{Tries};
-ghost use Rattle.class_layouts.specs.Tail.{tableBlock, tableBlocks, tailBlocks, TableIn, TailIn, Lays, Places};
+ghost use Rattle.repeats.specs.Book.{packs};
+ghost use Rattle.class_slots.specs.Slots.{bookCells};
+ghost use Rattle.class_layouts.specs.Tail.{coverOf, tableBlock, tableBlocks, TailIn, TableAsked, PlacedTable, NotedTables, LaidTables, Lays, Places, TablesAsked};
 ghost use Rattle.class_layouts.specs.Table.{Finishes, Finished};
-ghost use Rattle.class_layouts.specs.Written.{enoughBytes, NoRoom, Writes, leftInto};
+ghost use Rattle.class_layouts.specs.Written.{enoughBytes, BookFor, NoRoom, Writes, leftInto};
 
 // The number of bytes of an area that is enough for any source: where they are too few, an offset or a count of the layout doesn't fit a word.
 pub const BYTES: usize = 5 * LIMIT / 2;
@@ -52,75 +60,135 @@ pub struct Tail {
     pub ahead: NewTable,
 }
 
-// What the cells hold for the cut: the maps of the rules, the marks of the classes that covered glyphs hold, the number of surviving classes, and what follows the sets.
+// What the cells hold for the cut: the maps of the rules, the marks of the classes that covered glyphs hold, the number of surviving classes, and what follows the sets. And the mark of the layout that is asked for.
 pub struct Prepared {
     pub maps: Maps,
     pub marks: Map,
     pub classes: usize,
     pub tail: Tail,
+    pub packing: usize,
 }
 
-// A new class table: its offset, less by the gap, at `slot`, and itself at `p`; the place after it. A null table stays null. Where `p` is past the area, or the offset or the table's count doesn't fit a word, the answer is past the area.
+// A new class table behind those so far: its slot is noted, as that of the earlier one that is equal, if the book has one. The place after all; a null table stays null. Past the area where there is no room, or where the table's offset, its place less the gap, or its count doesn't fit a word.
 fn write_table(
     t: &[u32],
     table: NewTable,
     area: &mut [u8],
-    slot: usize,
+    book: &mut [u32],
+    turn: Turn,
+    gap: usize,
+) -> usize
+    requires { ⌜ TableAsked (now t) table turn gap (now area) (now book) ⌝ }
+    ensures { λ r. ⌜ PlacedTable (tableBlock (now (t .entry)) table) turn gap (now (area .entry)) (now (book .entry)) (now (area .exit)) (now (book .exit)) r ⌝ }
+{
+    if table.old == 0 {
+        put(area, turn.slot, 0);
+        return turn.pos;
+    }
+    let q = write_classes(t, table.list, table.len, area, turn.pos);
+    if area.len() < q {
+        return q;
+    }
+    if turn.pos + LONGEST < q {
+        return over(area);
+    }
+    let end = place_spot(area, book, turn, q);
+    if end == turn.pos {
+        return end;
+    }
+    if HIGHEST < turn.pos - gap {
+        return over(area);
+    }
+    end
+}
+
+// The class tables of backtrack, input and lookahead, or of the input alone, from `p` on, with their slots noted from 4 on; the place after them.
+fn note_tables(
+    chained: bool,
+    t: &[u32],
+    tail: Tail,
+    area: &mut [u8],
+    book: &mut [u32],
     gap: usize,
     p: usize,
 ) -> usize
-    requires { ⌜ TableIn (now t) table × Places (now area) slot 1 gap p ⌝ }
-    ensures { λ r. ⌜ Lays (now (area .entry)) slot gap p (tableBlock (now (t .entry)) table ∷ []) (now (area .exit)) r ⌝ }
+    requires { ⌜ TailIn (now t) tail × TablesAsked (now area) gap p (now book) ⌝ }
+    ensures { λ r. ⌜ NotedTables (packs (now (book .entry))) gap p (tableBlocks chained (now (t .entry)) tail) (now (area .entry)) (now (area .exit)) r ⌝ }
 {
-    if area.len() < p {
-        return p;
+    begin(book);
+    let first = Turn {
+        at: 1,
+        slot: 4,
+        first: p,
+        pos: p,
+    };
+    if !chained {
+        return write_table(t, tail.input, area, book, first, gap);
     }
-    if table.old == 0 {
-        put(area, slot, 0);
-        return p;
+    let q = write_table(t, tail.back, area, book, first, gap);
+    if area.len() < q {
+        return q;
     }
-    if HIGHEST < p - gap {
-        return over(area);
+    let second = Turn {
+        at: 2,
+        slot: 6,
+        first: p,
+        pos: q,
+    };
+    let r = write_table(t, tail.input, area, book, second, gap);
+    if area.len() < r {
+        return r;
     }
-    put(area, slot, p - gap);
-    let q = write_classes(t, table.list, table.len, area, p);
-    if p + LONGEST < q {
-        return over(area);
-    }
-    q
+    let third = Turn {
+        at: 3,
+        slot: 8,
+        first: p,
+        pos: r,
+    };
+    write_table(t, tail.ahead, area, book, third, gap)
 }
 
-// The class tables of backtrack, input and lookahead, or of the input alone: their offsets, less by the gap, from 4 on, and themselves from `p` on; the place after them.
+// The same with their offsets, less by the gap, in the place of the noted slots.
 fn write_tables(
     chained: bool,
     t: &[u32],
     tail: Tail,
     area: &mut [u8],
+    book: &mut [u32],
     gap: usize,
     p: usize,
 ) -> usize
-    requires { ⌜ TailIn (now t) tail × Places (now area) 4 3 gap p ⌝ }
-    ensures { λ r. ⌜ Lays (now (area .entry)) 4 gap p (tableBlocks chained (now (t .entry)) tail) (now (area .exit)) r ⌝ }
+    requires { ⌜ TailIn (now t) tail × TablesAsked (now area) gap p (now book) ⌝ }
+    ensures { λ r. ⌜ LaidTables (packs (now (book .entry))) gap p (tableBlocks chained (now (t .entry)) tail) (now (area .entry)) (now (area .exit)) r ⌝ }
 {
-    if !chained {
-        return write_table(t, tail.input, area, 4, gap, p);
-    }
-    let q = write_table(t, tail.back, area, 4, gap, p);
-    let r = write_table(t, tail.input, area, 6, gap, q);
-    write_table(t, tail.ahead, area, 8, gap, r)
+    let end = note_tables(chained, t, tail, area, book, gap, p);
+    let n = (slots_at(chained) - 6) / 2;
+    settle_slots(area, 4, n, p - gap);
+    end
 }
 
 // The coverage and the class tables: their offsets, less by the gap, from 2 on, and themselves from `p` on; the place after them.
-fn write_tail(chained: bool, t: &[u32], tail: Tail, area: &mut [u8], gap: usize, p: usize) -> usize
-    requires { ⌜ TailIn (now t) tail × Places (now area) 2 4 gap p × (p ≤ length (now area)) ⌝ }
-    ensures { λ r. ⌜ Lays (now (area .entry)) 2 gap p (tailBlocks chained (now (t .entry)) tail) (now (area .exit)) r ⌝ }
+fn write_tail(
+    chained: bool,
+    t: &[u32],
+    tail: Tail,
+    area: &mut [u8],
+    book: &mut [u32],
+    gap: usize,
+    p: usize,
+) -> usize
+    requires { ⌜ TailIn (now t) tail × Places (now area) 2 4 gap p × (packs (now book) ≡ true → bookCells ≤ length (now book)) ⌝ }
+    ensures { λ r. ⌜ Lays (packs (now (book .entry))) gap p (coverOf (now (t .entry)) tail) (tableBlocks chained (now (t .entry)) tail) (now (area .entry)) (now (area .exit)) r ⌝ }
 {
     if HIGHEST < p - gap {
         return over(area);
     }
     put(area, 2, p - gap);
     let q = write_cover(t, tail.cover.at, tail.cover.len, area, p);
-    write_tables(chained, t, tail, area, gap, q)
+    if area.len() < q {
+        return q;
+    }
+    write_tables(chained, t, tail, area, book, gap, q)
 }
 
 // The table of the slots that are left, whose sets stand behind a place for a slot of each of the `classes`: the slots as offsets without the gap, what follows the sets, and the header; the place after it.
@@ -131,15 +199,17 @@ fn finish(
     slots: Slots,
     classes: usize,
     area: &mut [u8],
+    book: &mut [u32],
 ) -> usize
-    requires { ⌜ Finishes chained (now t) tail slots classes (now area) ⌝ }
-    ensures { λ r. ⌜ Finished chained (tailBlocks chained (now (t .entry)) tail) slots classes (now (area .entry)) (now (area .exit)) r ⌝ }
+    requires { ⌜ Finishes chained (now t) tail slots classes (now area) × (packs (now book) ≡ true → bookCells ≤ length (now book)) ⌝ }
+    ensures { λ r. ⌜ Finished (packs (now (book .entry))) chained (coverOf (now (t .entry)) tail) (tableBlocks chained (now (t .entry)) tail) slots classes (now (area .entry)) (now (area .exit)) r ⌝ }
 {
     let at = slots_at(chained);
     let count = slots.count;
-    settle(area, at, count, at + 2 * count);
+    settle_slots(area, at, count, at + 2 * count);
     put(area, 0, 2);
-    let end = write_tail(chained, t, tail, area, 2 * (classes - count), slots.end);
+    let gap = 2 * (classes - count);
+    let end = write_tail(chained, t, tail, area, book, gap, slots.end);
     put(area, at - 2, count);
     end
 }
@@ -154,42 +224,82 @@ fn no_room(area: &[u8]) -> Tried
     Tried::Became(Laid::TooBig)
 }
 
-// What is left of a context, of which the cells hold what is needed, written into the area and handed over if there is room. `dead` has marks at the places of rules that are known to go.
-fn write_context(
+// What is left of a context, of which the cells hold what is needed, written into the area by this book and handed over if there is room. `dead` has marks at the places of rules that are known to go.
+fn write_booked(
     chained: bool,
     src: &[u8],
     t: &[u32],
     prepared: Prepared,
     dead: &mut [u8],
     area: &mut [u8],
+    book: &mut [u32],
     out: &mut [u8],
 ) -> Tried
-    requires { ⌜ Writes chained (now src) (now t) prepared (now area) × Dead (ruleLeft chained (mapsIn (now t) (prepared .maps)) (now src)) (now dead) ⌝ }
+    requires { ⌜ Writes chained (now src) (now t) prepared (now area) × Dead (ruleLeft chained (mapsIn (now t) (prepared .maps)) (now src)) (now dead) × BookFor (prepared .packing) (now book) ⌝ }
     ensures { λ r. ⌜ Tries ⊥ (length (now (area .entry)) < enoughBytes) r (now (out .entry)) (now (out .exit)) (leftInto (now (out .entry)) chained (now (src .entry)) (now (t .entry)) prepared) ⌝ }
 {
+    let marks = prepared.marks;
     let classes = prepared.classes;
-    let slots = write_slots(
-        chained,
-        src,
-        t,
-        prepared.maps,
-        prepared.marks,
-        classes,
-        dead,
-        area,
-    );
+    let all = Classes {
+        marks,
+        count: classes,
+    };
+    let slots = write_slots(chained, src, t, prepared.maps, all, dead, area, book);
     if area.len() < slots.end {
         return no_room(area);
     }
     if slots.count == 0 {
         return Tried::Became(Laid::Nothing);
     }
-    let end = finish(chained, t, prepared.tail, slots, classes, area);
+    let end = finish(chained, t, prepared.tail, slots, classes, area, book);
     if area.len() < end {
         return no_room(area);
     }
     let at = slots_at(chained);
     Tried::Became(hand_over(area, at + 2 * slots.count, at + 2 * classes, end, true, out))
+}
+
+// The same with a book for the packed layout.
+// It calls itself, so that the compiler keeps the book out of its caller's frame: a call for the plain layout would pay for it. How often it does, `rounds`, is 0 for a map of whole entries.
+fn write_packed(
+    chained: bool,
+    src: &[u8],
+    t: &[u32],
+    prepared: Prepared,
+    dead: &mut [u8],
+    rounds: usize,
+    area: &mut [u8],
+    out: &mut [u8],
+) -> Tried
+    requires { ⌜ Writes chained (now src) (now t) prepared (now area) × Dead (ruleLeft chained (mapsIn (now t) (prepared .maps)) (now src)) (now dead) × (prepared .packing ≡ 1) ⌝ }
+    ensures { λ r. ⌜ Tries ⊥ (length (now (area .entry)) < enoughBytes) r (now (out .entry)) (now (out .exit)) (leftInto (now (out .entry)) chained (now (src .entry)) (now (t .entry)) prepared) ⌝ }
+{
+    if rounds != 0 {
+        return write_packed(chained, src, t, prepared, dead, rounds - 1, area, out);
+    }
+    let mut book = [0u32; BOOK];
+    write_booked(chained, src, t, prepared, dead, area, &mut book, out)
+}
+
+// The same with a book for the packed layout, if that is asked for, and else with none to speak of.
+fn write_context(
+    chained: bool,
+    src: &[u8],
+    t: &[u32],
+    prepared: Prepared,
+    dead: &mut [u8],
+    rounds: usize,
+    area: &mut [u8],
+    out: &mut [u8],
+) -> Tried
+    requires { ⌜ Writes chained (now src) (now t) prepared (now area) × Dead (ruleLeft chained (mapsIn (now t) (prepared .maps)) (now src)) (now dead) ⌝ }
+    ensures { λ r. ⌜ Tries ⊥ (length (now (area .entry)) < enoughBytes) r (now (out .entry)) (now (out .exit)) (leftInto (now (out .entry)) chained (now (src .entry)) (now (t .entry)) prepared) ⌝ }
+{
+    if prepared.packing == 1 {
+        return write_packed(chained, src, t, prepared, dead, rounds, area, out);
+    }
+    let mut no_book = [0u32; 1];
+    write_booked(chained, src, t, prepared, dead, area, &mut no_book, out)
 }
 
 // The same where the sets share rules, with a mark for each place that a rule can start at.
@@ -210,7 +320,7 @@ fn write_crowded(
         return write_crowded(chained, src, t, prepared, rounds - 1, area, out);
     }
     let mut dead = [0u8; PLACES];
-    write_context(chained, src, t, prepared, &mut dead, area, out)
+    write_context(chained, src, t, prepared, &mut dead, rounds, area, out)
 }
 
 // The same with a memory of the rules that go, if the sets share rules, and else with none to speak of.
@@ -231,5 +341,5 @@ pub fn write_left(
         return write_crowded(chained, src, t, prepared, rounds, area, out);
     }
     let mut dead = [0u8; 1];
-    write_context(chained, src, t, prepared, &mut dead, area, out)
+    write_context(chained, src, t, prepared, &mut dead, rounds, area, out)
 }

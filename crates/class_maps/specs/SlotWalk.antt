@@ -1,20 +1,16 @@
 -- Format 2's slots by a walk over the cells of the input's class map: one for each class that has an entry there, without the nulls at the end.
--- A slot is noted as one more than half its set's distance from the first set, and as 0 if it is null; the offsets follow from that once it is known where the sets stand.
-use Prim.Native.Nat.{ℕ, zero, suc, _+_, _-_, _*_, _/_, _≤_, _<_}
+use Prim.Native.Nat.{ℕ, _+_, _-_, _/_, _≤_, _<_}
 use mathlib.Core.Path.{_≡_, refl, sym, ap, _∙_}
 use mathlib.Core.Bool.{cond}
 use mathlib.Core.Option.{Option, none, some}
 use mathlib.Core.List.{List, [], _∷_, _++_, map, append-assoc, append-nil}
-use native.Mathlib.Nat.{add-zero}
 use native.Mathlib.Omega.{arith}
 use lib.ListN.{length, getD, take, length-append}
 use lib.Seq.{take-append-le, take-all}
-use lib.Dec.{eqb}
-use borrow.Author.Tests.{ne-eqb}
 use Rattle.meaning.specs.Words.{bind, member, keys}
 use Rattle.meaning.specs.Tables.{Rule}
 use Rattle.meaning.specs.Cut.{heldBy, classMap, slots, keepSlot, trim}
-use Rattle.meaning.specs.Layout.{offsets, blocks, block}
+use Rattle.meaning.specs.Layout.{blocks, block}
 use Rattle.fold.specs.Cells.{Holds}
 use Rattle.fold.specs.declared.Map.{Map}
 use Rattle.class_maps.specs.Present.{presentFrom, Direct, present-one, present-none, present-end, present-held}
@@ -128,71 +124,3 @@ pub trim-words : (l : List (Option (List ℕ))) → blocks (trim l) ≡ blocks l
 unfolding trim
 trim-words [] = refl
 trim-words (x ∷ l) = keep-words x (trim l) ∙ cons-words x (trim l) l (trim-words l)
-
--- Slots as they are noted: q is half the distance of the next block from the first.
-unfoldable pub halves : ℕ → List (Option (List ℕ)) → List ℕ
-halves q [] = []
-halves q (none ∷ r) = 0 ∷ halves q r
-halves q (some b ∷ r) = (q + 1) ∷ halves (q + length b) r
-
--- one slot more at the end, and its block behind the blocks
-pub halves-null : (q : ℕ) (done : List (Option (List ℕ))) → halves q (done ++ (none ∷ [])) ≡ halves q done ++ (0 ∷ [])
-unfolding halves
-halves-null q [] = refl
-halves-null q (none ∷ done) = ap (λ (l : List ℕ). 0 ∷ l) (halves-null q done)
-halves-null q (some b ∷ done) = ap (λ (l : List ℕ). (q + 1) ∷ l) (halves-null (q + length b) done)
-
-pub halves-set : (q : ℕ) (done : List (Option (List ℕ))) (a : List ℕ) → halves q (done ++ (some a ∷ [])) ≡ halves q done ++ ((q + length (blocks done) + 1) ∷ [])
-unfolding halves blocks
-halves-set q [] a = rw (add-zero q) refl
-halves-set q (none ∷ done) a = ap (λ (l : List ℕ). 0 ∷ l) (halves-set q done a)
-halves-set q (some b ∷ done) a =
-    let e : q + length b + length (blocks done) ≡ q + length (b ++ blocks done) = omega (arith, length-append b (blocks done)) in
-    ap (λ (l : List ℕ). (q + 1) ∷ l) (halves-set (q + length b) done a ∙ ap (λ (k : ℕ). halves (q + length b) done ++ ((k + 1) ∷ [])) e)
-
-pub blocks-null : (done : List (Option (List ℕ))) → blocks (done ++ (none ∷ [])) ≡ blocks done
-unfolding blocks
-blocks-null [] = refl
-blocks-null (none ∷ done) = blocks-null done
-blocks-null (some b ∷ done) = ap (λ (l : List ℕ). b ++ l) (blocks-null done)
-
-pub blocks-set : (done : List (Option (List ℕ))) (a : List ℕ) → blocks (done ++ (some a ∷ [])) ≡ blocks done ++ a
-unfolding blocks
-blocks-set [] a = append-nil a
-blocks-set (none ∷ done) a = blocks-set done a
-blocks-set (some b ∷ done) a = ap (λ (l : List ℕ). b ++ l) (blocks-set done a) ∙ sym (append-assoc b (blocks done) a)
-
--- the first slots are noted as they are among all
-pub halves-take : (h q : ℕ) (l : List (Option (List ℕ))) → halves q (take h l) ≡ take h (halves q l)
-unfolding halves
-halves-take zero q l = refl
-halves-take (suc h) q [] = refl
-halves-take (suc h) q (none ∷ l) = ap (λ (r : List ℕ). 0 ∷ r) (halves-take h q l)
-halves-take (suc h) q (some b ∷ l) = ap (λ (r : List ℕ). (q + 1) ∷ r) (halves-take h (q + length b) l)
-
--- a noted slot as an offset: p is where the first set stands
-unfoldable pub settled : ℕ → ℕ → ℕ
-settled p w = cond (eqb w 0) 0 (p + 2 * (w - 1))
-
-settled-null : (p : ℕ) → settled p 0 ≡ 0
-unfolding settled
-settled-null p = refl
-
-settled-there : (p q : ℕ) → settled p (q + 1) ≡ p + 2 * q
-unfolding settled
-settled-there p q =
-    let e : p + 2 * (q + 1 - 1) ≡ p + 2 * q = omega arith in
-    rw (ne-eqb (q + 1) 0 (λ z. omega arith)) e
-
-settled-from : (p q : ℕ) (l : List (Option (List ℕ))) → map (settled p) (halves q l) ≡ offsets (p + 2 * q) l
-unfolding halves offsets
-settled-from p q [] = refl
-settled-from p q (none ∷ l) = rw (settled-null p, settled-from p q l)
-settled-from p q (some b ∷ l) =
-    let e : p + 2 * (q + length b) ≡ p + 2 * q + 2 * length b = omega arith in
-    rw (settled-there p q, settled-from p (q + length b) l, e)
-
-pub settled-offsets : (p : ℕ) (l : List (Option (List ℕ))) → map (settled p) (halves 0 l) ≡ offsets p l
-settled-offsets p l =
-    let e : p + 2 * 0 ≡ p = omega arith in
-    settled-from p 0 l ∙ ap (λ (k : ℕ). offsets k l) e

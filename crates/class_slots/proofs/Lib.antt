@@ -1,5 +1,8 @@
+pub mod Settling
+pub mod Halves
 pub mod Noting
+pub mod Gathering
+pub mod Placing
 pub mod Filling
 pub mod Turns
-pub mod Settling
 pub mod Offsets

@@ -1,29 +1,29 @@
 -- Slots that were noted, and have become offsets.
 use Prim.Native.Nat.{ℕ, zero, suc, _+_, _*_, _/_, _%_, _≤_, _<_}
 use mathlib.Core.Path.{_≡_, refl, sym, ap, ap₂, _∙_}
-use mathlib.Core.Option.{Option, none, some}
+use mathlib.Core.Bool.{Bool}
+use mathlib.Core.Option.{Option}
 use mathlib.Core.List.{List, [], _∷_, map}
 use native.Mathlib.Omega.{arith}
-use lib.ListN.{length, getD, take, drop, length-append}
+use lib.ListN.{length, getD, take, drop}
 use lib.Seq.{sets, length-take-le}
 use Rattle.meaning.specs.Words.{word, words, bytes2, flat}
-use Rattle.meaning.specs.Layout.{offsets, blocks}
 use Rattle.laws.specs.Stands.{All, Word, flat-length}
-use Rattle.laws.specs.Through.{offsets-length}
 use Rattle.laws.specs.Written.{Wrote}
 use Rattle.area.specs.Extends.{wrote-extends}
 use Rattle.area.specs.Part.{part}
 use Rattle.area.proofs.Moved.{part-behind}
 use Rattle.numbers.proofs.Fronts.{extends-part}
-use Rattle.class_maps.specs.SlotWalk.{halves, halves-take, settled, settled-offsets}
-use Rattle.class_slots.specs.Slots.{Noted}
+use Rattle.repeats.specs.Shared.{offsetsIn, blocksIn}
+use Rattle.class_slots.specs.Slots.{halvesIn, settled, Noted}
+use Rattle.class_slots.proofs.Halves.{offsets-many, halves-many, settled-offsets, offsets-take}
 
 -- The offsets of the first n slots stand from `slots` on, counted as if the first set stood at q, and the blocks of all from `first` up to `end`.
-pub record Placed (slots first q n : ℕ) (bs : List (Option (List ℕ))) (area : List ℕ) (end : ℕ) : Type 0 where
-  pub place : end ≡ first + 2 * length (blocks bs)
+pub record Placed (packed : Bool) (slots first q n : ℕ) (bs : List (Option (List ℕ))) (area : List ℕ) (end : ℕ) : Type 0 where
+  pub place : end ≡ first + 2 * length (blocksIn packed bs)
   pub room : end ≤ length area
-  pub reached : part area slots (2 * n) ≡ flat (offsets q (take n bs))
-  pub laid : part area first (2 * length (blocks bs)) ≡ flat (blocks bs)
+  pub reached : part area slots (2 * n) ≡ flat (offsetsIn packed q (take n bs))
+  pub laid : part area first (2 * length (blocksIn packed bs)) ≡ flat (blocksIn packed bs)
 
 -- words are read back
 words-of : (s ws : List ℕ) (at : ℕ) → All Word ws → part s at (2 * length ws) ≡ flat ws → words s at (length ws) ≡ ws
@@ -45,39 +45,31 @@ words-take s at zero m h = refl
 words-take s at (suc n) zero h = absurd (omega arith)
 words-take s at (suc n) (suc m) h = ap (λ (l : List ℕ). word s at ∷ l) (words-take s (at + 2) n m (omega arith))
 
--- a noted slot is a word, if the blocks are not over the limit by far
-halves-small : (q : ℕ) (l : List (Option (List ℕ))) → q + length (blocks l) < 65535 → All Word (halves q l)
-unfolding halves blocks
-halves-small q [] h = tt
-halves-small q (none ∷ l) h = (omega arith, halves-small q l h)
-halves-small q (some b ∷ l) h = (omega (arith, length-append b (blocks l)), halves-small (q + length b) l (omega (arith, length-append b (blocks l))))
+map-take : (f : ℕ → ℕ) (n : ℕ) (l : List ℕ) → map f (take n l) ≡ take n (map f l)
+map-take f zero l = refl
+map-take f (suc n) [] = refl
+map-take f (suc n) (x ∷ l) = ap (λ (r : List ℕ). f x ∷ r) (map-take f n l)
 
-halves-length : (q : ℕ) (l : List (Option (List ℕ))) → length (halves q l) ≡ length l
-unfolding halves
-halves-length q [] = refl
-halves-length q (none ∷ l) = ap suc (halves-length q l)
-halves-length q (some b ∷ l) = ap suc (halves-length (q + length b) l)
+module _ {packed : Bool} {slots first : ℕ} {bs : List (Option (List ℕ))} {area : List ℕ} {end : ℕ} (u : Noted packed slots first bs area end) (small : All Word (halvesIn packed bs)) (apart : slots + 2 * length bs ≤ first) where
+  -- the noted slots are read back; settled, they are the offsets
+  pub offsets-back : (n q : ℕ) → n ≤ length bs → map (settled q) (words area slots n) ≡ offsetsIn packed q (take n bs)
+  offsets-back n q h =
+      let hs = halvesIn packed bs in
+      let m = halves-many packed bs in
+      let e : part area slots (2 * length hs) ≡ flat hs = rw m (u .noted) in
+      ap (map (settled q)) (words-take area slots n (length hs) (omega (arith, m)) ∙ ap (take n) (words-of area hs slots small e))
+      ∙ map-take (settled q) n hs ∙ ap (take n) (settled-offsets packed q bs) ∙ sym (offsets-take packed q n bs h)
 
-module _ {slots first : ℕ} {bs : List (Option (List ℕ))} {area : List ℕ} {end : ℕ} (u : Noted slots first bs area end) (small : length (blocks bs) < 65535) (apart : slots + 2 * length bs ≤ first) where
-  -- the noted slots are read back
-  noted-back : {n : ℕ} → n ≤ length bs → words area slots n ≡ halves 0 (take n bs)
-  noted-back {n} h =
-      let m = halves-length 0 bs in
-      let e : part area slots (2 * length (halves 0 bs)) ≡ flat (halves 0 bs) = rw m (u .noted) in
-      words-take area slots n (length (halves 0 bs)) (omega (arith, m))
-      ∙ ap (take n) (words-of area (halves 0 bs) slots (halves-small 0 bs (omega arith)) e) ∙ sym (halves-take n 0 bs)
-
-  -- settled, they are the offsets
-  pub noted-settled : {n q : ℕ} {after : List ℕ} → n ≤ length bs → after ≡ sets area slots (flat (map (settled q) (words area slots n))) → Placed slots first q n bs after end
+  pub noted-settled : {n q : ℕ} {after : List ℕ} → n ≤ length bs → after ≡ sets area slots (flat (map (settled q) (words area slots n))) → Placed packed slots first q n bs after end
   noted-settled {n} {q} {after} h e =
-      let os = offsets q (take n bs) in
-      let f : after ≡ sets area slots (flat os) = e ∙ ap (λ (l : List ℕ). sets area slots (flat l)) (ap (map (settled q)) (noted-back h) ∙ settled-offsets q (take n bs)) in
-      let many : length os ≡ n = offsets-length q (take n bs) ∙ length-take-le n bs h in
+      let os = offsetsIn packed q (take n bs) in
+      let f : after ≡ sets area slots (flat os) = e ∙ ap (λ (l : List ℕ). sets area slots (flat l)) (offsets-back n q h) in
+      let many : length os ≡ n = offsets-many packed q (take n bs) ∙ length-take-le n bs h in
       let w : Wrote area slots os after (slots + 2 * length os) = record { place = refl; bytes = f } in
       let x = wrote-extends w (omega (arith, many, u .place, u .room)) in
       record {
         place = u .place;
         room = omega (arith, u .room, x .same);
         reached = rw many at (extends-part x);
-        laid = ap (λ (s : List ℕ). part s first (2 * length (blocks bs))) f ∙ part-behind (flat os) area slots first (2 * length (blocks bs)) (omega (arith, flat-length os, many)) ∙ u .laid;
+        laid = ap (λ (s : List ℕ). part s first (2 * length (blocksIn packed bs))) f ∙ part-behind (flat os) area slots first (2 * length (blocksIn packed bs)) (omega (arith, flat-length os, many)) ∙ u .laid;
       }

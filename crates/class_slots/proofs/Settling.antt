@@ -10,7 +10,7 @@ use Rattle.meaning.specs.Words.{word, words, bytes2, flat}
 use Rattle.laws.specs.Left.{words-left, words-all, words-none}
 use Rattle.laws.specs.Written.{sets-one}
 use Rattle.area.proofs.Moved.{getD-sets-behind}
-use Rattle.class_maps.specs.SlotWalk.{settled}
+use Rattle.class_slots.specs.Slots.{settled}
 
 -- the ways to an offset
 pub settled-null : (p : ℕ) {w : ℕ} → w ≡ 0 → 0 ≡ settled p w

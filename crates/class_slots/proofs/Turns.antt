@@ -6,20 +6,26 @@ use mathlib.Core.Option.{Option, none}
 use mathlib.Core.List.{List, _∷_, map}
 use native.Mathlib.Omega.{arith}
 use lib.ListN.{length, getD}
-use lib.Dec.{eqb, leb}
+use lib.Dec.{eqb, leb, ltb}
 use borrow.Author.Tests.{leb-false}
 use Rattle.meaning.specs.Words.{word}
 use Rattle.meaning.specs.Fault.{ruleFault, setFault}
 use Rattle.meaning.specs.Cut.{cutSet}
-use Rattle.meaning.specs.Layout.{blocks, block, ruleWords, setWords}
+use Rattle.meaning.specs.Layout.{block, ruleWords, setWords}
+use Rattle.repeats.specs.Shared.{blocksIn}
+use Rattle.repeats.specs.Book.{packs, Begun}
 use Rattle.fold.specs.declared.Map.{Map}
 use Rattle.rule_sets.specs.Left.{mapsIn}
 use Rattle.rule_sets.specs.declared.Maps.{Maps}
 use Rattle.class_maps.specs.Present.{present, named}
 use Rattle.class_maps.specs.SlotWalk.{slotsFrom, walk-one, walk-none, walk-end}
-use Rattle.class_slots.specs.Sets.{slotsAt, slots-near, countAt, setPlace, setLeft, setSpare, SetSound, Asked, place-slot}
-use Rattle.class_slots.specs.Slots.{setsIn, slotBlocks, Ready, WroteSlots, blocks-many, present-few}
+use Rattle.class_slots.specs.Sets.{slotsAt, slots-near, countAt, setPlace, setLeft, SetSound, Asked, place-slot}
+use Rattle.class_slots.specs.Slots.{bookCells, enoughArea, setsFull, setsIn, slotBlocks, Ready, WroteSlots, blocks-many, present-few}
+use Rattle.class_slots.specs.Placing.{SetAsked}
+use Rattle.class_slots.specs.declared.Classes.{Classes}
+use Rattle.class_slots.specs.declared.Slots.{Slots}
 use Rattle.class_slots.proofs.Noting.{noted-moved}
+use Rattle.class_slots.proofs.Gathering.{gathered-count}
 use Rattle.class_slots.proofs.Filling.{Filling, filling-all, filling-said, filling-few, filling-end}
 
 -- the blocks of the slots of the classes from c on
@@ -27,40 +33,24 @@ abbrev pub blocksFrom : Bool → List ℕ → List ℕ → Maps → Map → ℕ 
 blocksFrom chained s t maps marks c = map (block (setWords (ruleWords chained))) (slotsFrom (cutSet chained (mapsIn t maps)) (present t marks) (setsIn chained s t maps marks) t (maps .input .at) (maps .input .mask + 1) c)
 
 -- what the loop keeps
-pub record Turning (chained : Bool) (s t : List ℕ) (maps : Maps) (marks : Map) (slots first : ℕ) (area₀ area : List ℕ) (h k p c : ℕ) : Type 0 where
+pub record Turning (packed chained : Bool) (s t : List ℕ) (maps : Maps) (marks : Map) (slots first : ℕ) (area₀ area : List ℕ) (h k p c : ℕ) (book : List ℕ) : Type 0 where
   pub within : c ≤ maps .input .mask + 1
   pub few : k ≤ 65536
-  pub filling : Filling (slotBlocks chained s t maps marks) slots first (blocksFrom chained s t maps marks c) area₀ area h k p
+  pub filling : Filling packed chained s t maps (slotBlocks chained s t maps marks) slots first (blocksFrom chained s t maps marks c) area₀ area h k p book
 
-module _ {chained : Bool} {s t : List ℕ} {maps : Maps} {marks : Map} {classes : ℕ} (a : Ready chained s t maps marks classes) {slots first : ℕ} (e : slots ≡ slotsAt chained) (f : first ≡ slots + 2 * classes) where
+module _ {chained : Bool} {s t : List ℕ} {maps : Maps} {classes : Classes} (a : Ready chained s t maps classes) {slots first : ℕ} (e : slots ≡ slotsAt chained) (f : first ≡ slots + 2 * classes .count) where
+  abbrev marks : Map
+  marks = classes .marks
+
   abbrev all : List (Option (List ℕ))
   all = slotBlocks chained s t maps marks
 
   -- there is a slot for each class
-  pub as-many : length all ≡ classes
+  pub as-many : length all ≡ classes .count
   as-many = blocks-many chained s t maps marks ∙ sym (a .number)
 
-  pub few-classes : classes ≤ 65536
+  pub few-classes : classes .count ≤ 65536
   few-classes = omega (arith, a .number, a .few, present-few t (maps .input .at) 0 (maps .input .mask + 1))
-
-  done-few : {left : List (Option (List ℕ))} {area₀ area : List ℕ} {h k p : ℕ} → Filling all slots first left area₀ area h k p → k ≤ 65536
-  done-few c = omega (arith, filling-few all slots first c, as-many, few-classes)
-
-  pub turning-all : {area : List ℕ} → first ≤ length area → Turning chained s t maps marks slots first area area 0 0 first 0
-  turning-all l = record {
-    within = omega arith;
-    few = omega arith;
-    filling = filling-all all slots first begins (omega (arith, e, f, slots-near chained)) (omega (arith, f, as-many)) l;
-  }
-    where
-      begins : blocksFrom chained s t maps marks 0 ≡ all
-      begins =
-          let z : maps .input .mask + 1 - 0 ≡ maps .input .mask + 1 = omega arith in
-          rw z
-
-  -- there is no room for the slots
-  pub wrote-short : {area₀ : List ℕ} {end : ℕ} → length area₀ < first → length area₀ < end → WroteSlots chained s t maps marks area₀ area₀ (record { count = 0; end = end })
-  wrote-short h l = record { same = refl; done = λ k. absurd (omega arith); full = λ k. omega (arith, as-many, e, f) }
 
   -- what is asked to find the set of a class, and that the set is sound
   pub asked : {c : ℕ} → c ≤ maps .input .mask → Asked s slots t marks c
@@ -72,7 +62,7 @@ module _ {chained : Bool} {s t : List ℕ} {maps : Maps} {marks : Map} {classes 
     cell = omega (arith, a .alike);
   }
 
-  pub set-sound : (c : ℕ) {at : ℕ} → at ≡ setPlace s slots t marks c → SetSound chained s at
+  set-sound : (c : ℕ) {at : ℕ} → at ≡ setPlace s slots t marks c → SetSound chained s at
   unfolding setPlace
   set-sound c {at} g = record { sound = λ z. step (leb (countAt s slots) c) refl (eqb (named t marks c) c) g z }
     where
@@ -84,46 +74,94 @@ module _ {chained : Bool} {s t : List ℕ} {maps : Maps} {marks : Map} {classes 
           let n : c < countAt s (slotsAt chained) = rw e at (leb-false (countAt s slots) c l) in
           rw w (a .sets c n (λ q. z (w ∙ q)))
 
-  module _ {area₀ area : List ℕ} {h k p c : ℕ} (i : Turning chained s t maps marks slots first area₀ area h k p c) where
-    -- a class that has no entry
-    pub turning-skip : c ≤ maps .input .mask → (getD t (maps .input .at + c) 0 / 65536 ≡ c → ⊥) → Turning chained s t maps marks slots first area₀ area h k p (c + 1)
-    turning-skip l n = record {
-      within = omega arith;
-      few = i .few;
-      filling = filling-said all slots first (i .filling)
-          (ap (map (block (setWords (ruleWords chained)))) (walk-none (cutSet chained (mapsIn t maps)) (present t marks) (setsIn chained s t maps marks) t (maps .input .at) (maps .input .mask + 1) c (omega arith) n));
-    }
+  module _ {packed : Bool} where
+    done-few : {left : List (Option (List ℕ))} {area₀ area : List ℕ} {h k p : ℕ} {book : List ℕ} → Filling packed chained s t maps all slots first left area₀ area h k p book → k ≤ 65536
+    done-few c = omega (arith, filling-few packed chained s t maps all slots first c, as-many, few-classes)
 
-    -- one that has: its slot comes next
-    pub turning-here : {at : ℕ} → c ≤ maps .input .mask → getD t (maps .input .at + c) 0 / 65536 ≡ c → at ≡ setPlace s slots t marks c
-        → Filling all slots first (setLeft chained (mapsIn t maps) s at ∷ blocksFrom chained s t maps marks (c + 1)) area₀ area h k p
-    turning-here {at} l n g =
-        let w : at ≡ setPlace s (slotsAt chained) t marks c = rw e at g in
-        filling-said all slots first (i .filling)
-        (ap (map (block (setWords (ruleWords chained)))) (walk-one (cutSet chained (mapsIn t maps)) (present t marks) (setsIn chained s t maps marks) t (maps .input .at) (maps .input .mask + 1) c (omega arith) n)
-        ∙ ap (λ (o : Option (List ℕ)). o ∷ blocksFrom chained s t maps marks (c + 1)) (sym (ap (setLeft chained (mapsIn t maps) s) w ∙ place-slot chained (mapsIn t maps) s (slotsAt chained) t marks c (omega (arith, a .alike)))))
-
-    -- its slot has room
-    pub slot-room : {o : Option (List ℕ)} {rest : List (Option (List ℕ))} → Filling all slots first (o ∷ rest) area₀ area h k p → slots + 2 * k + 2 ≤ first
-    slot-room j = omega (arith, filling-few all slots first j, j .places)
-
-    pub turned : {next : List ℕ} {g q : ℕ} → c ≤ maps .input .mask → Filling all slots first (blocksFrom chained s t maps marks (c + 1)) area₀ next g (k + 1) q
-        → Turning chained s t maps marks slots first area₀ next g (k + 1) q (c + 1)
-    turned l j = record { within = omega arith; few = done-few j; filling = j }
-
-    -- there is no room for a set
-    pub wrote-full : {one : List ℕ} {q : ℕ} → length one ≡ length area → length one < q → length area₀ < first + 2 * length (blocks all) + setSpare s
-        → WroteSlots chained s t maps marks area₀ one (record { count = 0; end = q })
-    wrote-full w l g = record { same = w ∙ i .filling .same; done = λ k. absurd (omega (arith, w, i .filling .same)); full = λ k. omega (arith, as-many, e, f) }
-
-    -- all are written
-    pub wrote-all : maps .input .mask < c → WroteSlots chained s t maps marks area₀ area (record { count = h; end = p })
-    wrote-all l =
-        let none-left = ap (map (block (setWords (ruleWords chained)))) (walk-end (cutSet chained (mapsIn t maps)) (present t marks) (setsIn chained s t maps marks) t (maps .input .at) (maps .input .mask + 1) c (omega arith)) in
-        let w = filling-end all slots first (i .filling) none-left in
-        let g : first ≡ slotsAt chained + 2 * length all = omega (arith, as-many, e, f) in
+    pub turning-all : {area before book : List ℕ} → first ≤ length area → packs before ≡ packed → Begun before book → (packed ≡ true → bookCells ≤ length before) → Turning packed chained s t maps marks slots first area area 0 0 first 0 book
+    turning-all {book = book} l m b n =
+        let same : packs book ≡ packed = ap (ltb 1) (b .same) ∙ m in
         record {
-          same = i .filling .same;
-          done = λ k. record { noted = noted-moved e g (w .0); few = w .1; head = w .2 };
-          full = λ k. absurd (omega (arith, w .0 .room, i .filling .same));
+          within = omega arith;
+          few = omega arith;
+          filling = filling-all packed chained s t maps all slots first begins (omega (arith, e, f, slots-near chained)) (omega (arith, f, as-many)) l same (rw same at (b .empty (setLeft chained (mapsIn t maps) s))) (λ p. omega (arith, n p, b .same));
         }
+      where
+        begins : blocksFrom chained s t maps marks 0 ≡ all
+        begins =
+            let z : maps .input .mask + 1 - 0 ≡ maps .input .mask + 1 = omega arith in
+            rw z
+
+    -- there is no room for the slots
+    pub wrote-short : {area₀ : List ℕ} {end : ℕ} → length area₀ < first → length area₀ < end → WroteSlots packed chained s t maps marks area₀ area₀ (record { count = 0; end = end })
+    wrote-short h l = record { same = refl; done = λ k. absurd (omega arith); full = λ k m. absurd (omega (arith, few-classes, e, f, slots-near chained)) }
+
+    module _ {area₀ area : List ℕ} {h k p c : ℕ} {book : List ℕ} (i : Turning packed chained s t maps marks slots first area₀ area h k p c book) where
+      -- a class that has no entry
+      pub turning-skip : c ≤ maps .input .mask → (getD t (maps .input .at + c) 0 / 65536 ≡ c → ⊥) → Turning packed chained s t maps marks slots first area₀ area h k p (c + 1) book
+      turning-skip l n = record {
+        within = omega arith;
+        few = i .few;
+        filling = filling-said packed chained s t maps all slots first (i .filling)
+            (ap (map (block (setWords (ruleWords chained)))) (walk-none (cutSet chained (mapsIn t maps)) (present t marks) (setsIn chained s t maps marks) t (maps .input .at) (maps .input .mask + 1) c (omega arith) n));
+      }
+
+      module _ (l : c ≤ maps .input .mask) (n : getD t (maps .input .at + c) 0 / 65536 ≡ c) {at : ℕ} (g : (at ≡ setPlace s slots t marks c) × (at < 65536)) where
+        -- one that has: its slot comes next
+        pub turning-here : Filling packed chained s t maps all slots first (setLeft chained (mapsIn t maps) s at ∷ blocksFrom chained s t maps marks (c + 1)) area₀ area h k p book
+        turning-here =
+            let w : at ≡ setPlace s (slotsAt chained) t marks c = rw e at (g .0) in
+            filling-said packed chained s t maps all slots first (i .filling)
+            (ap (map (block (setWords (ruleWords chained)))) (walk-one (cutSet chained (mapsIn t maps)) (present t marks) (setsIn chained s t maps marks) t (maps .input .at) (maps .input .mask + 1) c (omega arith) n)
+            ∙ ap (λ (o : Option (List ℕ)). o ∷ blocksFrom chained s t maps marks (c + 1)) (sym (ap (setLeft chained (mapsIn t maps) s) w ∙ place-slot chained (mapsIn t maps) s (slotsAt chained) t marks c (omega (arith, a .alike)))))
+
+        -- what is asked to place its set
+        pub turn-asked : SetAsked chained s t maps (record { at = at; slot = slots + 2 * k; first = first; pos = p }) area book
+        turn-asked =
+            let j = turning-here in
+            let u = i .filling .gathered in
+            record {
+              turn-in = record {
+                source = g .1;
+                slot = omega (arith, filling-few packed chained s t maps all slots first j, i .filling .places);
+                start = omega (arith, u .noted .place);
+                near = u .near;
+                low = omega (arith, e, f, few-classes, slots-near chained);
+                room = u .noted .room;
+                count = gathered-count u;
+              };
+              low = omega (arith, e, f, few-classes, slots-near chained);
+              packed = packed;
+              slots = slots;
+              sets = i .filling .done;
+              gathered = u;
+              sound = set-sound c (g .0);
+              short = a .short;
+              inside = a .inside;
+              words = a .words at (set-sound c (g .0));
+            }
+
+      pub turned : {next after : List ℕ} {g q : ℕ} → c ≤ maps .input .mask → Filling packed chained s t maps all slots first (blocksFrom chained s t maps marks (c + 1)) area₀ next g (k + 1) q after
+          → Turning packed chained s t maps marks slots first area₀ next g (k + 1) q (c + 1) after
+      turned l j = record { within = omega arith; few = done-few j; filling = j }
+
+      -- there is no room for a set
+      pub wrote-full : {one : List ℕ} {q : ℕ} → length one ≡ length area → length one < q → (enoughArea ≤ length area₀ → setsFull ≤ 2 * length (blocksIn packed all))
+          → WroteSlots packed chained s t maps marks area₀ one (record { count = 0; end = q })
+      wrote-full w l g = record { same = w ∙ i .filling .same; done = λ k. absurd (omega (arith, w, i .filling .same)); full = λ k m. g m }
+
+      -- all are written
+      pub wrote-all : maps .input .mask < c → WroteSlots packed chained s t maps marks area₀ area (record { count = h; end = p })
+      wrote-all l =
+          let none-left = ap (map (block (setWords (ruleWords chained)))) (walk-end (cutSet chained (mapsIn t maps)) (present t marks) (setsIn chained s t maps marks) t (maps .input .at) (maps .input .mask + 1) c (omega arith)) in
+          let w = filling-end packed chained s t maps all slots first (i .filling) none-left in
+          let g : first ≡ slotsAt chained + 2 * length all = omega (arith, as-many, e, f) in
+          record {
+            same = i .filling .same;
+            done = λ k. record { noted = noted-moved e g (w .0); few = w .1; head = w .2 };
+            full = λ k m. absurd (omega (arith, w .0 .room, i .filling .same));
+          }
+
+-- the same layout, said otherwise
+pub wrote-said : {packed other chained : Bool} {s t : List ℕ} {maps : Maps} {marks : Map} {area₀ area : List ℕ} {r : Slots} → packed ≡ other → WroteSlots packed chained s t maps marks area₀ area r → WroteSlots other chained s t maps marks area₀ area r
+wrote-said e w = rw e at w

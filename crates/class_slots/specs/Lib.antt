@@ -1,2 +1,3 @@
 pub mod Sets
 pub mod Slots
+pub mod Placing

@@ -6,6 +6,8 @@ use fold::Map;
 use meet_runs::meet;
 use meet_runs::meets;
 use meet_runs::most;
+use repeats::again;
+use repeats::settle;
 use room::HIGHEST;
 use wire::word_at;
 use wire::word_inside;
@@ -20,7 +22,7 @@ ghost use Rattle.meaning.specs.Maps.{glyphEntries};
 ghost use Rattle.meaning.specs.Parts.{coverageSound};
 ghost use Rattle.meaning.specs.Fault.{coversFault};
 ghost use Rattle.cover_rows.specs.Parts.{IsContext};
-ghost use Rattle.cover_rows.specs.Rows.{SoundRow, Passes, WritesSlot, WritesRow, MoreNotes, MostRow, slotLeft, rowLeft, LaysLeft};
+ghost use Rattle.cover_rows.specs.Rows.{SoundRow, Passes, Placing, Points, WritesSlot, WritesRow, MoreNotes, MostRow, leftAt, slotLeft, rowLeft, LaysLeft};
 ghost use Rattle.meet_runs.specs.Either.{SeeksGlyphs};
 ghost use Rattle.glyph_runs.specs.Runs.{GlyphMap};
 
@@ -34,6 +36,18 @@ pub struct Row {
 pub struct Slot {
     pub at: usize,
     pub cover: usize,
+}
+
+// Where the first coverage stands, and where the next one is written.
+pub struct Places {
+    pub first: usize,
+    pub pos: usize,
+}
+
+// The glyph map in cells, and its form.
+pub struct Held {
+    pub form: usize,
+    pub map: Map,
 }
 
 // Where the parts of a context stand: the offsets of its coverages, and its records.
@@ -130,68 +144,98 @@ pub fn most_row(src: &[u8], row: Row, glyphs: &[u8], form: usize, least: usize) 
 }
 
 // The place `p`, and 0 if no glyph of the coverage at `cover` is retained.
-fn pass_over(
-    src: &[u8],
-    cover: usize,
-    glyphs: &[u8],
-    form: usize,
-    m: Map,
-    t: &[u32],
-    p: usize,
-) -> usize
-    requires { ⌜ SeeksGlyphs form (now src) cover (now glyphs) m (now t) ⌝ }
-    ensures { λ r. ⌜ Passes (slotLeft (glyphEntries form (now (glyphs .entry))) (now (src .entry)) cover) p r ⌝ }
+fn pass_over(src: &[u8], cover: usize, glyphs: &[u8], held: Held, t: &[u32], p: usize) -> usize
+    requires { ⌜ SeeksGlyphs (held .form) (now src) cover (now glyphs) (held .map) (now t) ⌝ }
+    ensures { λ r. ⌜ Passes (slotLeft (glyphEntries (held .form) (now (glyphs .entry))) (now (src .entry)) cover) p r ⌝ }
 {
-    if meets(src, cover, glyphs, form, m, t) {
+    if meets(src, cover, glyphs, held.form, held.map, t) {
         return p;
     }
     0
 }
 
-// What is left of the coverage that an offset reaches: the offset at its place, and itself at `p`; the place after it, and 0 if no glyph is retained. Where `p` is past the area, or no offset can say it, nothing is noted or written, and the answer is past the area.
+// The offset of the coverage that was written from the next place on, up to `q`; the place after all coverages. Past the area if no offset can say where it stands.
+fn point(area: &mut [u8], slot: Slot, places: Places, q: usize, book: &mut [u32]) -> usize
+    requires { ⌜ Placing (now area) slot places q (now book) ⌝ }
+    ensures { λ r. ⌜ Points (now (area .entry)) slot places q (now (area .exit)) r (now (book .entry)) (now (book .exit)) ⌝ }
+{
+    let spot = settle(area, places.first, places.pos, q, slot.cover, book);
+    if spot.at == 0 {
+        return over(area);
+    }
+    if HIGHEST < spot.at {
+        return over(area);
+    }
+    put(area, slot.at, spot.at);
+    spot.end
+}
+
+// What is left of the coverage that an offset reaches, which no coverage of the book came from: its offset at its place, and itself at the next place, unless an equal one stands already; the place after all, and 0 if no glyph is retained. Past the area if it has no room for the coverage, or no offset can say where it stands.
+fn write_left(
+    src: &[u8],
+    slot: Slot,
+    glyphs: &[u8],
+    held: Held,
+    t: &mut [u32],
+    area: &mut [u8],
+    places: Places,
+    book: &mut [u32],
+) -> usize
+    requires { ⌜ WritesSlot (now src) slot (now glyphs) held (now t) (now area) places (now book) × (places .pos ≤ length (now area)) ⌝ }
+    ensures { λ r. ⌜ LaysLeft (leftAt (glyphEntries (held .form) (now (glyphs .entry))) (now (src .entry))) (slotLeft (glyphEntries (held .form) (now (glyphs .entry))) (now (src .entry)) (slot .cover)) (held .map) (now (t .entry)) (now (t .exit)) (now (area .entry)) (slot .at) places (now (area .exit)) r (now (book .entry)) (now (book .exit)) ⌝ }
+{
+    let notes = held.map.at + held.map.mask + 1;
+    let k = meet(src, slot.cover, glyphs, held.form, held.map, t, notes);
+    if k == 0 {
+        return 0;
+    }
+    let q = write_cover(t, notes, k, area, places.pos);
+    if area.len() < q {
+        return q;
+    }
+    point(area, slot, places, q, book)
+}
+
+// The same of any coverage. One that came from the same place stands already, and kept a glyph; where the next place is past the area, nothing is noted or written.
 fn write_slot(
     src: &[u8],
     slot: Slot,
     glyphs: &[u8],
-    form: usize,
-    m: Map,
+    held: Held,
     t: &mut [u32],
     area: &mut [u8],
-    p: usize,
+    places: Places,
+    book: &mut [u32],
 ) -> usize
-    requires { ⌜ WritesSlot form (now src) (slot .cover) (now glyphs) m (now t) (now area) (slot .at) p ⌝ }
-    ensures { λ r. ⌜ LaysLeft (slotLeft (glyphEntries form (now (glyphs .entry))) (now (src .entry)) (slot .cover)) m (now (t .entry)) (now (t .exit)) (now (area .entry)) (slot .at) p (now (area .exit)) r ⌝ }
+    requires { ⌜ WritesSlot (now src) slot (now glyphs) held (now t) (now area) places (now book) ⌝ }
+    ensures { λ r. ⌜ LaysLeft (leftAt (glyphEntries (held .form) (now (glyphs .entry))) (now (src .entry))) (slotLeft (glyphEntries (held .form) (now (glyphs .entry))) (now (src .entry)) (slot .cover)) (held .map) (now (t .entry)) (now (t .exit)) (now (area .entry)) (slot .at) places (now (area .exit)) r (now (book .entry)) (now (book .exit)) ⌝ }
 {
-    if area.len() < p {
-        return pass_over(src, slot.cover, glyphs, form, m, t, p);
+    if area.len() < places.pos {
+        return pass_over(src, slot.cover, glyphs, held, t, places.pos);
     }
-    if HIGHEST < p {
-        return pass_over(src, slot.cover, glyphs, form, m, t, over(area));
+    let at = again(book, places.first, slot.cover);
+    if at != 0 {
+        put(area, slot.at, at);
+        return places.pos;
     }
-    let notes = m.at + m.mask + 1;
-    let k = meet(src, slot.cover, glyphs, form, m, t, notes);
-    if k == 0 {
-        return 0;
-    }
-    put(area, slot.at, p);
-    write_cover(t, notes, k, area, p)
+    write_left(src, slot, glyphs, held, t, area, places, book)
 }
 
-// What is left of the coverages that a row reaches: their offsets where the row stands, and themselves from `pos` on; the place after them, and 0 if one of them is null or left with no glyph.
+// What is left of the coverages that a row reaches: their offsets where the row stands, and themselves from the next place on; the place after them, and 0 if one of them is null or left with no glyph.
 pub fn write_row(
     src: &[u8],
     row: Row,
     glyphs: &[u8],
-    form: usize,
-    m: Map,
+    held: Held,
     t: &mut [u32],
     area: &mut [u8],
-    pos: usize,
+    places: Places,
+    book: &mut [u32],
 ) -> usize
-    requires { ⌜ WritesRow form (now src) row (now glyphs) m (now t) (now area) pos ⌝ }
-    ensures { λ r. ⌜ LaysLeft (rowLeft (glyphEntries form (now (glyphs .entry))) (now (src .entry)) row) m (now (t .entry)) (now (t .exit)) (now (area .entry)) (row .at) pos (now (area .exit)) r ⌝ }
+    requires { ⌜ WritesRow (now src) row (now glyphs) held (now t) (now area) places (now book) ⌝ }
+    ensures { λ r. ⌜ LaysLeft (leftAt (glyphEntries (held .form) (now (glyphs .entry))) (now (src .entry))) (rowLeft (glyphEntries (held .form) (now (glyphs .entry))) (now (src .entry)) row) (held .map) (now (t .entry)) (now (t .exit)) (now (area .entry)) (row .at) places (now (area .exit)) r (now (book .entry)) (now (book .exit)) ⌝ }
 {
-    let mut p = pos;
+    let mut p = places.pos;
     let mut i = 0;
     while i < row.len {
         let at = row.at + 2 * i;
@@ -199,7 +243,11 @@ pub fn write_row(
         if cover == 0 {
             return 0;
         }
-        p = write_slot(src, Slot { at, cover }, glyphs, form, m, t, area, p);
+        let next = Places {
+            first: places.first,
+            pos: p,
+        };
+        p = write_slot(src, Slot { at, cover }, glyphs, held, t, area, next, book);
         if p == 0 {
             return 0;
         }
@@ -213,15 +261,15 @@ pub fn write_counted_row(
     src: &[u8],
     row: Row,
     glyphs: &[u8],
-    form: usize,
-    m: Map,
+    held: Held,
     t: &mut [u32],
     area: &mut [u8],
-    pos: usize,
+    places: Places,
+    book: &mut [u32],
 ) -> usize
-    requires { ⌜ WritesRow form (now src) row (now glyphs) m (now t) (now area) pos × (2 ≤ row .at) × (row .at ≤ length (now area)) ⌝ }
-    ensures { λ r. ⌜ LaysLeft (rowLeft (glyphEntries form (now (glyphs .entry))) (now (src .entry)) row) m (now (t .entry)) (now (t .exit)) (sets (now (area .entry)) (row .at - 2) (bytes2 (row .len))) (row .at) pos (now (area .exit)) r ⌝ }
+    requires { ⌜ WritesRow (now src) row (now glyphs) held (now t) (now area) places (now book) × (2 ≤ row .at) ⌝ }
+    ensures { λ r. ⌜ LaysLeft (leftAt (glyphEntries (held .form) (now (glyphs .entry))) (now (src .entry))) (rowLeft (glyphEntries (held .form) (now (glyphs .entry))) (now (src .entry)) row) (held .map) (now (t .entry)) (now (t .exit)) (sets (now (area .entry)) (row .at - 2) (bytes2 (row .len))) (row .at) places (now (area .exit)) r (now (book .entry)) (now (book .exit)) ⌝ }
 {
     put(area, row.at - 2, row.len);
-    write_row(src, row, glyphs, form, m, t, area, pos)
+    write_row(src, row, glyphs, held, t, area, places, book)
 }

@@ -11,28 +11,28 @@ use lib.Seq.{sets, length-sets}
 use Rattle.meaning.specs.Words.{bytes2, flat, bind, mapAll}
 use Rattle.meaning.specs.Parts.{coverage}
 use Rattle.meaning.specs.Tables.{reaches}
-use Rattle.meaning.specs.Layout.{offsets, blocks, wordsFit}
+use Rattle.meaning.specs.Layout.{wordsFit}
 use Rattle.laws.specs.Runs.{both}
 use Rattle.laws.specs.Stands.{flat-length}
-use Rattle.laws.specs.Through.{offsets-length}
 use Rattle.laws.specs.SoundGood.{reaches-length}
 use Rattle.laws.specs.Written.{Wrote, sets-flat, flat-one}
 use Rattle.area.specs.Extends.{Extends, extends-more, wrote-extends}
 use Rattle.area.specs.Stored.{extends-store}
-use Rattle.cover_rows.specs.Rows.{blockLeft, blocksLeft, rowLeft, Lays}
+use Rattle.cover_rows.specs.Behind.{offsetsBehind, blocksBehind, behind-length}
+use Rattle.cover_rows.specs.Rows.{blockLeft, blocksLeft, rowLeft, enoughBytes, Lays}
 use Rattle.cover_rows.specs.declared.Row.{Row}
 use Rattle.cover_rows.proofs.Lays.{some-none, some-same, and-true}
 
--- The words `head` stand from the start on, and the words `parts` from `first` on, and the offsets fit, as `fit` says; r is the place after them, or past the area: then it is too short for them, or not all offsets fit.
+-- The words `head` stand from the start on, and the words `parts` from `first` on, and the offsets fit, as `fit` says; r is the place after them, or past the area: then it has not enough bytes, or not all offsets fit.
 pub record Grows (before : List ℕ) (first : ℕ) (head parts : List ℕ) (fit : Bool) (after : List ℕ) (r : ℕ) : Type 0 where
   pub same : length after ≡ length before
   pub fits : r ≤ length before → Extends (sets before 0 (flat head)) first parts after r
   pub near : r ≤ length before → fit ≡ true
-  pub full : length before < r → fit ≡ true → length before < first + 2 * length parts
+  pub full : length before < r → fit ≡ true → length before < enoughBytes
 
 -- the same, where the header and what follows it are one row of words from the start on
 abbrev pub Ends : List ℕ → List ℕ → Bool → List ℕ → ℕ → Type 0
-Ends before ws fit after r = (r ≤ length before → Extends before 0 ws after r) × (r ≤ length before → fit ≡ true) × (length before < r → fit ≡ true → length before < 2 * length ws)
+Ends before ws fit after r = (r ≤ length before → Extends before 0 ws after r) × (r ≤ length before → fit ≡ true) × (length before < r → fit ≡ true → length before < enoughBytes)
 
 module _ {before : List ℕ} {first : ℕ} where
   -- no header yet
@@ -56,40 +56,38 @@ module _ {before : List ℕ} {first : ℕ} where
             let y = subst (λ (b : List ℕ). Extends (sets (sets before 0 (flat head)) at (flat ws)) first parts b q) (sym f) x in
             subst (λ (a : List ℕ). Extends a first parts next q) (ap (λ (i : ℕ). sets (sets before 0 (flat head)) i (flat ws)) n ∙ sets-flat before 0 head ws) y
 
-    -- offsets in the header, with the blocks that they lead to behind it
-    pub grows-row : (bs : List (Option (List ℕ))) {slot : ℕ} {after : List ℕ} {r : ℕ} → slot ≡ 2 * length head → slot + 2 * length bs ≤ first → length after ≡ length mid → Lays mid slot q bs after r
-        → Grows before first (head ++ offsets (first + 2 * length parts) bs) (parts ++ blocks bs) (fit && wordsFit (offsets (first + 2 * length parts) bs)) after r
-    grows-row bs {slot} {after} {r} e l s h = record {
+    -- offsets in the header, with what their blocks add behind it
+    pub grows-row : {packed : Bool} {left : ℕ → Option (List ℕ)} {place : ℕ} {pre : List (Option (List ℕ))} {book : List ℕ} (bs : List (Option (List ℕ))) {slot : ℕ} {after : List ℕ} {r : ℕ} → slot ≡ 2 * length head → slot + 2 * length bs ≤ first → length after ≡ length mid
+        → Lays packed left place pre mid slot q bs after r book
+        → Grows before first (head ++ offsetsBehind packed place pre bs) (parts ++ blocksBehind packed pre bs) (fit && wordsFit (offsetsBehind packed place pre bs)) after r
+    grows-row {packed} {left} {place} {pre} bs {slot} {after} {r} e l s h = record {
       same = s ∙ k .same;
-      fits = λ g. within (h .fits (omega (arith, k .same)));
-      near = λ g. close (h .fits (omega (arith, k .same))) (h .near (omega (arith, k .same)));
-      full = λ g f. over g (both fit _ f) (decLt (length before) q);
+      fits = λ g. joined (h .fits (omega (arith, k .same))) (k .fits (lies g));
+      near = λ g. and-true fit (wordsFit os) (k .near (lies g)) (h .near (omega (arith, k .same)));
+      full = λ g f. over g (both fit (wordsFit os) f) (decLt (length before) q);
     }
       where
-        joined : Extends (sets mid slot (flat (offsets q bs))) q (blocks bs) after r → Extends (sets before 0 (flat head)) first parts mid q → Extends (sets before 0 (flat (head ++ offsets (first + 2 * length parts) bs))) first (parts ++ blocks bs) after r
+        os : List ℕ
+        os = offsetsBehind packed place pre bs
+
+        lies : r ≤ length before → q ≤ length before
+        lies g =
+            let y = h .fits (omega (arith, k .same)) in
+            omega (arith, y .place, y .room, length-sets mid slot (flat os), k .same)
+
+        joined : Extends (sets mid slot (flat os)) q (blocksBehind packed pre bs) after r → Extends (sets before 0 (flat head)) first parts mid q → Extends (sets before 0 (flat (head ++ os))) first (parts ++ blocksBehind packed pre bs) after r
         joined y x =
-            let z = extends-more (extends-store slot (flat (offsets q bs)) x (omega (arith, flat-length (offsets q bs), offsets-length q bs))) y in
+            let z = extends-more (extends-store slot (flat os) x (omega (arith, flat-length os, behind-length packed place pre bs))) y in
             let n : slot ≡ 0 + 2 * length head = omega arith in
-            subst (λ (a : List ℕ). Extends a first (parts ++ blocks bs) after r)
-            (ap (λ (i : ℕ). sets (sets before 0 (flat head)) i (flat (offsets q bs))) n ∙ sets-flat before 0 head (offsets q bs) ∙ ap (λ (i : ℕ). sets before 0 (flat (head ++ offsets i bs))) (x .place)) z
+            subst (λ (a : List ℕ). Extends a first (parts ++ blocksBehind packed pre bs) after r) (ap (λ (i : ℕ). sets (sets before 0 (flat head)) i (flat os)) n ∙ sets-flat before 0 head os) z
 
-        within : Extends (sets mid slot (flat (offsets q bs))) q (blocks bs) after r → Extends (sets before 0 (flat (head ++ offsets (first + 2 * length parts) bs))) first (parts ++ blocks bs) after r
-        within y = joined y (k .fits (omega (arith, y .place, y .room, length-sets mid slot (flat (offsets q bs)), k .same)))
-
-        close : Extends (sets mid slot (flat (offsets q bs))) q (blocks bs) after r → wordsFit (offsets q bs) ≡ true → fit && wordsFit (offsets (first + 2 * length parts) bs) ≡ true
-        close y f =
-            let l : q ≤ length before = omega (arith, y .place, y .room, length-sets mid slot (flat (offsets q bs)), k .same) in
-            and-true fit _ (k .near l) (rw (k .fits l .place) at f)
-
-        over : length before < r → (fit ≡ true) × (wordsFit (offsets (first + 2 * length parts) bs) ≡ true) → Dec (length before < q) → length before < first + 2 * length (parts ++ blocks bs)
-        over g f (yes d) = omega (arith, k .full d (f .0), length-append parts (blocks bs))
-        over g f (no d) =
-            let x : q ≡ first + 2 * length parts = k .fits (omega arith) .place in
-            omega (arith, x, h .full (omega (arith, k .same)) (rw (← x) at (f .1)), length-append parts (blocks bs))
+        over : length before < r → (fit ≡ true) × (wordsFit os ≡ true) → Dec (length before < q) → length before < enoughBytes
+        over g f (yes d) = k .full d (f .0)
+        over g f (no d) = omega (arith, h .full (omega (arith, k .same)) (omega (arith, k .same)) (f .1), k .same)
 
     -- where what follows begins right after the header, it is one row of words
     pub grows-end : first ≡ 2 * length head → Ends before (head ++ parts) fit mid q
-    grows-end e = (λ g. join (k .fits g), λ g. k .near g, λ g f. omega (arith, k .full g f, length-append head parts))
+    grows-end e = (λ g. join (k .fits g), λ g. k .near g, λ g f. k .full g f)
       where
         join : Extends (sets before 0 (flat head)) first parts mid q → Extends before 0 (head ++ parts) mid q
         join x =
@@ -98,17 +96,17 @@ module _ {before : List ℕ} {first : ℕ} where
 
 module _ {before : List ℕ} {first : ℕ} {head parts mid : List ℕ} {fit : Bool} {q : ℕ} (k : Grows before first head parts fit mid q) where
   -- a row with its count before its offsets
-  pub grows-counted : (bs : List (Option (List ℕ))) {n slot at : ℕ} {after : List ℕ} {r : ℕ} → slot ≡ 2 * length head → at ≡ slot + 2 → at + 2 * n ≤ first → length bs ≡ n
-      → length after ≡ length (sets mid slot (bytes2 n)) → Lays (sets mid slot (bytes2 n)) at q bs after r
-      → Grows before first (head ++ (n ∷ offsets (first + 2 * length parts) bs)) (parts ++ blocks bs) (fit && wordsFit (offsets (first + 2 * length parts) bs)) after r
-  grows-counted bs {n} {slot} {at} {after} {r} b e l c s h =
+  pub grows-counted : {packed : Bool} {left : ℕ → Option (List ℕ)} {place : ℕ} {pre : List (Option (List ℕ))} {book : List ℕ} (bs : List (Option (List ℕ))) {n slot at : ℕ} {after : List ℕ} {r : ℕ} → slot ≡ 2 * length head → at ≡ slot + 2 → at + 2 * n ≤ first → length bs ≡ n
+      → length after ≡ length (sets mid slot (bytes2 n)) → Lays packed left place pre (sets mid slot (bytes2 n)) at q bs after r book
+      → Grows before first (head ++ (n ∷ offsetsBehind packed place pre bs)) (parts ++ blocksBehind packed pre bs) (fit && wordsFit (offsetsBehind packed place pre bs)) after r
+  grows-counted {packed} {left} {place} {pre} bs {n} {slot} {at} {after} {r} b e l c s h =
+      let os = offsetsBehind packed place pre bs in
       let a = grows-words k (n ∷ []) b (omega arith) (ap (sets mid slot) (sym (flat-one n))) in
-      subst (λ (w : List ℕ). Grows before first w (parts ++ blocks bs) (fit && wordsFit (offsets (first + 2 * length parts) bs)) after r) (append-assoc head (n ∷ []) (offsets (first + 2 * length parts) bs))
-      (grows-row a bs (omega (arith, length-append head (n ∷ []))) (omega arith) s h)
+      subst (λ (w : List ℕ). Grows before first w (parts ++ blocksBehind packed pre bs) (fit && wordsFit os) after r) (append-assoc head (n ∷ []) os) (grows-row a bs (omega (arith, length-append head (n ∷ []))) (omega arith) s h)
 
 -- how long a header is with a row more
-pub head-length : (head : List ℕ) (n p : ℕ) (bs : List (Option (List ℕ))) → length (head ++ (n ∷ offsets p bs)) ≡ length head + 1 + length bs
-head-length head n p bs = omega (arith, length-append head (n ∷ offsets p bs), offsets-length p bs)
+pub head-length : (head : List ℕ) (n : ℕ) (packed : Bool) (place : ℕ) (pre bs : List (Option (List ℕ))) → length (head ++ (n ∷ offsetsBehind packed place pre bs)) ≡ length head + 1 + length bs
+head-length head n packed place pre bs = omega (arith, length-append head (n ∷ offsetsBehind packed place pre bs), behind-length packed place pre bs)
 
 -- the blocks that are left of a row are as many as its offsets
 covers-length : (g : List (ℕ × ℕ)) (cs : List (Option (List ℕ))) (bs : List (Option (List ℕ))) → blocksLeft g cs ≡ some bs → length bs ≡ length cs

@@ -1,4 +1,5 @@
 pub mod Grows
+pub mod Layouts
 pub mod Context
 pub mod Cut
 pub mod Maps

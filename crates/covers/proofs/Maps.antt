@@ -10,7 +10,7 @@ use lib.Seq.{length-take-le}
 use Rattle.meaning.specs.Maps.{mapEntries, glyphEntries}
 use Rattle.meaning.specs.Tables.{coverContext}
 use Rattle.meaning.specs.Cut.{cut}
-use Rattle.meaning.specs.Subset.{Outcome, limit, written}
+use Rattle.meaning.specs.Subset.{Outcome, writtenIn}
 use Rattle.laws.specs.SoundGood.{Bytes}
 use Rattle.laws.specs.CallBack.{map-values}
 use Rattle.fold.specs.Cells.{Holds, holds-kept}
@@ -19,6 +19,7 @@ use Rattle.fold.specs.Runs.{LaidGlyphs}
 use Rattle.fold.specs.declared.Map.{Map}
 use Rattle.tried.specs.Tries.{Tries, tries-less}
 use Rattle.tried.specs.declared.Tried.{Tried}
+use Rattle.cover_rows.specs.Rows.{enoughBytes}
 use Rattle.covers.specs.Cutting.{Cuts, CutsInto, Sound, enoughCells, Least}
 
 module _ {chained : Bool} {form : ℕ} {s glyphs lookups : List ℕ} (o : Sound chained form s glyphs lookups) {t₀ t₁ : List ℕ} {l : Map} (a : Laid lookups t₀ t₁ 0 l) where
@@ -51,7 +52,7 @@ module _ {chained : Bool} {form : ℕ} {s glyphs lookups : List ℕ} (o : Sound 
       lookups-held : Holds t₂ l (mapEntries lookups)
       lookups-held = holds-kept (b .kept) (omega (arith, a .place)) (a .holds zl)
 
-      pub maps-ask : {area : List ℕ} → Bytes s → length t₀ ≤ 0x1_0000_0000 → length area ≤ 0x1_0000_0000 → Cuts chained form s glyphs m l t₂ area
+      pub maps-ask : {area : List ℕ} → Bytes s → length t₀ ≤ 0x1_0000_0000 → length area ≤ 0x1_0000_0000 → Cuts chained s glyphs (record { form = form; map = m }) l t₂ area
       maps-ask bs n k = record {
         sound = o .sound;
         bytes = bs;
@@ -63,10 +64,10 @@ module _ {chained : Bool} {form : ℕ} {s glyphs lookups : List ℕ} (o : Sound 
         cells = omega (arith, a .kept .size, b .kept .size);
       }
 
-      pub maps-cut : {area : List ℕ} {r : Tried} {out after : List ℕ} → Bytes lookups → CutsInto chained form s glyphs m l t₂ area r out after
-          → Tries (length t₀ < enoughCells) (length area < limit) r out after (written out (cut (glyphEntries form glyphs) (mapEntries lookups) (coverContext chained s)))
-      maps-cut {area} {r} {out} {after} bl c =
-          tries-less (length t₂ ≤ m .at + m .mask + 1 + 65536) (length area < limit) (length t₀ < enoughCells) (length area < limit) r out after (written out (cut (glyphEntries form glyphs) (mapEntries lookups) (coverContext chained s)))
+      pub maps-cut : {packing : ℕ} {area : List ℕ} {r : Tried} {out after : List ℕ} → Bytes lookups → CutsInto packing chained s glyphs (record { form = form; map = m }) l t₂ area r out after
+          → Tries (length t₀ < enoughCells) (length area < enoughBytes) r out after (writtenIn packing out (cut (glyphEntries form glyphs) (mapEntries lookups) (coverContext chained s)))
+      maps-cut {packing} {area} {r} {out} {after} bl c =
+          tries-less (length t₂ ≤ m .at + m .mask + 1 + 65536) (length area < enoughBytes) (length t₀ < enoughCells) (length area < enoughBytes) r out after (writtenIn packing out (cut (glyphEntries form glyphs) (mapEntries lookups) (coverContext chained s)))
           (λ f. omega (arith, f, notes-near, a .kept .size, b .kept .size)) (λ f. f) (c .cuts lookups-held (map-values lookups bl))
 
 -- A front of the scratch that is long enough, or all of it.
@@ -76,8 +77,7 @@ front-length {n} t h = sym (length-take-le n t (h .first))
 front-short : {n c : ℕ} (t : List ℕ) → Least (length t) c n → length (take n t) < c → length t < c
 front-short {n} {c} t h l = omega (arith, front-length t h, h .one (omega (arith, front-length t h)))
 
-pub front-tries : {n k : ℕ} (t area : List ℕ) (r : Tried) (out after : List ℕ) (made : Outcome) → Least (length t) 196609 n → Least (length area) 262144 k
-    → Tries (length (take n t) < enoughCells) (length (take k area) < limit) r out after made → Tries (length t < enoughCells) (length area < limit) r out after made
-unfolding limit
+pub front-tries : {n k : ℕ} (t area : List ℕ) (r : Tried) (out after : List ℕ) (made : Outcome) → Least (length t) 196609 n → Least (length area) 655360 k
+    → Tries (length (take n t) < enoughCells) (length (take k area) < enoughBytes) r out after made → Tries (length t < enoughCells) (length area < enoughBytes) r out after made
 front-tries {n} {k} t area r out after made h g =
-    tries-less (length (take n t) < enoughCells) (length (take k area) < limit) (length t < enoughCells) (length area < limit) r out after made (front-short t h) (front-short area g)
+    tries-less (length (take n t) < enoughCells) (length (take k area) < enoughBytes) (length t < enoughCells) (length area < enoughBytes) r out after made (front-short t h) (front-short area g)

@@ -4,6 +4,8 @@ use area::hand_over;
 use area::put;
 use area::put_three;
 use cover_rows::CoverParts;
+use cover_rows::Held;
+use cover_rows::Places;
 use cover_rows::cover_parts;
 use cover_rows::most_row;
 use cover_rows::write_counted_row;
@@ -11,8 +13,11 @@ use cover_rows::write_row;
 use fold::Map;
 use fold::lay;
 use fold::lay_glyphs;
+use marks::Marks;
 use numbers::write_counted_records;
 use numbers::write_records;
+use repeats::BOOK;
+use repeats::begin;
 use room::LIMIT;
 use room::Laid;
 use tried::Tried;
@@ -20,21 +25,25 @@ ghost use mathlib.Core.Bool.{true, false};
 ghost use Prim.Native.Nat.{_+_, _-_, _*_, _≤_, _<_};
 ghost use lib.ListN.{length};
 ghost use Rattle.meaning.specs.Maps.{mapEntries, glyphEntries};
-ghost use Rattle.covers.specs.Context.{MostNotes, Asks, Writes};
-ghost use Rattle.cover_rows.specs.Rows.{SoundRow};
+ghost use Rattle.covers.specs.Context.{MostNotes, Asks, Begins, Writes};
+ghost use Rattle.cover_rows.specs.Rows.{SoundRow, enoughBytes};
 ghost use Rattle.glyph_runs.specs.Runs.{GlyphMap};
-ghost use Rattle.covers.specs.Cutting.{HandsOver, Cuts, CutsInto, Sound, enoughCells, Least};
+ghost use Rattle.covers.specs.Cutting.{HandsOver, Cuts, CutsInto, Sound, enoughCells, isPacked, Least};
 ghost use Rattle.meaning.specs.Tables.{coverContext};
 ghost use Rattle.meaning.specs.Cut.{cut};
-ghost use Rattle.meaning.specs.Subset.{limit, written};
+ghost use Rattle.meaning.specs.Subset.{writtenIn};
 ghost use Rattle.tried.specs.Tries.{Tries};
+ghost use Rattle.repeats.specs.Book.{packs};
 
 // The number of cells that is enough for any source: two maps of 65,536 cells each, and a note for each glyph and one more.
 pub const CELLS: usize = 196609;
 
-// Both maps in cells.
+// The bytes of an area that is enough for any source: the header and the coverages that are kept end by the limit, and one coverage more is written.
+pub const BYTES: usize = 5 * LIMIT / 2;
+
+// Both maps in cells, the glyph map with its form.
 pub struct Cells {
-    pub glyphs: Map,
+    pub glyphs: Held,
     pub lookups: Map,
 }
 
@@ -43,18 +52,28 @@ fn write_plain(
     src: &[u8],
     parts: CoverParts,
     glyphs: &[u8],
-    form: usize,
     cells: Cells,
     t: &mut [u32],
     area: &mut [u8],
+    book: &mut [u32],
 ) -> usize
-    requires { ⌜ Asks false form (now src) parts (now glyphs) (cells .glyphs) (cells .lookups) (now t) (now area) ⌝ }
-    ensures { λ r. ⌜ Writes false form (now (src .entry)) parts (now (glyphs .entry)) (cells .lookups) (now (t .entry)) (now (area .entry)) (now (area .exit)) r ⌝ }
+    requires { ⌜ Asks false (now src) parts (now glyphs) (cells .glyphs) (cells .lookups) (now t) (now area) × Begins (now book) ⌝ }
+    ensures { λ r. ⌜ Writes (packs (now (book .entry))) false (now (src .entry)) parts (now (glyphs .entry)) (cells .glyphs) (cells .lookups) (now (t .entry)) (now (area .entry)) (now (area .exit)) r ⌝ }
 {
     let at = parts.records.at;
     let p = write_records(src, at, parts.records.len, t, cells.lookups, area, at);
     put_three(area, 0, 3, parts.input.len, (p - at) / 4);
-    write_row(src, parts.input, glyphs, form, cells.glyphs, t, area, p)
+    let places = Places { first: p, pos: p };
+    write_row(
+        src,
+        parts.input,
+        glyphs,
+        cells.glyphs,
+        t,
+        area,
+        places,
+        book,
+    )
 }
 
 // A chained context: format, and each row with its count; the records that stay with theirs, and what is left of the coverages; the place after it, and 0 if nothing is left.
@@ -62,50 +81,107 @@ fn write_chained(
     src: &[u8],
     parts: CoverParts,
     glyphs: &[u8],
-    form: usize,
     cells: Cells,
     t: &mut [u32],
     area: &mut [u8],
+    book: &mut [u32],
 ) -> usize
-    requires { ⌜ Asks true form (now src) parts (now glyphs) (cells .glyphs) (cells .lookups) (now t) (now area) ⌝ }
-    ensures { λ r. ⌜ Writes true form (now (src .entry)) parts (now (glyphs .entry)) (cells .lookups) (now (t .entry)) (now (area .entry)) (now (area .exit)) r ⌝ }
+    requires { ⌜ Asks true (now src) parts (now glyphs) (cells .glyphs) (cells .lookups) (now t) (now area) × Begins (now book) ⌝ }
+    ensures { λ r. ⌜ Writes (packs (now (book .entry))) true (now (src .entry)) parts (now (glyphs .entry)) (cells .glyphs) (cells .lookups) (now (t .entry)) (now (area .entry)) (now (area .exit)) r ⌝ }
 {
     let at = parts.records.at;
     let n = parts.records.len;
-    let p = write_counted_records(src, at, n, t, cells.lookups, area, at - 2);
+    let first = write_counted_records(src, at, n, t, cells.lookups, area, at - 2);
     put(area, 0, 3);
-    let q = write_counted_row(src, parts.back, glyphs, form, cells.glyphs, t, area, p);
+    let p = Places { first, pos: first };
+    let q = write_counted_row(src, parts.back, glyphs, cells.glyphs, t, area, p, book);
     if q == 0 {
         return 0;
     }
-    let r = write_counted_row(src, parts.input, glyphs, form, cells.glyphs, t, area, q);
+    let p = Places { first, pos: q };
+    let r = write_counted_row(src, parts.input, glyphs, cells.glyphs, t, area, p, book);
     if r == 0 {
         return 0;
     }
-    write_counted_row(src, parts.ahead, glyphs, form, cells.glyphs, t, area, r)
+    let p = Places { first, pos: r };
+    write_counted_row(src, parts.ahead, glyphs, cells.glyphs, t, area, p, book)
 }
 
-// What is left of a context by coverages, written from the area's start on; the place after it, and 0 if nothing is left.
+// What is left of a context by coverages, written from the area's start on; the place after it, and 0 if nothing is left. The book has no coverage yet.
 pub fn write_context(
     chained: bool,
     src: &[u8],
     parts: CoverParts,
     glyphs: &[u8],
-    form: usize,
+    cells: Cells,
+    t: &mut [u32],
+    area: &mut [u8],
+    book: &mut [u32],
+) -> usize
+    requires { ⌜ Asks chained (now src) parts (now glyphs) (cells .glyphs) (cells .lookups) (now t) (now area) × Begins (now book) ⌝ }
+    ensures { λ r. ⌜ Writes (packs (now (book .entry))) chained (now (src .entry)) parts (now (glyphs .entry)) (cells .glyphs) (cells .lookups) (now (t .entry)) (now (area .entry)) (now (area .exit)) r ⌝ }
+{
+    if chained {
+        return write_chained(src, parts, glyphs, cells, t, area, book);
+    }
+    write_plain(src, parts, glyphs, cells, t, area, book)
+}
+
+// The same with no coverage written twice, and a book of them.
+// It calls itself, so that the compiler keeps the book out of its caller's frame: a call for the plain layout would pay for it. How often it does, `rounds`, is 0 for a map of whole entries.
+fn write_packed(
+    chained: bool,
+    src: &[u8],
+    parts: CoverParts,
+    glyphs: &[u8],
+    cells: Cells,
+    t: &mut [u32],
+    rounds: usize,
+    area: &mut [u8],
+) -> usize
+    requires { ⌜ Asks chained (now src) parts (now glyphs) (cells .glyphs) (cells .lookups) (now t) (now area) ⌝ }
+    ensures { λ r. ⌜ Writes true chained (now (src .entry)) parts (now (glyphs .entry)) (cells .glyphs) (cells .lookups) (now (t .entry)) (now (area .entry)) (now (area .exit)) r ⌝ }
+{
+    if rounds != 0 {
+        return write_packed(chained, src, parts, glyphs, cells, t, rounds - 1, area);
+    }
+    let mut book = [0u32; BOOK];
+    begin(&mut book);
+    write_context(chained, src, parts, glyphs, cells, t, area, &mut book)
+}
+
+// The same in the layout that is asked for, with a book of our own.
+fn write_in(
+    packing: usize,
+    chained: bool,
+    src: &[u8],
+    parts: CoverParts,
+    glyphs: &[u8],
     cells: Cells,
     t: &mut [u32],
     area: &mut [u8],
 ) -> usize
-    requires { ⌜ Asks chained form (now src) parts (now glyphs) (cells .glyphs) (cells .lookups) (now t) (now area) ⌝ }
-    ensures { λ r. ⌜ Writes chained form (now (src .entry)) parts (now (glyphs .entry)) (cells .lookups) (now (t .entry)) (now (area .entry)) (now (area .exit)) r ⌝ }
+    requires { ⌜ Asks chained (now src) parts (now glyphs) (cells .glyphs) (cells .lookups) (now t) (now area) ⌝ }
+    ensures { λ r. ⌜ Writes (isPacked packing) chained (now (src .entry)) parts (now (glyphs .entry)) (cells .glyphs) (cells .lookups) (now (t .entry)) (now (area .entry)) (now (area .exit)) r ⌝ }
 {
-    if chained {
-        return write_chained(src, parts, glyphs, form, cells, t, area);
+    if packing == 1 {
+        return write_packed(
+            chained,
+            src,
+            parts,
+            glyphs,
+            cells,
+            t,
+            glyphs.len() % 2,
+            area,
+        );
     }
-    write_plain(src, parts, glyphs, form, cells, t, area)
+    let mut book = [0u32; 1];
+    begin(&mut book);
+    write_context(chained, src, parts, glyphs, cells, t, area, &mut book)
 }
 
-// What was written into the area up to `end`, handed over: nothing if `end` is 0; where it is past the area, the layout is too big if the area is not shorter than the limit.
+// What was written into the area up to `end`, handed over: nothing if `end` is 0; where it is past the area, the layout is too big if the area has enough bytes.
 fn settle(end: usize, area: &[u8], out: &mut [u8]) -> Tried
     ensures { λ r. ⌜ HandsOver end (now (area .entry)) r (now (out .entry)) (now (out .exit)) ⌝ }
 {
@@ -113,7 +189,7 @@ fn settle(end: usize, area: &[u8], out: &mut [u8]) -> Tried
         return Tried::Became(Laid::Nothing);
     }
     if area.len() < end {
-        if area.len() < LIMIT {
+        if area.len() < BYTES {
             return Tried::Short;
         }
         return Tried::Became(Laid::TooBig);
@@ -136,24 +212,24 @@ fn cut_context(
     chained: bool,
     src: &[u8],
     glyphs: &[u8],
-    form: usize,
+    packing: usize,
     cells: Cells,
     t: &mut [u32],
     area: &mut [u8],
     out: &mut [u8],
 ) -> Tried
-    requires { ⌜ Cuts chained form (now src) (now glyphs) (cells .glyphs) (cells .lookups) (now t) (now area) ⌝ }
-    ensures { λ r. ⌜ CutsInto chained form (now (src .entry)) (now (glyphs .entry)) (cells .glyphs) (cells .lookups) (now (t .entry)) (now (area .entry)) r (now (out .entry)) (now (out .exit)) ⌝ }
+    requires { ⌜ Cuts chained (now src) (now glyphs) (cells .glyphs) (cells .lookups) (now t) (now area) ⌝ }
+    ensures { λ r. ⌜ CutsInto packing chained (now (src .entry)) (now (glyphs .entry)) (cells .glyphs) (cells .lookups) (now (t .entry)) (now (area .entry)) r (now (out .entry)) (now (out .exit)) ⌝ }
 {
     let parts = cover_parts(chained, src);
-    let notes = cells.glyphs.at + cells.glyphs.mask + 1;
-    if t.len() <= notes + most_notes(src, parts, glyphs, form) {
+    let notes = cells.glyphs.map.at + cells.glyphs.map.mask + 1;
+    if t.len() <= notes + most_notes(src, parts, glyphs, cells.glyphs.form) {
         return Tried::FewCells;
     }
     if area.len() < parts.records.at + 4 * parts.records.len {
         return Tried::Short;
     }
-    let end = write_context(chained, src, parts, glyphs, form, cells, t, area);
+    let end = write_in(packing, chained, src, parts, glyphs, cells, t, area);
     settle(end, area, out)
 }
 
@@ -162,28 +238,32 @@ fn cut_in(
     chained: bool,
     src: &[u8],
     glyphs: &[u8],
-    form: usize,
+    marks: Marks,
     lookups: &[u8],
     t: &mut [u32],
     area: &mut [u8],
     out: &mut [u8],
 ) -> Tried
-    requires { ⌜ Sound chained form (now src) (now glyphs) (now lookups) × (length (now t) ≤ 0x1_0000_0000) × (length (now area) ≤ 0x1_0000_0000) ⌝ }
-    ensures { λ r. ⌜ Tries (length (now (t .entry)) < enoughCells) (length (now (area .entry)) < limit) r (now (out .entry)) (now (out .exit)) (written (now (out .entry)) (cut (glyphEntries form (now (glyphs .entry))) (mapEntries (now (lookups .entry))) (coverContext chained (now (src .entry))))) ⌝ }
+    requires { ⌜ Sound chained (marks .form) (now src) (now glyphs) (now lookups) × (length (now t) ≤ 0x1_0000_0000) × (length (now area) ≤ 0x1_0000_0000) ⌝ }
+    ensures { λ r. ⌜ Tries (length (now (t .entry)) < enoughCells) (length (now (area .entry)) < enoughBytes) r (now (out .entry)) (now (out .exit)) (writtenIn (marks .layout) (now (out .entry)) (cut (glyphEntries (marks .form) (now (glyphs .entry))) (mapEntries (now (lookups .entry))) (coverContext chained (now (src .entry))))) ⌝ }
 {
     let l = lay(lookups, t, 0);
     if l.mask == 0 {
         return Tried::FewCells;
     }
-    let g = lay_glyphs(glyphs, form, t, l.mask + 1);
+    let g = lay_glyphs(glyphs, marks.form, t, l.mask + 1);
     if g.mask == 0 {
         return Tried::FewCells;
     }
+    let held = Held {
+        form: marks.form,
+        map: g,
+    };
     let cells = Cells {
-        glyphs: g,
+        glyphs: held,
         lookups: l,
     };
-    cut_context(chained, src, glyphs, form, cells, t, area, out)
+    cut_context(chained, src, glyphs, marks.layout, cells, t, area, out)
 }
 
 // The lesser of two numbers.
@@ -201,22 +281,22 @@ pub fn by_cover(
     chained: bool,
     src: &[u8],
     glyphs: &[u8],
-    form: usize,
+    marks: Marks,
     lookups: &[u8],
     t: &mut [u32],
     area: &mut [u8],
     out: &mut [u8],
 ) -> Tried
-    requires { ⌜ Sound chained form (now src) (now glyphs) (now lookups) ⌝ }
-    ensures { λ r. ⌜ Tries (length (now (t .entry)) < enoughCells) (length (now (area .entry)) < limit) r (now (out .entry)) (now (out .exit)) (written (now (out .entry)) (cut (glyphEntries form (now (glyphs .entry))) (mapEntries (now (lookups .entry))) (coverContext chained (now (src .entry))))) ⌝ }
+    requires { ⌜ Sound chained (marks .form) (now src) (now glyphs) (now lookups) ⌝ }
+    ensures { λ r. ⌜ Tries (length (now (t .entry)) < enoughCells) (length (now (area .entry)) < enoughBytes) r (now (out .entry)) (now (out .exit)) (writtenIn (marks .layout) (now (out .entry)) (cut (glyphEntries (marks .form) (now (glyphs .entry))) (mapEntries (now (lookups .entry))) (coverContext chained (now (src .entry))))) ⌝ }
 {
     let cells = least(t.len(), CELLS);
-    let bytes = least(area.len(), LIMIT);
+    let bytes = least(area.len(), BYTES);
     cut_in(
         chained,
         src,
         glyphs,
-        form,
+        marks,
         lookups,
         &mut t[..cells],
         &mut area[..bytes],

@@ -1,2 +1,3 @@
+pub mod Single
 pub mod Says
 pub mod Sizes

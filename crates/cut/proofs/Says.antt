@@ -14,7 +14,7 @@ use Rattle.meaning.specs.Parts.{coverage, classes}
 use Rattle.meaning.specs.Tables.{Table, fieldCount, reach, reaches, pairSet, cellRows, pairTable, classContext, coverContext, context, single, table}
 use Rattle.meaning.specs.Fault.{headerFault, enough, pairFault, fault}
 use Rattle.meaning.specs.Cut.{cut}
-use Rattle.meaning.specs.Subset.{limit, written}
+use Rattle.meaning.specs.Subset.{limit, written, writtenIn}
 use Rattle.laws.specs.Ascends.{lookups-ascend}
 use Rattle.glyph_runs.specs.Runs.{GlyphMap}
 use Rattle.checks.proofs.Laws.{context-1, context-3, pairs-1, source-short, source-plain, source-chained, source-ligatures, source-pairs, source-singles}
@@ -28,6 +28,7 @@ use Rattle.pair_classes.specs.Cutting as classPairs
 use Rattle.covers.specs.Cutting as covers
 use Rattle.single_subst.specs.Whole as singles
 use Rattle.class_contexts.specs.Cutting as classes
+use Rattle.cut.proofs.Single.{singles-written}
 use Rattle.cut.specs.Cutting.{Sound, SoundContext, SoundPairs, enoughBytes, classCells, otherCells, byClasses, contextCells, pairCells, cellsFor}
 
 -- the cells that are enough for a context
@@ -92,16 +93,15 @@ module _ (chained : Bool) (s : List ℕ) {format : ℕ} (e : format ≡ word s 0
   says-3 f h = rw (← e, ne-eqb format 1 f, ne-eqb format 2 h)
 
   -- what each format's cut answers is what a context's cut answers
-  module _ (g l : List (ℕ × ℕ)) (n b : ℕ) (r : Tried) (out after : List ℕ) where
-    pub tries-1 : format ≡ 1 → Tries (n < otherCells) (b < enoughBytes) r out after (written out (cut g l (glyphContext chained s))) → Tries (n < contextCells s) (b < enoughBytes) r out after (written out (cut g l (context chained s)))
-    tries-1 f h = tries-less (n < otherCells) (b < enoughBytes) (n < contextCells s) (b < enoughBytes) r out after (written out (cut g l (context chained s))) (other-few s n) (λ x. x) (rw (says-1 f) at h)
+  module _ (packing : ℕ) (g l : List (ℕ × ℕ)) (n b : ℕ) (r : Tried) (out after : List ℕ) where
+    pub tries-1 : format ≡ 1 → Tries (n < otherCells) (b < enoughBytes) r out after (writtenIn packing out (cut g l (glyphContext chained s))) → Tries (n < contextCells s) (b < enoughBytes) r out after (writtenIn packing out (cut g l (context chained s)))
+    tries-1 f h = tries-less (n < otherCells) (b < enoughBytes) (n < contextCells s) (b < enoughBytes) r out after (writtenIn packing out (cut g l (context chained s))) (other-few s n) (λ x. x) (rw (says-1 f) at h)
 
-    pub tries-2 : format ≡ 2 → Tries (n < classCells) (b < enoughBytes) r out after (written out (cut g l (classContext chained s))) → Tries (n < contextCells s) (b < enoughBytes) r out after (written out (cut g l (context chained s)))
-    tries-2 f h = tries-less (n < classCells) (b < enoughBytes) (n < contextCells s) (b < enoughBytes) r out after (written out (cut g l (context chained s))) (class-few s n (sym e ∙ f)) (λ x. x) (rw (says-2 f) at h)
+    pub tries-2 : format ≡ 2 → Tries (n < classCells) (b < enoughBytes) r out after (writtenIn packing out (cut g l (classContext chained s))) → Tries (n < contextCells s) (b < enoughBytes) r out after (writtenIn packing out (cut g l (context chained s)))
+    tries-2 f h = tries-less (n < classCells) (b < enoughBytes) (n < contextCells s) (b < enoughBytes) r out after (writtenIn packing out (cut g l (context chained s))) (class-few s n (sym e ∙ f)) (λ x. x) (rw (says-2 f) at h)
 
-    pub tries-3 : (format ≡ 1 → ⊥) → (format ≡ 2 → ⊥) → Tries (n < otherCells) (b < limit) r out after (written out (cut g l (coverContext chained s))) → Tries (n < contextCells s) (b < enoughBytes) r out after (written out (cut g l (context chained s)))
-    unfolding limit
-    tries-3 f k h = tries-less (n < otherCells) (b < limit) (n < contextCells s) (b < enoughBytes) r out after (written out (cut g l (context chained s))) (other-few s n) (λ x. omega arith) (rw (says-3 f k) at h)
+    pub tries-3 : (format ≡ 1 → ⊥) → (format ≡ 2 → ⊥) → Tries (n < otherCells) (b < enoughBytes) r out after (writtenIn packing out (cut g l (coverContext chained s))) → Tries (n < contextCells s) (b < enoughBytes) r out after (writtenIn packing out (cut g l (context chained s)))
+    tries-3 f k h = tries-less (n < otherCells) (b < enoughBytes) (n < contextCells s) (b < enoughBytes) r out after (writtenIn packing out (cut g l (context chained s))) (other-few s n) (λ x. x) (rw (says-3 f k) at h)
 
 -- a source without a fault has its first two bytes
 sound-inside : (kind : ℕ) (s : List ℕ) → fault kind s ≡ none → inside s 0 2 ≡ true
@@ -138,13 +138,13 @@ module _ (s : List ℕ) {format : ℕ} (e : format ≡ word s 0) where
   class-pairs-few f n h = rw (← e, ne-eqb format 1 f) (omega arith)
 
   -- what each format's cut answers is what a pair table's cut answers
-  module _ (g : List (ℕ × ℕ)) (n b : ℕ) (r : Tried) (out after : List ℕ) where
-    pub tries-glyph-pairs : format ≡ 1 → Tries (n < otherCells) (b < enoughBytes) r out after (written out (cut g [] (glyphPairs.pairTable s))) → Tries (n < pairCells s) (b < enoughBytes) r out after (written out (cut g [] (pairTable s)))
-    tries-glyph-pairs f h = tries-less (n < otherCells) (b < enoughBytes) (n < pairCells s) (b < enoughBytes) r out after (written out (cut g [] (pairTable s))) (glyph-few n) (λ x. x) (rw (says-glyph-pairs f) at h)
+  module _ (packing : ℕ) (g : List (ℕ × ℕ)) (n b : ℕ) (r : Tried) (out after : List ℕ) where
+    pub tries-glyph-pairs : format ≡ 1 → Tries (n < otherCells) (b < enoughBytes) r out after (writtenIn packing out (cut g [] (glyphPairs.pairTable s))) → Tries (n < pairCells s) (b < enoughBytes) r out after (writtenIn packing out (cut g [] (pairTable s)))
+    tries-glyph-pairs f h = tries-less (n < otherCells) (b < enoughBytes) (n < pairCells s) (b < enoughBytes) r out after (writtenIn packing out (cut g [] (pairTable s))) (glyph-few n) (λ x. x) (rw (says-glyph-pairs f) at h)
 
-    pub tries-class-pairs : (format ≡ 1 → ⊥) → Tries (n < classPairs.enoughCells) (b < limit) r out after (written out (cut g [] (pairTable s))) → Tries (n < pairCells s) (b < enoughBytes) r out after (written out (cut g [] (pairTable s)))
+    pub tries-class-pairs : (format ≡ 1 → ⊥) → Tries (n < classPairs.enoughCells) (b < limit) r out after (writtenIn packing out (cut g [] (pairTable s))) → Tries (n < pairCells s) (b < enoughBytes) r out after (writtenIn packing out (cut g [] (pairTable s)))
     unfolding limit
-    tries-class-pairs f h = tries-less (n < classPairs.enoughCells) (b < limit) (n < pairCells s) (b < enoughBytes) r out after (written out (cut g [] (pairTable s))) (class-pairs-few f n) (λ x. omega arith) h
+    tries-class-pairs f h = tries-less (n < classPairs.enoughCells) (b < limit) (n < pairCells s) (b < enoughBytes) r out after (writtenIn packing out (cut g [] (pairTable s))) (class-pairs-few f n) (λ x. omega arith) h
 
 -- lookups have no say in what is left of a pair table
 pair-lookups : (g l : List (ℕ × ℕ)) (s : List ℕ) → cut g l (pairTable s) ≡ cut g [] (pairTable s)
@@ -211,27 +211,27 @@ module _ (kind : ℕ) (s : List ℕ) where
   says-singles g l x y z w = sym (singles.any-lookups g l s) ∙ ap (cut g l) (single-is x y z w)
 
   -- what each kind's cut answers is what a source's cut answers
-  module _ (g l : List (ℕ × ℕ)) (n b : ℕ) (r : Tried) (out after : List ℕ) where
+  module _ (packing : ℕ) (g l : List (ℕ × ℕ)) (n b : ℕ) (r : Tried) (out after : List ℕ) where
     abbrev Cut : Type 0
-    Cut = Tries (n < cellsFor kind s) (b < enoughBytes) r out after (written out (cut g l (table kind s)))
+    Cut = Tries (n < cellsFor kind s) (b < enoughBytes) r out after (writtenIn packing out (cut g l (table kind s)))
 
-    pub tries-plain : kind ≡ 1 → Tries (n < contextCells s) (b < enoughBytes) r out after (written out (cut g l (context false s))) → Cut
-    tries-plain e h = tries-less (n < contextCells s) (b < enoughBytes) (n < cellsFor kind s) (b < enoughBytes) r out after (written out (cut g l (table kind s))) (context-few kind s (omega arith) n) (λ x. x) (rw (says-plain e) at h)
+    pub tries-plain : kind ≡ 1 → Tries (n < contextCells s) (b < enoughBytes) r out after (writtenIn packing out (cut g l (context false s))) → Cut
+    tries-plain e h = tries-less (n < contextCells s) (b < enoughBytes) (n < cellsFor kind s) (b < enoughBytes) r out after (writtenIn packing out (cut g l (table kind s))) (context-few kind s (omega arith) n) (λ x. x) (rw (says-plain e) at h)
 
-    pub tries-chained : kind ≡ 2 → Tries (n < contextCells s) (b < enoughBytes) r out after (written out (cut g l (context true s))) → Cut
-    tries-chained e h = tries-less (n < contextCells s) (b < enoughBytes) (n < cellsFor kind s) (b < enoughBytes) r out after (written out (cut g l (table kind s))) (context-few kind s (omega arith) n) (λ x. x) (rw (says-chained e) at h)
+    pub tries-chained : kind ≡ 2 → Tries (n < contextCells s) (b < enoughBytes) r out after (writtenIn packing out (cut g l (context true s))) → Cut
+    tries-chained e h = tries-less (n < contextCells s) (b < enoughBytes) (n < cellsFor kind s) (b < enoughBytes) r out after (writtenIn packing out (cut g l (table kind s))) (context-few kind s (omega arith) n) (λ x. x) (rw (says-chained e) at h)
 
-    tries-other : {made : Option Table} → made ≡ cut g l (table kind s) → Tries (n < otherCells) (b < enoughBytes) r out after (written out made) → Cut
-    tries-other m h = tries-less (n < otherCells) (b < enoughBytes) (n < cellsFor kind s) (b < enoughBytes) r out after (written out (cut g l (table kind s))) (source-few kind s n) (λ x. x) (rw m at h)
+    tries-other : {made : Option Table} → made ≡ cut g l (table kind s) → Tries (n < otherCells) (b < enoughBytes) r out after (writtenIn packing out made) → Cut
+    tries-other m h = tries-less (n < otherCells) (b < enoughBytes) (n < cellsFor kind s) (b < enoughBytes) r out after (writtenIn packing out (cut g l (table kind s))) (source-few kind s n) (λ x. x) (rw m at h)
 
-    pub tries-ligatures : kind ≡ 3 → Tries (n < otherCells) (b < enoughBytes) r out after (written out (cut g [] (ligatureTable s))) → Cut
+    pub tries-ligatures : kind ≡ 3 → Tries (n < otherCells) (b < enoughBytes) r out after (writtenIn packing out (cut g [] (ligatureTable s))) → Cut
     tries-ligatures e h = tries-other (says-ligatures g l e) h
 
-    pub tries-pairs : kind ≡ 4 → Tries (n < pairCells s) (b < enoughBytes) r out after (written out (cut g [] (pairTable s))) → Cut
-    tries-pairs e h = tries-less (n < pairCells s) (b < enoughBytes) (n < cellsFor kind s) (b < enoughBytes) r out after (written out (cut g l (table kind s))) (pair-few kind s e n) (λ x. x) (rw (says-pairs g l e) at h)
+    pub tries-pairs : kind ≡ 4 → Tries (n < pairCells s) (b < enoughBytes) r out after (writtenIn packing out (cut g [] (pairTable s))) → Cut
+    tries-pairs e h = tries-less (n < pairCells s) (b < enoughBytes) (n < cellsFor kind s) (b < enoughBytes) r out after (writtenIn packing out (cut g l (table kind s))) (pair-few kind s e n) (λ x. x) (rw (says-pairs g l e) at h)
 
     pub tries-singles : (kind ≡ 1 → ⊥) → (kind ≡ 2 → ⊥) → (kind ≡ 3 → ⊥) → (kind ≡ 4 → ⊥) → Tries (n < singles.enoughCells) (b < limit) r out after (written out (cut g [] (single s))) → Cut
     unfolding limit
     tries-singles x y z w h =
         tries-other (says-singles g l x y z w)
-        (tries-less (n < singles.enoughCells) (b < limit) (n < otherCells) (b < enoughBytes) r out after (written out (cut g [] (single s))) (λ x. x) (λ x. omega arith) h)
+        (tries-less (n < singles.enoughCells) (b < limit) (n < otherCells) (b < enoughBytes) r out after (writtenIn packing out (cut g [] (single s))) (λ x. x) (λ x. omega arith) (rw (singles-written packing out g [] s) at h))

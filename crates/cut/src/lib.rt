@@ -5,6 +5,7 @@ use by_glyph::pairs;
 use class_contexts::by_class;
 use covers::by_cover;
 use fold::cells;
+use marks::Marks;
 use pair_classes::class_pairs;
 use room::LIMIT;
 use room::Laid;
@@ -19,7 +20,7 @@ ghost use lib.ListN.{length};
 ghost use Rattle.meaning.specs.Maps.{mapEntries, glyphEntries};
 ghost use Rattle.meaning.specs.Tables.{context, pairTable, table};
 ghost use Rattle.meaning.specs.Cut.{cut};
-ghost use Rattle.meaning.specs.Subset.{limit, written};
+ghost use Rattle.meaning.specs.Subset.{limit, writtenIn};
 ghost use Rattle.room.specs.Laid.{outcomeOf};
 ghost use Rattle.tried.specs.Tries.{Tries};
 ghost use Rattle.cut.specs.Cutting.{SoundContext, SoundPairs, Sound, contextCells, pairCells, cellsFor, enoughBytes, byClasses, UnlessShort, NeverShort};
@@ -54,20 +55,20 @@ fn context_in(
     chained: bool,
     src: &[u8],
     glyphs: &[u8],
-    form: usize,
+    marks: Marks,
     lookups: &[u8],
     t: &mut [u32],
     area: &mut [u8],
     out: &mut [u8],
 ) -> Tried
-    requires { ⌜ SoundContext chained form (now src) (now glyphs) (now lookups) ⌝ }
-    ensures { λ r. ⌜ Tries (length (now (t .entry)) < contextCells (now (src .entry))) (length (now (area .entry)) < enoughBytes) r (now (out .entry)) (now (out .exit)) (written (now (out .entry)) (cut (glyphEntries form (now (glyphs .entry))) (mapEntries (now (lookups .entry))) (context chained (now (src .entry))))) ⌝ }
+    requires { ⌜ SoundContext chained (marks .form) (now src) (now glyphs) (now lookups) ⌝ }
+    ensures { λ r. ⌜ Tries (length (now (t .entry)) < contextCells (now (src .entry))) (length (now (area .entry)) < enoughBytes) r (now (out .entry)) (now (out .exit)) (writtenIn (marks .layout) (now (out .entry)) (cut (glyphEntries (marks .form) (now (glyphs .entry))) (mapEntries (now (lookups .entry))) (context chained (now (src .entry))))) ⌝ }
 {
     let format = word_at(src, 0);
     match format {
-        1 => contexts(chained, src, glyphs, form, lookups, t, area, out),
-        2 => by_class(chained, src, glyphs, form, lookups, t, area, out),
-        _ => by_cover(chained, src, glyphs, form, lookups, t, area, out),
+        1 => contexts(chained, src, glyphs, marks, lookups, t, area, out),
+        2 => by_class(chained, src, glyphs, marks, lookups, t, area, out),
+        _ => by_cover(chained, src, glyphs, marks, lookups, t, area, out),
     }
 }
 
@@ -75,166 +76,154 @@ fn context_in(
 fn pairs_in(
     src: &[u8],
     glyphs: &[u8],
-    form: usize,
+    marks: Marks,
     t: &mut [u32],
     area: &mut [u8],
     out: &mut [u8],
 ) -> Tried
-    requires { ⌜ SoundPairs form (now src) (now glyphs) ⌝ }
-    ensures { λ r. ⌜ Tries (length (now (t .entry)) < pairCells (now (src .entry))) (length (now (area .entry)) < enoughBytes) r (now (out .entry)) (now (out .exit)) (written (now (out .entry)) (cut (glyphEntries form (now (glyphs .entry))) [] (pairTable (now (src .entry))))) ⌝ }
+    requires { ⌜ SoundPairs (marks .form) (now src) (now glyphs) ⌝ }
+    ensures { λ r. ⌜ Tries (length (now (t .entry)) < pairCells (now (src .entry))) (length (now (area .entry)) < enoughBytes) r (now (out .entry)) (now (out .exit)) (writtenIn (marks .layout) (now (out .entry)) (cut (glyphEntries (marks .form) (now (glyphs .entry))) [] (pairTable (now (src .entry))))) ⌝ }
 {
     let format = word_at(src, 0);
     match format {
-        1 => pairs(src, glyphs, form, t, area, out),
-        _ => class_pairs(src, glyphs, form, t, area, out),
+        1 => pairs(src, glyphs, marks, t, area, out),
+        _ => class_pairs(src, glyphs, marks, t, area, out),
     }
 }
 
 // What is left of a sound source of this kind under a glyph map and a lookup map, handed over if there is room, with lent scratch whose content is arbitrary: 1 context, 2 chained, 3 ligature, 4 pair, and single substitution for any other.
 // Where the scratch is too short the buffer is untouched; with `CELLS` cells and `BYTES` bytes it never is.
 pub fn cut_in(
-    kind: usize,
+    marks: Marks,
     src: &[u8],
     glyphs: &[u8],
-    form: usize,
     lookups: &[u8],
     t: &mut [u32],
     area: &mut [u8],
     out: &mut [u8],
 ) -> Tried
-    requires { ⌜ Sound kind form (now src) (now glyphs) (now lookups) ⌝ }
-    ensures { λ r. ⌜ Tries (length (now (t .entry)) < cellsFor kind (now (src .entry))) (length (now (area .entry)) < enoughBytes) r (now (out .entry)) (now (out .exit)) (written (now (out .entry)) (cut (glyphEntries form (now (glyphs .entry))) (mapEntries (now (lookups .entry))) (table kind (now (src .entry))))) ⌝ }
+    requires { ⌜ Sound (marks .kind) (marks .form) (now src) (now glyphs) (now lookups) ⌝ }
+    ensures { λ r. ⌜ Tries (length (now (t .entry)) < cellsFor (marks .kind) (now (src .entry))) (length (now (area .entry)) < enoughBytes) r (now (out .entry)) (now (out .exit)) (writtenIn (marks .layout) (now (out .entry)) (cut (glyphEntries (marks .form) (now (glyphs .entry))) (mapEntries (now (lookups .entry))) (table (marks .kind) (now (src .entry))))) ⌝ }
 {
+    let kind = marks.kind;
     match kind {
-        1 => context_in(false, src, glyphs, form, lookups, t, area, out),
-        2 => context_in(true, src, glyphs, form, lookups, t, area, out),
-        3 => ligatures(src, glyphs, form, t, area, out),
-        4 => pairs_in(src, glyphs, form, t, area, out),
-        _ => singles(src, glyphs, form, t, area, out),
+        1 => context_in(false, src, glyphs, marks, lookups, t, area, out),
+        2 => context_in(true, src, glyphs, marks, lookups, t, area, out),
+        3 => ligatures(src, glyphs, marks, t, area, out),
+        4 => pairs_in(src, glyphs, marks, t, area, out),
+        _ => singles(src, glyphs, marks.form, t, area, out),
     }
 }
 
 // With little scratch, which is enough for most tables of a small font.
-fn in_little(
-    kind: usize,
-    src: &[u8],
-    glyphs: &[u8],
-    form: usize,
-    lookups: &[u8],
-    out: &mut [u8],
-) -> Tried
-    requires { ⌜ Sound kind form (now src) (now glyphs) (now lookups) ⌝ }
-    ensures { λ r. ⌜ UnlessShort r (now (out .entry)) (now (out .exit)) (written (now (out .entry)) (cut (glyphEntries form (now (glyphs .entry))) (mapEntries (now (lookups .entry))) (table kind (now (src .entry))))) ⌝ }
+fn in_little(marks: Marks, src: &[u8], glyphs: &[u8], lookups: &[u8], out: &mut [u8]) -> Tried
+    requires { ⌜ Sound (marks .kind) (marks .form) (now src) (now glyphs) (now lookups) ⌝ }
+    ensures { λ r. ⌜ UnlessShort r (now (out .entry)) (now (out .exit)) (writtenIn (marks .layout) (now (out .entry)) (cut (glyphEntries (marks .form) (now (glyphs .entry))) (mapEntries (now (lookups .entry))) (table (marks .kind) (now (src .entry))))) ⌝ }
 {
     let mut t = [0u32; LITTLE_CELLS];
     let mut area = [0u8; LITTLE_BYTES];
-    cut_in(kind, src, glyphs, form, lookups, &mut t, &mut area, out)
+    cut_in(marks, src, glyphs, lookups, &mut t, &mut area, out)
 }
 
 // The same with some scratch.
 // It calls itself, so that the compiler keeps its arrays out of its caller's frame: a small job would pay for them, and docs/SPEED.md says how much. How often it does, `rounds`, is 0 for a map of whole entries. The sizes after it do the same.
 fn in_some(
-    kind: usize,
+    marks: Marks,
     src: &[u8],
     glyphs: &[u8],
-    form: usize,
     lookups: &[u8],
     rounds: usize,
     out: &mut [u8],
 ) -> Tried
-    requires { ⌜ Sound kind form (now src) (now glyphs) (now lookups) ⌝ }
-    ensures { λ r. ⌜ UnlessShort r (now (out .entry)) (now (out .exit)) (written (now (out .entry)) (cut (glyphEntries form (now (glyphs .entry))) (mapEntries (now (lookups .entry))) (table kind (now (src .entry))))) ⌝ }
+    requires { ⌜ Sound (marks .kind) (marks .form) (now src) (now glyphs) (now lookups) ⌝ }
+    ensures { λ r. ⌜ UnlessShort r (now (out .entry)) (now (out .exit)) (writtenIn (marks .layout) (now (out .entry)) (cut (glyphEntries (marks .form) (now (glyphs .entry))) (mapEntries (now (lookups .entry))) (table (marks .kind) (now (src .entry))))) ⌝ }
 {
     if rounds != 0 {
-        return in_some(kind, src, glyphs, form, lookups, rounds - 1, out);
+        return in_some(marks, src, glyphs, lookups, rounds - 1, out);
     }
     let mut t = [0u32; SOME_CELLS];
     let mut area = [0u8; SOME_BYTES];
-    cut_in(kind, src, glyphs, form, lookups, &mut t, &mut area, out)
+    cut_in(marks, src, glyphs, lookups, &mut t, &mut area, out)
 }
 
 // The same with more scratch.
 fn in_more(
-    kind: usize,
+    marks: Marks,
     src: &[u8],
     glyphs: &[u8],
-    form: usize,
     lookups: &[u8],
     rounds: usize,
     out: &mut [u8],
 ) -> Tried
-    requires { ⌜ Sound kind form (now src) (now glyphs) (now lookups) ⌝ }
-    ensures { λ r. ⌜ UnlessShort r (now (out .entry)) (now (out .exit)) (written (now (out .entry)) (cut (glyphEntries form (now (glyphs .entry))) (mapEntries (now (lookups .entry))) (table kind (now (src .entry))))) ⌝ }
+    requires { ⌜ Sound (marks .kind) (marks .form) (now src) (now glyphs) (now lookups) ⌝ }
+    ensures { λ r. ⌜ UnlessShort r (now (out .entry)) (now (out .exit)) (writtenIn (marks .layout) (now (out .entry)) (cut (glyphEntries (marks .form) (now (glyphs .entry))) (mapEntries (now (lookups .entry))) (table (marks .kind) (now (src .entry))))) ⌝ }
 {
     if rounds != 0 {
-        return in_more(kind, src, glyphs, form, lookups, rounds - 1, out);
+        return in_more(marks, src, glyphs, lookups, rounds - 1, out);
     }
     let mut t = [0u32; MORE_CELLS];
     let mut area = [0u8; MORE_BYTES];
-    cut_in(kind, src, glyphs, form, lookups, &mut t, &mut area, out)
+    cut_in(marks, src, glyphs, lookups, &mut t, &mut area, out)
 }
 
 // The same with much scratch.
 fn in_much(
-    kind: usize,
+    marks: Marks,
     src: &[u8],
     glyphs: &[u8],
-    form: usize,
     lookups: &[u8],
     rounds: usize,
     out: &mut [u8],
 ) -> Tried
-    requires { ⌜ Sound kind form (now src) (now glyphs) (now lookups) ⌝ }
-    ensures { λ r. ⌜ UnlessShort r (now (out .entry)) (now (out .exit)) (written (now (out .entry)) (cut (glyphEntries form (now (glyphs .entry))) (mapEntries (now (lookups .entry))) (table kind (now (src .entry))))) ⌝ }
+    requires { ⌜ Sound (marks .kind) (marks .form) (now src) (now glyphs) (now lookups) ⌝ }
+    ensures { λ r. ⌜ UnlessShort r (now (out .entry)) (now (out .exit)) (writtenIn (marks .layout) (now (out .entry)) (cut (glyphEntries (marks .form) (now (glyphs .entry))) (mapEntries (now (lookups .entry))) (table (marks .kind) (now (src .entry))))) ⌝ }
 {
     if rounds != 0 {
-        return in_much(kind, src, glyphs, form, lookups, rounds - 1, out);
+        return in_much(marks, src, glyphs, lookups, rounds - 1, out);
     }
     let mut t = [0u32; MUCH_CELLS];
     let mut area = [0u8; MUCH_BYTES];
-    cut_in(kind, src, glyphs, form, lookups, &mut t, &mut area, out)
+    cut_in(marks, src, glyphs, lookups, &mut t, &mut area, out)
 }
 
 // The same with scratch that is enough for any source but one by classes.
 fn in_all_but_classes(
-    kind: usize,
+    marks: Marks,
     src: &[u8],
     glyphs: &[u8],
-    form: usize,
     lookups: &[u8],
     rounds: usize,
     out: &mut [u8],
 ) -> Tried
-    requires { ⌜ Sound kind form (now src) (now glyphs) (now lookups) × (byClasses kind (now src) ≡ false) ⌝ }
-    ensures { λ r. ⌜ NeverShort r (now (out .entry)) (now (out .exit)) (written (now (out .entry)) (cut (glyphEntries form (now (glyphs .entry))) (mapEntries (now (lookups .entry))) (table kind (now (src .entry))))) ⌝ }
+    requires { ⌜ Sound (marks .kind) (marks .form) (now src) (now glyphs) (now lookups) × (byClasses (marks .kind) (now src) ≡ false) ⌝ }
+    ensures { λ r. ⌜ NeverShort r (now (out .entry)) (now (out .exit)) (writtenIn (marks .layout) (now (out .entry)) (cut (glyphEntries (marks .form) (now (glyphs .entry))) (mapEntries (now (lookups .entry))) (table (marks .kind) (now (src .entry))))) ⌝ }
 {
     if rounds != 0 {
-        return in_all_but_classes(kind, src, glyphs, form, lookups, rounds - 1, out);
+        return in_all_but_classes(marks, src, glyphs, lookups, rounds - 1, out);
     }
     let mut t = [0u32; CELLS_BUT_CLASSES];
     let mut area = [0u8; BYTES];
-    cut_in(kind, src, glyphs, form, lookups, &mut t, &mut area, out)
+    cut_in(marks, src, glyphs, lookups, &mut t, &mut area, out)
 }
 
 // The same with scratch that is enough for any source.
 fn in_all(
-    kind: usize,
+    marks: Marks,
     src: &[u8],
     glyphs: &[u8],
-    form: usize,
     lookups: &[u8],
     rounds: usize,
     out: &mut [u8],
 ) -> Tried
-    requires { ⌜ Sound kind form (now src) (now glyphs) (now lookups) ⌝ }
-    ensures { λ r. ⌜ NeverShort r (now (out .entry)) (now (out .exit)) (written (now (out .entry)) (cut (glyphEntries form (now (glyphs .entry))) (mapEntries (now (lookups .entry))) (table kind (now (src .entry))))) ⌝ }
+    requires { ⌜ Sound (marks .kind) (marks .form) (now src) (now glyphs) (now lookups) ⌝ }
+    ensures { λ r. ⌜ NeverShort r (now (out .entry)) (now (out .exit)) (writtenIn (marks .layout) (now (out .entry)) (cut (glyphEntries (marks .form) (now (glyphs .entry))) (mapEntries (now (lookups .entry))) (table (marks .kind) (now (src .entry))))) ⌝ }
 {
     if rounds != 0 {
-        return in_all(kind, src, glyphs, form, lookups, rounds - 1, out);
+        return in_all(marks, src, glyphs, lookups, rounds - 1, out);
     }
     let mut t = [0u32; CELLS];
     let mut area = [0u8; BYTES];
-    cut_in(kind, src, glyphs, form, lookups, &mut t, &mut area, out)
+    cut_in(marks, src, glyphs, lookups, &mut t, &mut area, out)
 }
 
 // Whether a source of this kind is a context or a pair table by classes.
@@ -252,41 +241,33 @@ fn by_classes(kind: usize, src: &[u8]) -> bool
 }
 
 // With scratch that is enough for any source of this kind and format.
-fn in_most(
-    kind: usize,
-    src: &[u8],
-    glyphs: &[u8],
-    form: usize,
-    lookups: &[u8],
-    out: &mut [u8],
-) -> Tried
-    requires { ⌜ Sound kind form (now src) (now glyphs) (now lookups) ⌝ }
-    ensures { λ r. ⌜ NeverShort r (now (out .entry)) (now (out .exit)) (written (now (out .entry)) (cut (glyphEntries form (now (glyphs .entry))) (mapEntries (now (lookups .entry))) (table kind (now (src .entry))))) ⌝ }
+fn in_most(marks: Marks, src: &[u8], glyphs: &[u8], lookups: &[u8], out: &mut [u8]) -> Tried
+    requires { ⌜ Sound (marks .kind) (marks .form) (now src) (now glyphs) (now lookups) ⌝ }
+    ensures { λ r. ⌜ NeverShort r (now (out .entry)) (now (out .exit)) (writtenIn (marks .layout) (now (out .entry)) (cut (glyphEntries (marks .form) (now (glyphs .entry))) (mapEntries (now (lookups .entry))) (table (marks .kind) (now (src .entry))))) ⌝ }
 {
-    if by_classes(kind, src) {
-        return in_all(kind, src, glyphs, form, lookups, glyphs.len() % 2, out);
+    if by_classes(marks.kind, src) {
+        return in_all(marks, src, glyphs, lookups, glyphs.len() % 2, out);
     }
-    in_all_but_classes(kind, src, glyphs, form, lookups, glyphs.len() % 2, out)
+    in_all_but_classes(marks, src, glyphs, lookups, glyphs.len() % 2, out)
 }
 
 // With one of the sizes that are not enough for any source: 0 is little scratch, 1 some, 2 more, and any other much.
 fn in_size(
     size: usize,
-    kind: usize,
+    marks: Marks,
     src: &[u8],
     glyphs: &[u8],
-    form: usize,
     lookups: &[u8],
     out: &mut [u8],
 ) -> Tried
-    requires { ⌜ Sound kind form (now src) (now glyphs) (now lookups) ⌝ }
-    ensures { λ r. ⌜ UnlessShort r (now (out .entry)) (now (out .exit)) (written (now (out .entry)) (cut (glyphEntries form (now (glyphs .entry))) (mapEntries (now (lookups .entry))) (table kind (now (src .entry))))) ⌝ }
+    requires { ⌜ Sound (marks .kind) (marks .form) (now src) (now glyphs) (now lookups) ⌝ }
+    ensures { λ r. ⌜ UnlessShort r (now (out .entry)) (now (out .exit)) (writtenIn (marks .layout) (now (out .entry)) (cut (glyphEntries (marks .form) (now (glyphs .entry))) (mapEntries (now (lookups .entry))) (table (marks .kind) (now (src .entry))))) ⌝ }
 {
     match size {
-        0 => in_little(kind, src, glyphs, form, lookups, out),
-        1 => in_some(kind, src, glyphs, form, lookups, glyphs.len() % 2, out),
-        2 => in_more(kind, src, glyphs, form, lookups, glyphs.len() % 2, out),
-        _ => in_much(kind, src, glyphs, form, lookups, glyphs.len() % 2, out),
+        0 => in_little(marks, src, glyphs, lookups, out),
+        1 => in_some(marks, src, glyphs, lookups, glyphs.len() % 2, out),
+        2 => in_more(marks, src, glyphs, lookups, glyphs.len() % 2, out),
+        _ => in_much(marks, src, glyphs, lookups, glyphs.len() % 2, out),
     }
 }
 
@@ -372,25 +353,18 @@ fn likely_size(kind: usize, src: &[u8], glyphs: &[u8], form: usize, lookups: &[u
 }
 
 // What is left of a sound source of this kind, handed over if there is room, with scratch of our own: of the size that is likely to do, and the next one where that is too short.
-pub fn cut_own(
-    kind: usize,
-    src: &[u8],
-    glyphs: &[u8],
-    form: usize,
-    lookups: &[u8],
-    out: &mut [u8],
-) -> Laid
-    requires { ⌜ Sound kind form (now src) (now glyphs) (now lookups) ⌝ }
-    ensures { λ r. ⌜ outcomeOf r (now (out .exit)) ≡ written (now (out .entry)) (cut (glyphEntries form (now (glyphs .entry))) (mapEntries (now (lookups .entry))) (table kind (now (src .entry)))) ⌝ }
+pub fn cut_own(marks: Marks, src: &[u8], glyphs: &[u8], lookups: &[u8], out: &mut [u8]) -> Laid
+    requires { ⌜ Sound (marks .kind) (marks .form) (now src) (now glyphs) (now lookups) ⌝ }
+    ensures { λ r. ⌜ outcomeOf r (now (out .exit)) ≡ writtenIn (marks .layout) (now (out .entry)) (cut (glyphEntries (marks .form) (now (glyphs .entry))) (mapEntries (now (lookups .entry))) (table (marks .kind) (now (src .entry)))) ⌝ }
 {
-    let mut size = likely_size(kind, src, glyphs, form, lookups);
+    let mut size = likely_size(marks.kind, src, glyphs, marks.form, lookups);
     while size < 4 {
-        if let Tried::Became(laid) = in_size(size, kind, src, glyphs, form, lookups, out) {
+        if let Tried::Became(laid) = in_size(size, marks, src, glyphs, lookups, out) {
             return laid;
         }
         size += 1;
     }
-    let Tried::Became(laid) = in_most(kind, src, glyphs, form, lookups, out) else {
+    let Tried::Became(laid) = in_most(marks, src, glyphs, lookups, out) else {
         return Laid::Nothing;
     };
     laid
@@ -398,20 +372,19 @@ pub fn cut_own(
 
 // The same with lent scratch whose content is arbitrary, and with our own where that is too short.
 pub fn cut_lent(
-    kind: usize,
+    marks: Marks,
     src: &[u8],
     glyphs: &[u8],
-    form: usize,
     lookups: &[u8],
     t: &mut [u32],
     area: &mut [u8],
     out: &mut [u8],
 ) -> Laid
-    requires { ⌜ Sound kind form (now src) (now glyphs) (now lookups) ⌝ }
-    ensures { λ r. ⌜ outcomeOf r (now (out .exit)) ≡ written (now (out .entry)) (cut (glyphEntries form (now (glyphs .entry))) (mapEntries (now (lookups .entry))) (table kind (now (src .entry)))) ⌝ }
+    requires { ⌜ Sound (marks .kind) (marks .form) (now src) (now glyphs) (now lookups) ⌝ }
+    ensures { λ r. ⌜ outcomeOf r (now (out .exit)) ≡ writtenIn (marks .layout) (now (out .entry)) (cut (glyphEntries (marks .form) (now (glyphs .entry))) (mapEntries (now (lookups .entry))) (table (marks .kind) (now (src .entry)))) ⌝ }
 {
-    let Tried::Became(laid) = cut_in(kind, src, glyphs, form, lookups, t, area, out) else {
-        return cut_own(kind, src, glyphs, form, lookups, out);
+    let Tried::Became(laid) = cut_in(marks, src, glyphs, lookups, t, area, out) else {
+        return cut_own(marks, src, glyphs, lookups, out);
     };
     laid
 }

@@ -13,12 +13,12 @@ use Rattle.meaning.specs.Fault.{ruleFault, ligatureFault, setFault, enough, hea
 use Rattle.meaning.specs.Cut.{glyphsOf}
 use Rattle.laws.specs.Stands.{All}
 use Rattle.laws.specs.ReadsBack.{fault-is, fault-ligatures}
-use Rattle.laws.specs.SoundGood.{Bytes, part-sound, header-good}
+use Rattle.laws.specs.SoundGood.{Bytes, part-sound, header-good, word-small}
 use Rattle.coverage_index.specs.Index.{indexOf}
 use Rattle.differences.specs.Content.{Says, ruleSays, oneGlyph, ligatureSays, byIndex, Content, content}
 use Rattle.differences.specs.Entries.{sameSays, each, beside, ruleEntries, firstEntries, differences}
 use Rattle.differences.specs.Ranks.{each-ranks}
-use Rattle.first_glyphs.specs.First.{coverOf, soundCover, sound-cover, word-small, covered-below, bind-same, by-slot, index-glyphs, cover-words, index-below, atGlyph, first-ids}
+use Rattle.first_glyphs.specs.First.{coverOf, soundCover, sound-cover, covered-below, bind-same, by-slot, index-glyphs, cover-words, index-below, atGlyph, first-ids}
 use Rattle.rule_rows.specs.Rows.{sideOf, numberBy}
 use Rattle.rule_says.specs.Said.{numbered, ligatureBy, saysAt, baseOf, saysBy}
 use Rattle.set_numbers.specs.Sets.{codesOf, Told}
@@ -34,7 +34,7 @@ module _ (s : List ℕ) (bytes : Bytes s) where
   from-header sets h =
       let p = header-good s (enough s (word s 4)) 0 4 sets h in
       let c = sound-cover s (p .1) in
-      record { cover = c; enough = covered-below s (word s 4) c (p .0); few = word-small s 4 bytes }
+      record { cover = c; enough = covered-below s (word s 4) c (p .0); few = word-small s bytes 4 }
 
   from-context : (chained : Bool) → word s 0 ≡ 1 → contextFault chained s ≡ none → SlotTable s
   unfolding contextFault

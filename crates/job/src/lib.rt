@@ -1,6 +1,6 @@
 // The label job: a lent file whose last 30 bytes, the trailer, point back to a table, a glyph map and a lookup map.
+use marks::Marks;
 use subset::Answer;
-use subset::Marks;
 use subset::subset;
 use wire::word_at;
 ghost use mathlib.Core.Path.{_≡_};

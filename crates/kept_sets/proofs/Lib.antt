@@ -1,3 +1,4 @@
 pub mod Placing
+pub mod Settling
 pub mod Keeping
 pub mod Ending

@@ -72,13 +72,13 @@ abbrev pub leftIn : Sort → List ℕ → Maps → List ℕ → ℕ → Option (
 leftIn sort t m s at = setLeft sort (mapsIn t m) s at
 
 -- the words, and none where nothing is left
-unfoldable pub wordsIn : Option (List ℕ) → List ℕ
-wordsIn none = []
-wordsIn (some ws) = ws
+unfoldable pub leftWords : Option (List ℕ) → List ℕ
+leftWords none = []
+leftWords (some ws) = ws
 
 -- more than there is room for, where a set has none: what is left of it, the place for a count and at most 65,535 offsets, and the source
 unfoldable pub mostOf : Option (List ℕ) → List ℕ → ℕ
-mostOf o s = 2 * length (wordsIn o) + length s + 131072
+mostOf o s = 2 * length (leftWords o) + length s + 131072
 
 -- the cells of the maps lie before `at`
 pub record AllBefore (m : Maps) (at : ℕ) : Type 0 where
@@ -88,8 +88,8 @@ pub record AllBefore (m : Maps) (at : ℕ) : Type 0 where
   pub lookups : m .lookups .at + m .lookups .mask < at
 
 -- a set of members has the words of its members
-words-block : {A : Type 0} (f : A → List ℕ) (o : Option A) → wordsLeft f o ≡ wordsIn (block f o)
-unfolding wordsLeft wordsIn block
+words-block : {A : Type 0} (f : A → List ℕ) (o : Option A) → wordsLeft f o ≡ leftWords (block f o)
+unfolding wordsLeft leftWords block
 words-block f none = refl
 words-block f (some a) = refl
 
@@ -100,7 +100,7 @@ set-leaves f o s w = leaves-said w refl (omega (arith, ap length (words-block (s
 
 -- the place for a pair set's count and for one pair more is less than that
 pairs-most : (o : Option (List ℕ)) (places s : List ℕ) → length places ≤ 8 → pairsMost o places ≤ mostOf o s
-unfolding pairsMost mostOf wordsLeft wordsIn
+unfolding pairsMost mostOf wordsLeft leftWords
 pairs-most none places s h = omega arith
 pairs-most (some ws) places s h = omega arith
 

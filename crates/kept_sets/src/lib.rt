@@ -4,6 +4,10 @@ use area::put;
 use ligatures::write_ligatures;
 use pair_sets::Formats;
 use pair_sets::write_pairs;
+use repeats::again;
+use repeats::begin;
+use repeats::settle;
+use room::HIGHEST;
 use rule_sets::Maps;
 use rule_sets::write_rules;
 use wire::word_inside;
@@ -14,14 +18,30 @@ ghost use lib.ListN.{length};
 ghost use Rattle.meaning.specs.Subset.{limit};
 ghost use Rattle.numbers.specs.Leaves.{Leaves};
 ghost use Rattle.rule_sets.specs.Left.{AllInside, mapsIn};
+ghost use Rattle.repeats.specs.Book.{packs};
 ghost use Rattle.kept_sets.specs.Sorts.{setFaultOf, headerSize, leftIn, mostOf, Told};
-ghost use Rattle.kept_sets.specs.Kept.{Ready, WroteKept};
+ghost use Rattle.kept_sets.specs.Kept.{areaMost, Roomy, TurnInside, KeptSet, PlacedSet, Ready, WroteKept};
 
 // The sorts of sets: rules, plain or chained, ligatures, and pairs, which have value formats.
 pub enum Sort {
     Rules(bool),
     Ligatures,
     Pairs(Formats),
+}
+
+// Where the notes of the retained covered glyphs stand in the cells, how many there are, and the mark of the layout that is asked for.
+pub struct Notes {
+    pub at: usize,
+    pub count: usize,
+    pub packing: usize,
+}
+
+// Where a set comes from and goes to: its place in the source, that of its offset, where the first set stands, and the place after all sets so far.
+pub struct Turn {
+    pub at: usize,
+    pub slot: usize,
+    pub first: usize,
+    pub pos: usize,
 }
 
 // How many sets were kept, and the place after them; more than the length of the area, where there is no room.
@@ -62,21 +82,67 @@ fn write_set(
     }
 }
 
-// What is left of the sets that the `m` notes from `notes` on name by their coverage index, written after the place for the header and an offset for each note. A note stays, and its set's place is written as its offset, if something of the set is left. `told` is as above.
+// The set that was written behind the others, up to `q`, gets its place, or that of an earlier one that is equal, as its offset; the place after all sets. There is no room where an offset behind it would not fit a word.
+fn keep_set(area: &mut [u8], book: &mut [u32], turn: Turn, q: usize) -> usize
+    requires { ⌜ TurnInside (now area) (now book) turn × (turn .pos ≤ q) × (q ≤ length (now area)) ⌝ }
+    ensures { λ r. ⌜ KeptSet turn q (now (area .entry)) (now (book .entry)) (now (area .exit)) (now (book .exit)) r ⌝ }
+{
+    if HIGHEST < q - turn.pos {
+        return over(area);
+    }
+    let spot = settle(area, turn.first, turn.pos, q, turn.at, book);
+    if spot.at == 0 {
+        return over(area);
+    }
+    put(area, turn.slot, spot.at);
+    spot.end
+}
+
+// What is left of one set, behind the others, with its place as its offset; the answer is as that of `write_set`. A set of the book, which came from the same place of the source, is not cut again.
+fn place_set(
+    sort: Sort,
+    src: &[u8],
+    told: &mut [u8],
+    t: &[u32],
+    maps: Maps,
+    area: &mut [u8],
+    book: &mut [u32],
+    turn: Turn,
+) -> usize
+    requires { ⌜ (setFaultOf sort (now src) (turn .at) ≡ none) × (length (now src) ≤ limit) × AllInside (now t) maps × TurnInside (now area) (now book) turn × Told sort (mapsIn (now t) maps) (now src) (now told) ⌝ }
+    ensures { λ r. ⌜ PlacedSet (leftIn sort (now (t .entry)) maps (now (src .entry))) turn (now (area .entry)) (now (book .entry)) (now (area .exit)) (now (book .exit)) r × Told sort (mapsIn (now (t .entry)) maps) (now (src .entry)) (now (told .exit)) ⌝ }
+{
+    let before = again(book, turn.first, turn.at);
+    if before != 0 {
+        put(area, turn.slot, before);
+        return turn.pos;
+    }
+    let q = write_set(sort, src, turn.at, told, t, maps, area, turn.pos);
+    if q == 0 {
+        return 0;
+    }
+    if area.len() < q {
+        return q;
+    }
+    keep_set(area, book, turn, q)
+}
+
+// What is left of the sets that the notes name by their coverage index, written after the place for the header and an offset for each note. A note stays, and its set's place is written as its offset, if something of the set is left. `told` is as above. If there is room in `book` for the sets, then one that is equal to an earlier one is not written again.
 pub fn write_kept(
     sort: Sort,
     src: &[u8],
     told: &mut [u8],
     t: &mut [u32],
-    notes: usize,
-    m: usize,
+    notes: Notes,
     maps: Maps,
     area: &mut [u8],
+    book: &mut [u32],
 ) -> Sets
-    requires { ⌜ Ready sort (now src) (now t) maps notes m × Told sort (mapsIn (now t) maps) (now src) (now told) ⌝ }
-    ensures { λ r. ⌜ WroteKept sort (now (src .entry)) (now (t .entry)) maps notes m (now (area .entry)) (now (t .exit)) (now (area .exit)) r ⌝ }
+    requires { ⌜ Ready sort (now src) (now t) maps (notes .at) (notes .count) × Told sort (mapsIn (now t) maps) (now src) (now told) × (length (now area) ≤ areaMost) × Roomy (now book) ⌝ }
+    ensures { λ r. ⌜ WroteKept sort (now (src .entry)) (now (t .entry)) maps (notes .at) (notes .count) (packs (now (book .entry))) (now (area .entry)) (now (t .exit)) (now (area .exit)) r ⌝ }
 {
     let slots = header_size(sort);
+    let m = notes.count;
     let first = slots + 2 * m;
     if area.len() < first {
         return Sets {
@@ -84,23 +150,29 @@ pub fn write_kept(
             end: over(area),
         };
     }
+    begin(book);
     let mut k = 0;
     let mut p = first;
     let mut i = 0;
     while i < m {
-        let note = t[notes + i];
+        let note = t[notes.at + i];
         let at = word_inside(src, slots + 2 * (note as usize / 65536));
         i += 1;
         if at == 0 {
             continue;
         }
-        let q = write_set(sort, src, at, told, t, maps, area, p);
+        let turn = Turn {
+            at,
+            slot: slots + 2 * k,
+            first,
+            pos: p,
+        };
+        let q = place_set(sort, src, told, t, maps, area, book, turn);
         if area.len() < q {
             return Sets { count: 0, end: q };
         }
         if q != 0 {
-            put(area, slots + 2 * k, p);
-            t[notes + k] = note;
+            t[notes.at + k] = note;
             k += 1;
             p = q;
         }

@@ -3,26 +3,27 @@ use Prim.Native.Nat.{ℕ, _+_, _-_, _*_, _≤_}
 use mathlib.Core.Path.{_≡_, sym, ap, ap₂, _∙_}
 use mathlib.Core.Bool.{Bool}
 use mathlib.Core.Option.{Option, some}
-use mathlib.Core.List.{List, [], _∷_, _++_, append-assoc, append-nil}
+use mathlib.Core.List.{List, [], _∷_, _++_, append-assoc}
 use native.Mathlib.Omega.{arith}
 use lib.ListN.{length, length-append, length-map}
 use lib.Seq.{sets, length-sets}
 use Rattle.meaning.specs.Words.{words, flat}
-use Rattle.meaning.specs.Layout.{offsets, blocks, coverageWords, setsLayout}
+use Rattle.meaning.specs.Layout.{coverageWords}
 use Rattle.laws.specs.Stands.{flat-length, flat-append}
-use Rattle.laws.specs.Through.{offsets-length}
 use Rattle.laws.specs.Written.{Wrote, wrote-none, wrote-two, wrote-three, wrote-length}
 use Rattle.area.specs.Extends.{Extends, Tried, extends-keeps, wrote-extends}
 use Rattle.area.specs.Part.{part, part-append, news}
-use Rattle.area.specs.Closed.{members, lessened, lessBy, offsets-less, offsets-most}
+use Rattle.area.specs.Closed.{members, lessened, lessBy}
 use Rattle.area.proofs.Moved.{part-behind, less-flat}
 use Rattle.numbers.proofs.Fronts.{part-keeps, extends-part}
+use Rattle.repeats.specs.Shared.{offsetsIn, blocksIn}
 use Rattle.pair_sets.specs.declared.Formats.{Formats}
 use Rattle.kept_sets.specs.Sorts.{moreOf, headerSize}
 use Rattle.kept_sets.specs.Kept.{Placed}
 use Rattle.kept_sets.specs.declared.Sort.{Sort}
 use Rattle.kept_sets.specs.declared.Sort.the-variants.{Rules, Ligatures, Pairs}
-use Rattle.kept_table.specs.Table.{layoutOf, Finishes, Finished}
+use Rattle.kept_table.specs.Table.{setsIn, layoutOf, Finishes, Finished}
+use Rattle.kept_table.proofs.Lessening.{offsets-count, offsets-lower, offsets-least}
 
 -- the header of a sort that has no further words, and that of pairs
 module _ (sort : Sort) (cover k : ℕ) {a b : List ℕ} {r : ℕ} where
@@ -44,12 +45,12 @@ pub pairs-ten : {sort : Sort} {f : Formats} {n : ℕ} → sort ≡ Pairs f → h
 pairs-ten e h = rw e at h
 
 -- the words of a table by sets with a coverage, in order
-table-is : (more cov : List ℕ) (bs : List (Option (List ℕ))) {q k f : ℕ} → k ≡ length bs → f ≡ 6 + 2 * length more + 2 * k → q ≡ f + 2 * length (blocks bs)
-    → setsLayout 1 (some cov ∷ []) more bs ≡ (1 ∷ q ∷ (more ++ (k ∷ []))) ++ (offsets f bs ++ (blocks bs ++ cov))
-unfolding setsLayout offsets blocks
-table-is more cov bs {q} {k} {f} e g h =
+table-is : (packed : Bool) (more cov : List ℕ) (bs : List (Option (List ℕ))) {q k f : ℕ} → k ≡ length bs → f ≡ 6 + 2 * length more + 2 * k → q ≡ f + 2 * length (blocksIn packed bs)
+    → setsIn packed cov more bs ≡ (1 ∷ q ∷ (more ++ (k ∷ []))) ++ (offsetsIn packed f bs ++ (blocksIn packed bs ++ cov))
+unfolding setsIn
+table-is packed more cov bs {q} {k} {f} e g h =
     let start : 6 + 2 * length more + 2 * length bs ≡ f = omega (arith, e, g) in
-    rw (start, append-nil cov, ← h, ← e) (ap (λ (l : List ℕ). 1 ∷ q ∷ l) (sym (append-assoc more (k ∷ []) (offsets f bs ++ (blocks bs ++ cov)))))
+    rw (start, ← h, ← e) (ap (λ (l : List ℕ). 1 ∷ q ∷ l) (sym (append-assoc more (k ∷ []) (offsetsIn packed f bs ++ (blocksIn packed bs ++ cov)))))
 
 module _ {sort : Sort} {t : List ℕ} {notes k first p : ℕ} {a₀ : List ℕ} (a : Finishes sort t notes k first p a₀) {slots : ℕ} (s : slots ≡ headerSize sort) where
   -- the coverage of the kept glyphs
@@ -69,30 +70,30 @@ module _ {sort : Sort} {t : List ℕ} {notes k first p : ℕ} {a₀ : List ℕ} 
     same₁ : length a₁ ≡ length a₀
     same₁ = ap length less ∙ length-sets a₀ slots (flat (lessened gap (words a₀ slots k)))
 
-    module _ (bs : List (List ℕ)) (e : length bs ≡ k) (u : Placed (headerSize sort) first bs a₀ p) (room : r ≤ length a₀) where
+    module _ {packed : Bool} (bs : List (List ℕ)) (e : length bs ≡ k) (u : Placed packed (headerSize sort) first bs a₀ p) (room : r ≤ length a₀) where
       -- the offsets without the gap
       abbrev os : List ℕ
-      os = offsets (slots + 2 * k) (members bs)
+      os = offsetsIn packed (slots + 2 * k) (members bs)
 
       abbrev bl : List ℕ
-      bl = blocks (members bs)
+      bl = blocksIn packed (members bs)
 
-      many : length (offsets first (members bs)) ≡ k
-      many = offsets-length first (members bs) ∙ length-map bs (λ b. some b) ∙ e
+      many : length (offsetsIn packed first (members bs)) ≡ k
+      many = offsets-count packed first (members bs) ∙ length-map bs (λ b. some b) ∙ e
 
       wide : first ≡ slots + 2 * k + gap
       wide = omega (arith, a .behind, s)
 
       lower : a₁ ≡ sets a₀ slots (flat os)
       lower =
-          let reached : part a₀ slots (2 * length (offsets first (members bs))) ≡ flat (offsets first (members bs)) = ap (λ (n : ℕ). part a₀ slots (2 * n)) (many ∙ sym e) ∙ ap (λ (i : ℕ). part a₀ i (2 * length bs)) s ∙ u .reached in
-          let bytes : flat (lessened gap (words a₀ slots k)) ≡ flat (lessBy gap (offsets first (members bs))) =
-          ap (λ (n : ℕ). flat (lessened gap (words a₀ slots n))) (sym many) ∙ less-flat gap (offsets first (members bs)) a₀ slots (omega (arith, a .near, s)) reached (offsets-most gap first bs (omega (arith, wide))) in
-          let without : lessBy gap (offsets first (members bs)) ≡ os = ap (λ (n : ℕ). lessBy gap (offsets n (members bs))) wide ∙ offsets-less gap (slots + 2 * k) bs in
+          let reached : part a₀ slots (2 * length (offsetsIn packed first (members bs))) ≡ flat (offsetsIn packed first (members bs)) = ap (λ (n : ℕ). part a₀ slots (2 * n)) (many ∙ sym e) ∙ ap (λ (i : ℕ). part a₀ i (2 * length bs)) s ∙ u .reached in
+          let bytes : flat (lessened gap (words a₀ slots k)) ≡ flat (lessBy gap (offsetsIn packed first (members bs))) =
+          ap (λ (n : ℕ). flat (lessened gap (words a₀ slots n))) (sym many) ∙ less-flat gap (offsetsIn packed first (members bs)) a₀ slots (omega (arith, a .near, s)) reached (offsets-least packed gap first bs (omega (arith, wide))) in
+          let without : lessBy gap (offsetsIn packed first (members bs)) ≡ os = ap (λ (n : ℕ). lessBy gap (offsetsIn packed n (members bs))) wide ∙ offsets-lower packed gap (slots + 2 * k) bs in
           less ∙ ap (sets a₀ slots) (bytes ∙ ap flat without)
 
       long : length os ≡ k
-      long = offsets-length (slots + 2 * k) (members bs) ∙ length-map bs (λ b. some b) ∙ e
+      long = offsets-count packed (slots + 2 * k) (members bs) ∙ length-map bs (λ b. some b) ∙ e
 
       placed₁ : Extends a₀ slots os a₁ (slots + 2 * k)
       placed₁ =
@@ -136,11 +137,11 @@ module _ {sort : Sort} {t : List ℕ} {notes k first p : ℕ} {a₀ : List ℕ} 
           ap (part a₃ first) n ∙ part-append a₃ first (2 * length bl) (2 * length cov)
           ∙ ap₂ (λ (x y : List ℕ). x ++ y) sets-part (ap (λ (i : ℕ). part a₃ i (2 * length cov)) (sym (u .place)) ∙ cover-part) ∙ sym (flat-append bl cov)
 
-      whole : part a₃ 0 (headerSize sort + 2 * k) ++ part a₃ first (r - first) ≡ flat (layoutOf sort (news t notes k) bs)
+      whole : part a₃ 0 (headerSize sort + 2 * k) ++ part a₃ first (r - first) ≡ flat (layoutOf packed sort (news t notes k) bs)
       whole =
           ap (λ (i : ℕ). part a₃ 0 (i + 2 * k) ++ part a₃ first (r - first)) (sym s)
           ∙ ap₂ (λ (x y : List ℕ). x ++ y) head-is rest-is ∙ sym (flat-append (head ++ os) (bl ++ cov))
-          ∙ ap flat (append-assoc head os (bl ++ cov) ∙ sym (table-is (moreOf sort) cov (members bs) (sym (length-map bs (λ b. some b) ∙ e)) (omega (arith, s)) (omega (arith, u .place, wide))))
+          ∙ ap flat (append-assoc head os (bl ++ cov) ∙ sym (table-is packed (moreOf sort) cov (members bs) (sym (length-map bs (λ b. some b) ∙ e)) (omega (arith, s)) (omega (arith, u .place, wide))))
 
     pub finish-table : Finished sort t notes k first p a₀ a₃ r
     finish-table = record {

@@ -10,26 +10,28 @@ use lib.Dec.{leb, ltb}
 use borrow.Author.Tests.{leb-true, leb-false, lt-ltb, le-ltb}
 use Rattle.meaning.specs.Words.{flat}
 use Rattle.meaning.specs.Cut.{glyphsOf}
-use Rattle.meaning.specs.Layout.{offsets, blocks, coverageWords, setsLayout}
+use Rattle.meaning.specs.Layout.{coverageWords}
 use Rattle.meaning.specs.Subset.{Outcome, refused, limit}
 use Rattle.room.specs.Laid.{laidAs}
 use Rattle.tried.specs.declared.Tried.{Tried}
 use Rattle.area.specs.Part.{part, news}
 use Rattle.area.specs.Closed.{members}
 use Rattle.rule_sets.specs.declared.Maps.{Maps}
-use Rattle.kept_sets.specs.Sorts.{moreOf, headerSize, wordsIn}
-use Rattle.kept_sets.specs.Kept.{wordsOf, Ready, Done, WroteKept, keptIn}
+use Rattle.repeats.specs.Shared.{offsetsIn, blocksIn}
+use Rattle.kept_sets.specs.Sorts.{moreOf, headerSize, leftWords}
+use Rattle.kept_sets.specs.Kept.{areaMost, wordsOf, Ready, Done, WroteKept, keptIn}
 use Rattle.kept_sets.specs.declared.Sort.{Sort}
 use Rattle.kept_sets.specs.declared.Sets.{Sets}
-use Rattle.kept_table.specs.Table.{areaMost, layoutOf, tableOf, Finishes, Finished}
+use Rattle.kept_table.specs.Table.{setsIn, layoutOf, tableOf, Finishes, Finished}
 use Rattle.kept_table.specs.Answers.{laidWords, NoRoom, Answered, words-over, words-unfit}
+use Rattle.kept_table.proofs.Lessening.{none-blocks}
 
 -- the sets and the coverage are part of their table
-table-most : (more cov : List ℕ) (bs : List (Option (List ℕ))) → length (blocks bs) + length cov ≤ length (setsLayout 1 (some cov ∷ []) more bs)
-unfolding setsLayout offsets blocks
-table-most more cov bs =
+table-most : (packed : Bool) (more cov : List ℕ) (bs : List (Option (List ℕ))) → length (blocksIn packed bs) + length cov ≤ length (setsIn packed cov more bs)
+unfolding setsIn
+table-most packed more cov bs =
     let first = 6 + 2 * length more + 2 * length bs in
-    omega (arith, length-append more (length bs ∷ (offsets first bs ++ (blocks bs ++ (cov ++ [])))), length-append (offsets first bs) (blocks bs ++ (cov ++ [])), length-append (blocks bs) (cov ++ []), length-append cov [])
+    omega (arith, length-append more (length bs ∷ (offsetsIn packed first bs ++ (blocksIn packed bs ++ cov))), length-append (offsetsIn packed first bs) (blocksIn packed bs ++ cov), length-append (blocksIn packed bs) cov)
 
 -- at most the highest number of a word
 pub at-most : (n : ℕ) → leb n 65535 ≡ ltb n 65536
@@ -40,30 +42,30 @@ at-most n = step (leb n 65535) refl
     step false e = sym (le-ltb n 65536 (omega (arith, leb-false n 65535 e)))
 
 -- the second word of a table is the coverage's offset
-pub cover-word : (more cov : List ℕ) (bs : List (Option (List ℕ))) → getD (setsLayout 1 (some cov ∷ []) more bs) 1 0 ≡ 6 + 2 * length more + 2 * length bs + 2 * length (blocks bs)
-unfolding setsLayout offsets
-cover-word more cov bs = omega arith
+cover-word : (packed : Bool) (more cov : List ℕ) (bs : List (Option (List ℕ))) → getD (setsIn packed cov more bs) 1 0 ≡ 6 + 2 * length more + 2 * length bs + 2 * length (blocksIn packed bs)
+unfolding setsIn
+cover-word packed more cov bs = refl
 
-module _ (sort : Sort) where
+module _ (packed : Bool) (sort : Sort) where
   -- of no sets there is no table
-  table-none : (ks : List (ℕ × List ℕ)) → length ks ≡ 0 → tableOf sort ks ≡ none
+  table-none : (ks : List (ℕ × List ℕ)) → length ks ≡ 0 → tableOf packed sort ks ≡ none
   unfolding tableOf
   table-none [] e = refl
   table-none (k ∷ ks) e = absurd (omega arith)
 
-  table-some : (ks : List (ℕ × List ℕ)) → (length ks ≡ 0 → ⊥) → tableOf sort ks ≡ some (layoutOf sort (glyphsOf ks) (wordsOf ks))
+  table-some : (ks : List (ℕ × List ℕ)) → (length ks ≡ 0 → ⊥) → tableOf packed sort ks ≡ some (layoutOf packed sort (glyphsOf ks) (wordsOf ks))
   unfolding tableOf
   table-some [] z = absurd (z refl)
   table-some (k ∷ ks) z = refl
 
-  -- the sets stand before the coverage
-  table-sets : (ks : List (ℕ × List ℕ)) → 2 * length (blocks (members (wordsOf ks))) ≤ getD (wordsIn (tableOf sort ks)) 1 0
-  unfolding tableOf wordsIn blocks
-  table-sets [] = omega arith
-  table-sets (k ∷ ks) = omega (arith, cover-word (moreOf sort) (coverageWords (glyphsOf (k ∷ ks))) (members (wordsOf (k ∷ ks))))
+  -- the sets stand before the coverage, behind the header and an offset
+  table-sets : (ks : List (ℕ × List ℕ)) → 65528 ≤ 2 * length (blocksIn packed (members (wordsOf ks))) → 65536 ≤ getD (leftWords (tableOf packed sort ks)) 1 0
+  unfolding tableOf leftWords
+  table-sets [] h = absurd (omega (arith, ap length (none-blocks packed)))
+  table-sets (k ∷ ks) h = omega (arith, cover-word packed (moreOf sort) (coverageWords (glyphsOf (k ∷ ks))) (members (wordsOf (k ∷ ks))))
 
-words-some : (ws : List ℕ) → wordsIn (some ws) ≡ ws
-unfolding wordsIn
+words-some : (ws : List ℕ) → leftWords (some ws) ≡ ws
+unfolding leftWords
 words-some ws = refl
 
 laid-some : (out ws : List ℕ) → laidWords out (some ws) ≡ laidAs (ltb (getD ws 1 0) 65536) out (flat ws)
@@ -79,22 +81,21 @@ laid-none out e = rw e refl
 pub answered-short : {a b : ℕ} {r : Tried} {out : List ℕ} {words : Option (List ℕ)} → NoRoom b r → b ≡ a → (areaMost ≤ a → refused out 9 ≡ laidWords out words) → Answered (⊥) out words a r out
 answered-short h e o = record { answer = (rw e at h) .refuses o }
 
-module _ {sort : Sort} {s t₀ : List ℕ} {maps : Maps} {at m : ℕ} {area₀ t area : List ℕ} {r : Sets} (a : Ready sort s t₀ maps at m) (w : WroteKept sort s t₀ maps at m area₀ t area r) where
+module _ {sort : Sort} {s t₀ : List ℕ} {maps : Maps} {at m : ℕ} {packed : Bool} {area₀ t area : List ℕ} {r : Sets} (a : Ready sort s t₀ maps at m) (w : WroteKept sort s t₀ maps at m packed area₀ t area r) where
   abbrev kept : List (ℕ × List ℕ)
   kept = keptIn sort s t₀ maps at m
 
   -- there is no room for the sets
-  pub short-sets : (out : List ℕ) → length area < r .end → areaMost ≤ length area₀ → refused out 9 ≡ laidWords out (tableOf sort kept)
-  unfolding limit
-  short-sets out l = words-unfit out (tableOf sort kept) (omega (arith, w .full (omega (arith, w .same)), a .short, table-sets sort kept))
+  pub short-sets : (out : List ℕ) → length area < r .end → areaMost ≤ length area₀ → refused out 9 ≡ laidWords out (tableOf packed sort kept)
+  short-sets out l b = words-unfit out (tableOf packed sort kept) (table-sets packed sort kept (w .full (omega (arith, w .same)) b))
 
   module _ (l : r .end ≤ length area) where
-    done : Done sort s t₀ maps at m t area (r .count) (r .end)
+    done : Done sort s t₀ maps at m packed t area (r .count) (r .end)
     done = w .done (omega (arith, w .same))
 
     -- none is kept
-    pub none-kept : r .count ≡ 0 → tableOf sort kept ≡ none
-    none-kept z = table-none sort kept (done .count ∙ z)
+    pub none-kept : r .count ≡ 0 → tableOf packed sort kept ≡ none
+    none-kept z = table-none packed sort kept (done .count ∙ z)
 
     module _ (z : r .count ≡ 0 → ⊥) {first : ℕ} (e : first ≡ headerSize sort + 2 * m) where
       -- the table can be put together
@@ -111,24 +112,24 @@ module _ {sort : Sort} {s t₀ : List ℕ} {maps : Maps} {at m : ℕ} {area₀ t
       }
 
       module _ {after : List ℕ} {end : ℕ} (f : Finished sort t at (r .count) first (r .end) area after end) where
-        table-is-some : tableOf sort kept ≡ some (layoutOf sort (glyphsOf kept) (wordsOf kept))
-        table-is-some = table-some sort kept (λ n. z (sym (done .count) ∙ n))
+        table-is-some : tableOf packed sort kept ≡ some (layoutOf packed sort (glyphsOf kept) (wordsOf kept))
+        table-is-some = table-some packed sort kept (λ n. z (sym (done .count) ∙ n))
 
         -- there is no room for the coverage
-        pub short-table : (out : List ℕ) → length after < end → areaMost ≤ length area₀ → refused out 9 ≡ laidWords out (tableOf sort kept)
+        pub short-table : (out : List ℕ) → length after < end → areaMost ≤ length area₀ → refused out 9 ≡ laidWords out (tableOf packed sort kept)
         short-table out k =
             let c : length (coverageWords (news t at (r .count))) ≡ length (coverageWords (glyphsOf kept)) = ap (λ (g : List ℕ). length (coverageWords g)) (done .glyphs) in
-            let n : length (wordsIn (tableOf sort kept)) ≡ length (layoutOf sort (glyphsOf kept) (wordsOf kept)) = ap (λ (o : Option (List ℕ)). length (wordsIn o)) table-is-some ∙ ap length (words-some (layoutOf sort (glyphsOf kept) (wordsOf kept))) in
-            words-over out (tableOf sort kept) (a .short) (omega (arith, f .full (omega (arith, f .same)), w .same, done .placed .place, a .few, c, n, table-most (moreOf sort) (coverageWords (glyphsOf kept)) (members (wordsOf kept))))
+            let n : length (leftWords (tableOf packed sort kept)) ≡ length (layoutOf packed sort (glyphsOf kept) (wordsOf kept)) = ap (λ (o : Option (List ℕ)). length (leftWords o)) table-is-some ∙ ap length (words-some (layoutOf packed sort (glyphsOf kept) (wordsOf kept))) in
+            words-over out (tableOf packed sort kept) (a .short) (omega (arith, f .full (omega (arith, f .same)), w .same, done .placed .place, a .few, c, n, table-most packed (moreOf sort) (coverageWords (glyphsOf kept)) (members (wordsOf kept))))
 
         -- what is handed over is the table
         pub table-laid : end ≤ length after → {head : ℕ} → head ≡ headerSize sort + 2 * r .count → {fits : Bool} → fits ≡ ltb (r .end - (first - head)) 65536
-            → (out₀ : List ℕ) {o : Outcome} → o ≡ laidAs fits out₀ (part after 0 head ++ part after first (end - first)) → o ≡ laidWords out₀ (tableOf sort kept)
+            → (out₀ : List ℕ) {o : Outcome} → o ≡ laidAs fits out₀ (part after 0 head ++ part after first (end - first)) → o ≡ laidWords out₀ (tableOf packed sort kept)
         table-laid k {head} u {fits} q out₀ h =
             let p = rw (← e) at (done .placed) in
             let v = f .table (wordsOf kept) (length-map kept (λ x. x .1) ∙ done .count) p (omega (arith, f .same)) in
             let many : length (members (wordsOf kept)) ≡ r .count = length-map (wordsOf kept) (λ b. some b) ∙ length-map kept (λ x. x .1) ∙ done .count in
-            let second : r .end - (first - head) ≡ getD (layoutOf sort (glyphsOf kept) (wordsOf kept)) 1 0 = omega (arith, cover-word (moreOf sort) (coverageWords (glyphsOf kept)) (members (wordsOf kept)), many, done .placed .place, done .few, e, u) in
-            let test : fits ≡ ltb (getD (layoutOf sort (glyphsOf kept) (wordsOf kept)) 1 0) 65536 = q ∙ ap (λ (n : ℕ). ltb n 65536) second in
-            h ∙ ap (λ (i : ℕ). laidAs fits out₀ (part after 0 i ++ part after first (end - first))) u ∙ ap (laidAs fits out₀) (v ∙ ap (λ (g : List ℕ). flat (layoutOf sort g (wordsOf kept))) (done .glyphs))
-            ∙ ap (λ (t : Bool). laidAs t out₀ (flat (layoutOf sort (glyphsOf kept) (wordsOf kept)))) test ∙ sym (laid-some out₀ (layoutOf sort (glyphsOf kept) (wordsOf kept))) ∙ ap (laidWords out₀) (sym table-is-some)
+            let second : r .end - (first - head) ≡ getD (layoutOf packed sort (glyphsOf kept) (wordsOf kept)) 1 0 = omega (arith, cover-word packed (moreOf sort) (coverageWords (glyphsOf kept)) (members (wordsOf kept)), many, done .placed .place, done .few, e, u) in
+            let test : fits ≡ ltb (getD (layoutOf packed sort (glyphsOf kept) (wordsOf kept)) 1 0) 65536 = q ∙ ap (λ (n : ℕ). ltb n 65536) second in
+            h ∙ ap (λ (i : ℕ). laidAs fits out₀ (part after 0 i ++ part after first (end - first))) u ∙ ap (laidAs fits out₀) (v ∙ ap (λ (g : List ℕ). flat (layoutOf packed sort g (wordsOf kept))) (done .glyphs))
+            ∙ ap (λ (t : Bool). laidAs t out₀ (flat (layoutOf packed sort (glyphsOf kept) (wordsOf kept)))) test ∙ sym (laid-some out₀ (layoutOf packed sort (glyphsOf kept) (wordsOf kept))) ∙ ap (laidWords out₀) (sym table-is-some)

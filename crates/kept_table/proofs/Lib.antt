@@ -1,2 +1,4 @@
+pub mod Lessening
+pub mod Booking
 pub mod Finishing
 pub mod Joining

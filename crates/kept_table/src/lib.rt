@@ -4,34 +4,32 @@ use area::lessen;
 use area::put_three;
 use area::put_two;
 use area::write_cover;
+use kept_sets::Notes;
+use kept_sets::Sets;
 use kept_sets::Sort;
 use kept_sets::header_size;
 use kept_sets::write_kept;
+use repeats::BOOK;
 use room::HIGHEST;
 use room::LIMIT;
 use room::Laid;
 use rule_sets::Maps;
 use tried::Tried;
+ghost use mathlib.Core.Bool.{true};
 ghost use mathlib.Core.List.{[], _∷_, _++_};
 ghost use mathlib.Core.Path.{_≡_};
 ghost use Prim.Native.Nat.{_-_, _≤_};
 ghost use lib.ListN.{length};
-ghost use lib.Dec.{ltb};
+ghost use lib.Dec.{eqb, ltb};
 ghost use Rattle.laws.specs.Written.{Wrote};
 ghost use Rattle.rule_sets.specs.Left.{mapsIn};
 ghost use Rattle.kept_sets.specs.Sorts.{moreOf, headerSize, Told};
-ghost use Rattle.kept_sets.specs.Kept.{Ready, keptIn};
-ghost use Rattle.kept_table.specs.Table.{areaMost, Finishes, Finished, tableOf};
+ghost use Rattle.kept_sets.specs.Kept.{areaMost, Ready, WroteKept, keptIn};
+ghost use Rattle.kept_table.specs.Table.{Finishes, Finished, tableOf};
 ghost use Rattle.kept_table.specs.Answers.{NoRoom, Answered};
 
 // The bytes of an area that are enough for any source: five halves of the limit. No more are used.
 pub const AREA: usize = 5 * LIMIT / 2;
-
-// Where the notes of the retained covered glyphs stand in the cells, and how many there are.
-pub struct Notes {
-    pub at: usize,
-    pub count: usize,
-}
 
 // The words before the offsets of the sets; the place after them.
 fn write_header(sort: Sort, area: &mut [u8], cover: usize, k: usize) -> usize
@@ -87,6 +85,48 @@ fn no_room(area: &[u8]) -> Tried
     Tried::Became(Laid::TooBig)
 }
 
+// What is left of the noted sets, none written twice, with a book of them.
+// It calls itself, so that the compiler keeps the book out of its caller's frame: a call for the plain layout would pay for it. How often it does, `rounds`, is 0 for fewer notes than there are glyphs.
+fn write_packed(
+    sort: Sort,
+    src: &[u8],
+    told: &mut [u8],
+    t: &mut [u32],
+    notes: Notes,
+    maps: Maps,
+    rounds: usize,
+    area: &mut [u8],
+) -> Sets
+    requires { ⌜ Ready sort (now src) (now t) maps (notes .at) (notes .count) × (length (now area) ≤ areaMost) × Told sort (mapsIn (now t) maps) (now src) (now told) ⌝ }
+    ensures { λ r. ⌜ WroteKept sort (now (src .entry)) (now (t .entry)) maps (notes .at) (notes .count) true (now (area .entry)) (now (t .exit)) (now (area .exit)) r ⌝ }
+{
+    if rounds != 0 {
+        return write_packed(sort, src, told, t, notes, maps, rounds - 1, area);
+    }
+    let mut book = [0u32; BOOK];
+    write_kept(sort, src, told, t, notes, maps, area, &mut book)
+}
+
+// What is left of the sets of a table, in the layout that is asked for: where it is the packed one, there is a book of them.
+fn write_sets(
+    sort: Sort,
+    src: &[u8],
+    told: &mut [u8],
+    t: &mut [u32],
+    notes: Notes,
+    maps: Maps,
+    area: &mut [u8],
+) -> Sets
+    requires { ⌜ Ready sort (now src) (now t) maps (notes .at) (notes .count) × (length (now area) ≤ areaMost) × Told sort (mapsIn (now t) maps) (now src) (now told) ⌝ }
+    ensures { λ r. ⌜ WroteKept sort (now (src .entry)) (now (t .entry)) maps (notes .at) (notes .count) (eqb (notes .packing) 1) (now (area .entry)) (now (t .exit)) (now (area .exit)) r ⌝ }
+{
+    if notes.packing == 1 {
+        return write_packed(sort, src, told, t, notes, maps, notes.count / 65536, area);
+    }
+    let mut no_book = [0u32; 1];
+    write_kept(sort, src, told, t, notes, maps, area, &mut no_book)
+}
+
 // What is left of a table, whose retained covered glyphs are noted, laid into the buffer if it is not too big and the buffer is not shorter. `told` says where the fields that stay stand in a pair record; for other sorts it has marks at the places of members that are known to go.
 pub fn write_table(
     sort: Sort,
@@ -99,10 +139,10 @@ pub fn write_table(
     out: &mut [u8],
 ) -> Tried
     requires { ⌜ Ready sort (now src) (now t) maps (notes .at) (notes .count) × (length (now area) ≤ areaMost) × Told sort (mapsIn (now t) maps) (now src) (now told) ⌝ }
-    ensures { λ r. ⌜ Answered ⊥ (now (out .entry)) (tableOf sort (keptIn sort (now (src .entry)) (now (t .entry)) maps (notes .at) (notes .count))) (length (now (area .entry))) r (now (out .exit)) ⌝ }
+    ensures { λ r. ⌜ Answered ⊥ (now (out .entry)) (tableOf (eqb (notes .packing) 1) sort (keptIn sort (now (src .entry)) (now (t .entry)) maps (notes .at) (notes .count))) (length (now (area .entry))) r (now (out .exit)) ⌝ }
 {
     let m = notes.count;
-    let sets = write_kept(sort, src, told, t, notes.at, m, maps, area);
+    let sets = write_sets(sort, src, told, t, notes, maps, area);
     let p = sets.end;
     let k = sets.count;
     if area.len() < p {

@@ -139,14 +139,14 @@ blocks-fit f [] h = tt
 blocks-fit f (none ∷ xs) h = blocks-fit f xs (h .1)
 blocks-fit f (some a ∷ xs) h = all-append Word (f a) (blocks (map (block f) xs)) (h .0) (blocks-fit f xs (h .1))
 
-covers-words : (xs : List (Option (List ℕ))) → All (Opt Glyphs) xs → All Word (blocks (map (block coverageWords) xs))
+pub covers-words : (xs : List (Option (List ℕ))) → All (Opt Glyphs) xs → All Word (blocks (map (block coverageWords) xs))
 covers-words xs g = blocks-fit coverageWords xs (all-opt Glyphs (λ gs. All Word (coverageWords gs)) coverage-fits xs g)
 
 -- class tables that are not too long
 abbrev pub Short : List (ℕ × ℕ) → Type 0
 Short es = length (classWords es) ≤ 65538
 
-tables-words : (cs : List (Option (List (ℕ × ℕ)))) → All (Opt Classes) cs → All (Opt Short) cs → All Word (blocks (map (block classWords) cs))
+pub tables-words : (cs : List (Option (List (ℕ × ℕ)))) → All (Opt Classes) cs → All (Opt Short) cs → All Word (blocks (map (block classWords) cs))
 unfolding blocks block
 tables-words [] k l = tt
 tables-words (none ∷ cs) k l = tables-words cs (k .1) (l .1)

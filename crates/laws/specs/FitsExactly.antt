@@ -28,10 +28,10 @@ fits-exactly ws false f k = step (wordsFit ws) refl
     step true e = sym (f (fit-words ws e))
     step false e = refl
 
-and-true : (a b : Bool) → a ≡ true → b ≡ true → a && b ≡ true
+pub and-true : (a b : Bool) → a ≡ true → b ≡ true → a && b ≡ true
 and-true a b p q = rw (p, q)
 
-and-one : (a : Bool) → a && true ≡ a
+pub and-one : (a : Bool) → a && true ≡ a
 and-one true = refl
 and-one false = refl
 
@@ -41,7 +41,7 @@ shortTables [] = true
 shortTables (none ∷ cs) = shortTables cs
 shortTables (some es ∷ cs) = leb (length (classWords es)) 65538 && shortTables cs
 
-short-tables : (cs : List (Option (List (ℕ × ℕ)))) → shortTables cs ≡ true → All (Opt Short) cs
+pub short-tables : (cs : List (Option (List (ℕ × ℕ)))) → shortTables cs ≡ true → All (Opt Short) cs
 unfolding shortTables
 short-tables [] h = tt
 short-tables (none ∷ cs) h = (tt, short-tables cs h)
@@ -49,7 +49,7 @@ short-tables (some es ∷ cs) h =
     let q = both (leb (length (classWords es)) 65538) (shortTables cs) h in
     (leb-true (length (classWords es)) 65538 (q .0), short-tables cs (q .1))
 
-tables-short : (cs : List (Option (List (ℕ × ℕ)))) → All (Opt Classes) cs → All Word (blocks (map (block classWords) cs)) → shortTables cs ≡ true
+pub tables-short : (cs : List (Option (List (ℕ × ℕ)))) → All (Opt Classes) cs → All Word (blocks (map (block classWords) cs)) → shortTables cs ≡ true
 unfolding shortTables blocks block
 tables-short [] k h = refl
 tables-short (none ∷ cs) k h = tables-short cs (k .1) h
@@ -231,7 +231,7 @@ one-offset : (q : ℕ) (b : List ℕ) → wordsFit (offsets q (some b ∷ [])) �
 unfolding offsets wordsFit every
 one-offset q b = and-one (ltb q 65536)
 
-no-tables : shortTables [] ≡ true
+pub no-tables : shortTables [] ≡ true
 unfolding shortTables
 no-tables = refl
 

@@ -1,12 +1,15 @@
--- The bounds that request 13 sets, each by what is short to compute. The crate `limits` has layouts, sources and jobs of the full sizes.
+-- The bounds that request 13 sets, each by what is short to compute, and what they measure where the packed layout is asked for. The crate `limits` has layouts, sources and jobs of the full sizes.
 use Prim.Native.Nat.{ℕ, _+_, _*_}
 use mathlib.Core.Path.{_≡_, refl}
 use mathlib.Core.Bool.{true, false}
-use mathlib.Core.List.{List, [], _∷_}
+use mathlib.Core.Option.{some}
+use mathlib.Core.List.{List, [], _∷_, map}
 use lib.ListN.{length, take, replicate}
 use lib.Dec.{leb}
 use Rattle.meaning.specs.Layout.{runs, spread, classWords}
-use Rattle.meaning.specs.Subset.{limit, refused, tooBig, laidInto, subset}
+use Rattle.meaning.specs.Words.{upFrom}
+use Rattle.meaning.specs.Tables.{Table}
+use Rattle.meaning.specs.Subset.{limit, refused, tooBig, laidInto, writtenIn, subset}
 
 -- the most bytes of a source and of a layout
 pub limit-is : limit ≡ 262144
@@ -33,3 +36,12 @@ pub smaller-form-first : (g c : ℕ) (r : List (ℕ × ℕ)) → leb (6 + 2 * le
     → take 3 (classWords ((g, c) ∷ r)) ≡ 1 ∷ g ∷ length (spread g ((g, c) ∷ r)) ∷ []
 unfolding classWords
 smaller-form-first g c r h = rw h
+
+-- 9 and 10 measure the layout that is asked for: 128 equal coverages of 253 even glyphs each. In the plain layout the last offset would be 65,536 (`last-offset-past` in `limits`); packed there is one coverage, and 1,276 bytes are needed.
+unfoldable pub repeats : Table
+unfolding upFrom
+repeats = Table.by-cover false [] (replicate 128 (some (map (λ i. 2 * i) (upFrom 0 253)))) [] (replicate 126 (0, 1))
+
+pub packed-is-measured : (writtenIn 1 [] (some repeats) .number ≡ 10) × (writtenIn 1 [] (some repeats) .len ≡ 1276)
+unfolding repeats subset
+packed-is-measured = (refl, refl)

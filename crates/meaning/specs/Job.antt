@@ -2,11 +2,12 @@
 use Prim.Native.Nat.{ℕ, zero, suc, _+_, _-_, _*_, _/_, _%_}
 use Prim.Native.Char.{code}
 use Prim.Native.String.{String, [] as end, _∷_ as _then_}
-use mathlib.Core.Bool.{Bool, true, false, cond, _&&_, _||_, not}
+use mathlib.Core.Bool.{Bool, cond, _&&_, _||_, not}
 use mathlib.Core.List.{List, [], _∷_, _++_}
 use lib.ListN.{length, take, drop, replicate}
 use lib.Dec.{leb, ltb, eqb}
 use Rattle.meaning.specs.Words.{word}
+unfoldable pub use Rattle.meaning.specs.Words.{eqList}
 use Rattle.meaning.specs.Subset.{Outcome, left, refused, limit, subset}
 
 -- the most bytes of a job file
@@ -44,13 +45,6 @@ lookupPart f = partAt f (trailer f + 18)
 unfoldable pub ascii : String → List ℕ
 ascii end = []
 ascii (c then t) = code c ∷ ascii t
-
--- two lists are the same
-unfoldable pub eqList : List ℕ → List ℕ → Bool
-eqList [] [] = true
-eqList [] (b ∷ q) = false
-eqList (a ∷ r) [] = false
-eqList (a ∷ r) (b ∷ q) = eqb a b && eqList r q
 
 -- the four bytes `LSJ1`, for a glyph map of pairs
 unfoldable pub tag : List ℕ

@@ -63,6 +63,8 @@ jobs =
     ∷ record { file = flat (bare ++ ((1 ∷ 0 ∷ 0 ∷ 0 ∷ 6 ∷ 0 ∷ 6 ∷ 0 ∷ 0 ∷ 0 ∷ 6 ∷ 0 ∷ 0 ∷ []) ++ (0x6C53 ∷ 0x4A31 ∷ []))); prints = "refused 11\n" }
     -- after a full line of 16 bytes there is no empty one: a context of format 3 with a coverage of 5 and 7, and the glyph map 5 → 10, 7 → 12
     ∷ record { file = flat ((3 ∷ 1 ∷ 0 ∷ 8 ∷ 1 ∷ 2 ∷ 5 ∷ 7 ∷ []) ++ ((5 ∷ 10 ∷ 7 ∷ 12 ∷ []) ++ ((1 ∷ 0 ∷ 0 ∷ 0 ∷ 16 ∷ 0 ∷ 16 ∷ 0 ∷ 8 ∷ 0 ∷ 24 ∷ 0 ∷ 0 ∷ []) ++ lsj1))); prints = "kept 16\n000300010000000800010002000a000c\n" }
+    -- jobs keep the plain layout: two equal pair sets are both written
+    ∷ record { file = flat ((1 ∷ 22 ∷ 3 ∷ 0 ∷ 2 ∷ 14 ∷ 14 ∷ 1 ∷ 2 ∷ 10 ∷ 20 ∷ 1 ∷ 2 ∷ 10 ∷ 20 ∷ []) ++ ((2 ∷ 2 ∷ 10 ∷ 10 ∷ 20 ∷ 20 ∷ []) ++ ((4 ∷ 0 ∷ 0 ∷ 0 ∷ 30 ∷ 0 ∷ 30 ∷ 0 ∷ 12 ∷ 0 ∷ 42 ∷ 0 ∷ 0 ∷ []) ++ lsj1))); prints = "kept 38\n0001001e000300000002000e00160001\n0002000a001400010002000a00140001\n0002000a0014\n" }
     -- a trailer alone: the three parts are empty, and an empty source is malformed
     ∷ record { file = flat ((1 ∷ 0 ∷ 0 ∷ 0 ∷ 0 ∷ 0 ∷ 0 ∷ 0 ∷ 0 ∷ 0 ∷ 0 ∷ 0 ∷ 0 ∷ []) ++ lsj1); prints = "refused 6\n" }
     ∷ []

@@ -25,7 +25,7 @@ use Rattle.promises.specs.Ligatures.{cutLigated, Closed}
 use Rattle.promises.specs.Singles.{SubstituteRetained}
 use Rattle.promises.specs.Survives.{survives}
 use Rattle.promises.specs.Walks.{walk}
-use Rattle.promises.specs.Refusals.{Call, answer, glyphMap, lookupMap, plain, plainWords, refusals, first, NoneOf, answer-meets, given-exactly, kept-exactly}
+use Rattle.promises.specs.Refusals.{Call, answer, glyphMap, lookupMap, laid, laidWords, refusals, first, NoneOf, answer-meets, given-exactly, kept-exactly}
 use Rattle.promises.specs.Tested.{GoodMaps, tests, tested, kept-tested}
 use Rattle.promises.specs.Promises.{BytesOf, says, small-says, reads-back, context-same, ligature-same, pair-same, pair-skipped, single-same, walk-same}
 use Rattle.more.specs.Wider.{Wider, table-also}
@@ -82,7 +82,7 @@ module _ (c d : Call) (more : KeepsMore c d) where
   more-kept k g =
       let (n1, (n13, (n14, (n2, (n3, (n4, (n5, (n6, (n7, (n12, u)))))))))) = tests-same c d (more .kind) (more .source) (kept-tested c k) g in
       rw (answer-meets d .number, n1, n13, n14, n2, n3, n4, n5, n6, n7, n12, survives-more (kept-survives c k))
-      (step (tooBig (plainWords d)) (ltb (length (d .buffer)) (length (plain d))))
+      (step (tooBig (laidWords d)) (ltb (length (d .buffer)) (length (laid d))))
     where
       step : (big short : Bool) → LaidOut (cond big 9 (cond short 10 0))
       step true short = inr (inl refl)

@@ -17,7 +17,7 @@ use Rattle.meaning.specs.Parts.{coverage, coverageSound, classes, classesSound}
 use Rattle.meaning.specs.Tables.{Pair, Table, fieldCount, reach, cellRows, pairTable, table}
 use Rattle.meaning.specs.Fault.{partFault, lowest, faultThrough, coverageFault, classesFault, goodFormats, classesBelow, pairFault, fault}
 use Rattle.meaning.specs.Cut.{classMap, secondMap, classesUnder, newCoverage, cut}
-use Rattle.meaning.specs.Subset.{Outcome, refused, limit, goodKind, written}
+use Rattle.meaning.specs.Subset.{Outcome, refused, limit, goodKind, writtenIn}
 use Rattle.laws.specs.Stands.{Stands, flat-length, twos-length, entries-back}
 use Rattle.laws.specs.Runs.{both, up-ascends}
 use Rattle.laws.specs.Written.{Wrote, wrote-length}
@@ -131,10 +131,10 @@ null-none g cov cs ds f1 f2 n rows false true c h = refl
 null-none g cov cs ds f1 f2 n rows false false true h = refl
 null-none g cov cs ds f1 f2 n rows false false false h = absurd (true≢false (sym h))
 
-pub null-left : (s : List ℕ) → (word s 0 ≡ 1 → ⊥) → (g : List (ℕ × ℕ)) (out : List ℕ) → hasNull s ≡ true → refused out 8 ≡ written out (cut g [] (pairTable s))
-unfolding reach written
-null-left s f g out h =
-    sym (ap (written out) (ap (cut g []) (table-is s f) ∙ null-none g _ _ _ (word s 4) (word s 6) (word s 14) (cellRows s (fieldCount (word s 4)) (fieldCount (word s 6)) (word s 14) 16 (word s 12)) (eqb (word s 2) 0) (eqb (word s 8) 0) (eqb (word s 10) 0) h))
+pub null-left : (s : List ℕ) → (word s 0 ≡ 1 → ⊥) → (g : List (ℕ × ℕ)) (packing : ℕ) (out : List ℕ) → hasNull s ≡ true → refused out 8 ≡ writtenIn packing out (cut g [] (pairTable s))
+unfolding reach writtenIn
+null-left s f g packing out h =
+    sym (ap (writtenIn packing out) (ap (cut g []) (table-is s f) ∙ null-none g _ _ _ (word s 4) (word s 6) (word s 14) (cellRows s (fieldCount (word s 4)) (fieldCount (word s 6)) (word s 14) 16 (word s 12)) (eqb (word s 2) 0) (eqb (word s 8) 0) (eqb (word s 10) 0) h))
 
 or-none : (a b c : Bool) → a || (b || c) ≡ false → (a ≡ false) × (b ≡ false) × (c ≡ false)
 or-none true b c h = absurd (true≢false h)
@@ -213,11 +213,11 @@ module _ {s : List ℕ} {form : ℕ} {glyphs : List ℕ} {m : Map} {t : List ℕ
     }
 
     -- none is retained
-    pub none-met : (out : List ℕ) → len ≡ 0 → refused out 8 ≡ written out (cut (glyphEntries form glyphs) [] (pairTable s))
+    pub none-met : (packing : ℕ) (out : List ℕ) → len ≡ 0 → refused out 8 ≡ writtenIn packing out (cut (glyphEntries form glyphs) [] (pairTable s))
     unfolding part named
-    none-met out z =
+    none-met packing out z =
         let e : met (find (glyphEntries form glyphs)) 0 (coverage s (word s 2)) ≡ [] = sym (met-here .noted) ∙ ap (notes next at) z in
-        none-kept (b .kern) (map-good (b .map)) (sym (named-met (glyphEntries form glyphs) (coverage s (word s 2))) ∙ ap (named (coverage s (word s 2))) e) out
+        none-kept (b .kern) (map-good (b .map)) (sym (named-met (glyphEntries form glyphs) (coverage s (word s 2))) ∙ ap (named (coverage s (word s 2))) e) packing out
 
 -- Cells and bytes as many as before.
 module _ (r : Tried) (out after : List ℕ) (made : Outcome) {at : ℕ} {t u : List ℕ} (k : Kept at t u) where
@@ -392,16 +392,16 @@ module _ {s : List ℕ} {form : ℕ} {glyphs : List ℕ} {cover : Noted} {first 
             };
           }
 
-      pub left-is : (out : List ℕ) → leftInto out s u cover first second ≡ written out (cut (glyphEntries form glyphs) [] (pairTable s))
-      left-is out =
+      pub left-is : (packing : ℕ) (out : List ℕ) → leftInto packing out s u cover first second ≡ writtenIn packing out (cut (glyphEntries form glyphs) [] (pairTable s))
+      left-is packing out =
           let kept = kept-alike (holds-alike first-holds) (holds-alike (seconds .holds)) 0 (cellRows s (fieldCount (word s 4)) (fieldCount (word s 6)) (word s 14) 16 (word s 12)) in
-          rw (kept, b .side .count, seconds .count, glyphs-here, first-entries, seconds .entries) (kern-cut (b .kern) (map-good (b .map)) covered-some out)
+          rw (kept, b .side .count, seconds .count, glyphs-here, first-entries, seconds .entries) (kern-cut (b .kern) (map-good (b .map)) covered-some packing out)
 
-      pub all-left : (area : List ℕ) (r : Tried) (out after : List ℕ) → Tries (⊥) (length area < limit) r out after (leftInto out s u cover first second)
-          → Tries (length t < enoughCells) (length area < limit) r out after (written out (cut (glyphEntries form glyphs) [] (pairTable s)))
-      all-left area r out after h =
+      pub all-left : (packing : ℕ) (area : List ℕ) (r : Tried) (out after : List ℕ) → Tries (⊥) (length area < limit) r out after (leftInto packing out s u cover first second)
+          → Tries (length t < enoughCells) (length area < limit) r out after (writtenIn packing out (cut (glyphEntries form glyphs) [] (pairTable s)))
+      all-left packing area r out after h =
           tries-less ⊥ (length area < limit) (length t < enoughCells) (length area < limit) r out after _ (λ x. absurd x) (λ x. x)
-          (subst (λ (o : Outcome). Tries (⊥) (length area < limit) r out after o) (left-is out) h)
+          (subst (λ (o : Outcome). Tries (⊥) (length area < limit) r out after o) (left-is packing out) h)
 
 -- The area that is used.
 pub front-long : {n : ℕ} → 262144 < n → Front n 262144

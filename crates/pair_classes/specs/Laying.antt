@@ -1,8 +1,8 @@
 -- What writing the parts asks and answers.
 use Prim.Native.Nat.{ℕ, _+_, _*_, _≤_, _<_}
 use mathlib.Core.Path.{_≡_}
-use mathlib.Core.Bool.{true}
-use mathlib.Core.List.{List, _++_}
+use mathlib.Core.Bool.{Bool, true, cond}
+use mathlib.Core.List.{List, [], _++_}
 use lib.ListN.{length}
 use Rattle.meaning.specs.Words.{keys, ascends}
 use Rattle.meaning.specs.Subset.{Outcome, refused, limit}
@@ -29,16 +29,20 @@ pub record TailIn (t : List ℕ) (glyphs firsts seconds : Noted) : Type 0 where
   pub first : EntriesIn t firsts
   pub second : EntriesIn t seconds
 
--- The three parts stand from p on, where `e` says; or its end is past the area, which is too short for them.
-pub record Ended (before : List ℕ) (p : ℕ) (cover first second after : List ℕ) (e : Ends) : Type 0 where
+-- a coverage and one class table behind it, which is that of the first classes and of the second
+abbrev pub oneTable : ℕ → ℕ → ℕ → Ends
+oneTable cover first end = record { cover = cover; first = first; second = first; end = end }
+
+-- The three parts stand from p on, where `e` says, both class tables in one place if they are one; or its end is past the area, which is too short for them.
+pub record Ended (one : Bool) (before : List ℕ) (p : ℕ) (cover first second after : List ℕ) (e : Ends) : Type 0 where
   pub same : length after ≡ length before
   pub cover-at : e .cover ≡ p
   pub first-at : e .end ≤ length before → e .first ≡ p + 2 * length cover
-  pub second-at : e .end ≤ length before → e .second ≡ p + 2 * length cover + 2 * length first
-  pub fits : e .end ≤ length before → Extends before p (cover ++ (first ++ second)) after (e .end)
-  pub full : length before < e .end → length before < p + 2 * length (cover ++ (first ++ second))
+  pub second-at : e .end ≤ length before → e .second ≡ cond one (p + 2 * length cover) (p + 2 * length cover + 2 * length first)
+  pub fits : e .end ≤ length before → Extends before p (cover ++ (first ++ cond one [] second)) after (e .end)
+  pub full : length before < e .end → length before < p + 2 * length (cover ++ (first ++ cond one [] second))
 
--- each part ends before the next one
+-- no part stands before the one that it follows
 pub record Ordered (e : Ends) : Type 0 where
   pub first : e .first ≤ e .second
   pub second : e .second ≤ e .end

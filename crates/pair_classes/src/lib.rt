@@ -12,6 +12,7 @@ use class_maps::pinned_map;
 use covered_map::put_covered;
 use fold::Map;
 use fold::lay_glyphs;
+use marks::Marks;
 use meet_runs::meet;
 use meet_runs::most;
 use pair_sets::Formats;
@@ -31,13 +32,13 @@ ghost use Rattle.meaning.specs.Maps.{glyphEntries};
 ghost use Rattle.meaning.specs.Tables.{pairTable};
 ghost use Rattle.meaning.specs.Cut.{classMap, secondMap, cut};
 ghost use Rattle.meaning.specs.Layout.{coverageWords, classWords};
-ghost use Rattle.meaning.specs.Subset.{limit, written};
+ghost use Rattle.meaning.specs.Subset.{limit, writtenIn};
 ghost use Rattle.area.specs.Part.{news, notes};
 ghost use Rattle.class_lists.specs.Tables.{classesAt};
 ghost use Rattle.tried.specs.Tries.{Tries};
-ghost use Rattle.pair_classes.specs.Kerning.{headWords, fitsAt, leftInto};
+ghost use Rattle.pair_classes.specs.Kerning.{shared, headWords, fitsAt, leftInto};
 ghost use Rattle.pair_classes.specs.Sides.{Asks, Sided};
-ghost use Rattle.pair_classes.specs.Laying.{TailIn, Ended, Ordered, NoRoom, Front, Ready};
+ghost use Rattle.pair_classes.specs.Laying.{EntriesIn, TailIn, oneTable, Ended, Ordered, NoRoom, Front, Ready};
 ghost use Rattle.pair_classes.specs.Cutting.{enoughCells, hasNull, Sound, Begins, Noting, FirstIn};
 
 // Cells in a row: where the first stands, and how many there are.
@@ -119,35 +120,62 @@ fn second_classes(
     }
 }
 
-// The coverage of the noted glyphs at `p`, and the class tables of these entries behind it: where each stands, and where the last ends, which is past the area if that is too short for them.
+// Whether the second classes are not written again: the packed layout is asked for, and their entries are those of the first ones.
+fn shares(t: &[u32], first: Noted, second: Noted, packing: usize) -> bool
+    requires { ⌜ EntriesIn (now t) first × EntriesIn (now t) second ⌝ }
+    ensures { λ r. ⌜ r ≡ shared packing (notes (now (t .entry)) (first .at) (first .len)) (notes (now (t .entry)) (second .at) (second .len)) ⌝ }
+{
+    if packing != 1 {
+        return false;
+    }
+    if first.len != second.len {
+        return false;
+    }
+    let mut i = 0;
+    while i < first.len {
+        if t[first.at + i] != t[second.at + i] {
+            return false;
+        }
+        i += 1;
+    }
+    true
+}
+
+// A coverage and one class table behind it, which is that of the first classes and of the second.
+fn one_table(cover: usize, first: usize, end: usize) -> Ends
+    ensures { λ r. ⌜ r ≡ oneTable cover first end ⌝ }
+{
+    Ends {
+        cover,
+        first,
+        second: first,
+        end,
+    }
+}
+
+// The coverage of the noted glyphs at `p`, and the class tables of these entries behind it, none twice if they are packed: where each stands, and where the last ends, which is past the area if that is too short for them.
 fn write_tail(
     t: &[u32],
     cover: Noted,
     first: Noted,
     second: Noted,
+    packing: usize,
     area: &mut [u8],
     p: usize,
 ) -> Ends
     requires { ⌜ TailIn (now t) cover first second × (p ≤ length (now area)) × (length (now area) ≤ limit) ⌝ }
-    ensures { λ r. ⌜ Ended (now (area .entry)) p (coverageWords (news (now (t .entry)) (cover .at) (cover .len))) (classWords (notes (now (t .entry)) (first .at) (first .len))) (classWords (notes (now (t .entry)) (second .at) (second .len))) (now (area .exit)) r ⌝ }
+    ensures { λ r. ⌜ Ended (shared packing (notes (now (t .entry)) (first .at) (first .len)) (notes (now (t .entry)) (second .at) (second .len))) (now (area .entry)) p (coverageWords (news (now (t .entry)) (cover .at) (cover .len))) (classWords (notes (now (t .entry)) (first .at) (first .len))) (classWords (notes (now (t .entry)) (second .at) (second .len))) (now (area .exit)) r ⌝ }
 {
     let q = write_cover(t, cover.at, cover.len, area, p);
     if area.len() < q {
-        return Ends {
-            cover: p,
-            first: q,
-            second: q,
-            end: q,
-        };
+        return one_table(p, q, q);
     }
     let r = write_classes(t, first.at, first.len, area, q);
     if area.len() < r {
-        return Ends {
-            cover: p,
-            first: q,
-            second: r,
-            end: r,
-        };
+        return one_table(p, q, r);
+    }
+    if shares(t, first, second, packing) {
+        return one_table(p, q, r);
     }
     let end = write_classes(t, second.at, second.len, area, r);
     Ends {
@@ -199,11 +227,12 @@ fn lay_pairs(
     cover: Noted,
     first: Classed,
     second: Classed,
+    packing: usize,
     area: &mut [u8],
     out: &mut [u8],
 ) -> Tried
     requires { ⌜ Ready (now src) (now t) cover first second × (length (now area) ≤ limit) ⌝ }
-    ensures { λ r. ⌜ Tries (⊥) (length (now (area .entry)) < limit) r (now (out .entry)) (now (out .exit)) (leftInto (now (out .entry)) (now (src .entry)) (now (t .entry)) cover first second) ⌝ }
+    ensures { λ r. ⌜ Tries (⊥) (length (now (area .entry)) < limit) r (now (out .entry)) (now (out .exit)) (leftInto packing (now (out .entry)) (now (src .entry)) (now (t .entry)) cover first second) ⌝ }
 {
     if area.len() < 16 {
         return Tried::Short;
@@ -213,7 +242,7 @@ fn lay_pairs(
     if area.len() < p {
         return no_room(area);
     }
-    let ends = write_tail(t, cover, first.entries, second.entries, area, p);
+    let ends = write_tail(t, cover, first.entries, second.entries, packing, area, p);
     if area.len() < ends.end {
         return no_room(area);
     }
@@ -224,7 +253,7 @@ fn lay_pairs(
 // The same with the first classes in cells behind the notes of the covered glyphs, and the second ones still to be laid behind them.
 fn cut_first(
     src: &[u8],
-    form: usize,
+    marks: Marks,
     glyphs: &[u8],
     cover: Noted,
     first: Classed,
@@ -232,29 +261,29 @@ fn cut_first(
     area: &mut [u8],
     out: &mut [u8],
 ) -> Tried
-    requires { ⌜ FirstIn (now src) form (now glyphs) cover first (now t) × (length (now area) ≤ limit) ⌝ }
-    ensures { λ r. ⌜ Tries (length (now (t .entry)) < enoughCells) (length (now (area .entry)) < limit) r (now (out .entry)) (now (out .exit)) (written (now (out .entry)) (cut (glyphEntries form (now (glyphs .entry))) [] (pairTable (now (src .entry))))) ⌝ }
+    requires { ⌜ FirstIn (now src) (marks .form) (now glyphs) cover first (now t) × (length (now area) ≤ limit) ⌝ }
+    ensures { λ r. ⌜ Tries (length (now (t .entry)) < enoughCells) (length (now (area .entry)) < limit) r (now (out .entry)) (now (out .exit)) (writtenIn (marks .layout) (now (out .entry)) (cut (glyphEntries (marks .form) (now (glyphs .entry))) [] (pairTable (now (src .entry))))) ⌝ }
 {
     let list = first.map.at + first.map.mask + 1;
-    let second = second_classes(src, word_inside(src, 10), form, glyphs, t, list);
+    let second = second_classes(src, word_inside(src, 10), marks.form, glyphs, t, list);
     if second.map.mask == 0 {
         return Tried::FewCells;
     }
-    lay_pairs(src, t, cover, first, second, area, out)
+    lay_pairs(src, t, cover, first, second, marks.layout, area, out)
 }
 
 // The same with the covered glyphs noted in cells. Their entries of the glyph map stand in the area for as long as the first classes are laid, as pairs, the form 4.
 fn cut_noted(
     src: &[u8],
-    form: usize,
+    marks: Marks,
     glyphs: &[u8],
     cover: Noted,
     t: &mut [u32],
     area: &mut [u8],
     out: &mut [u8],
 ) -> Tried
-    requires { ⌜ Noting (now src) form (now glyphs) cover (now t) × (length (now area) ≤ limit) ⌝ }
-    ensures { λ r. ⌜ Tries (length (now (t .entry)) < enoughCells) (length (now (area .entry)) < limit) r (now (out .entry)) (now (out .exit)) (written (now (out .entry)) (cut (glyphEntries form (now (glyphs .entry))) [] (pairTable (now (src .entry))))) ⌝ }
+    requires { ⌜ Noting (now src) (marks .form) (now glyphs) cover (now t) × (length (now area) ≤ limit) ⌝ }
+    ensures { λ r. ⌜ Tries (length (now (t .entry)) < enoughCells) (length (now (area .entry)) < limit) r (now (out .entry)) (now (out .exit)) (writtenIn (marks .layout) (now (out .entry)) (cut (glyphEntries (marks .form) (now (glyphs .entry))) [] (pairTable (now (src .entry))))) ⌝ }
 {
     let n = 4 * cover.len;
     if area.len() < n {
@@ -266,32 +295,32 @@ fn cut_noted(
     if first.map.mask == 0 {
         return Tried::FewCells;
     }
-    cut_first(src, form, glyphs, cover, first, t, area, out)
+    cut_first(src, marks, glyphs, cover, first, t, area, out)
 }
 
 // The same with the glyph map in cells from the first on.
 fn cut_map(
     src: &[u8],
-    form: usize,
+    marks: Marks,
     glyphs: &[u8],
     m: Map,
     t: &mut [u32],
     area: &mut [u8],
     out: &mut [u8],
 ) -> Tried
-    requires { ⌜ Begins (now src) form (now glyphs) m (now t) × (length (now area) ≤ limit) ⌝ }
-    ensures { λ r. ⌜ Tries (length (now (t .entry)) < enoughCells) (length (now (area .entry)) < limit) r (now (out .entry)) (now (out .exit)) (written (now (out .entry)) (cut (glyphEntries form (now (glyphs .entry))) [] (pairTable (now (src .entry))))) ⌝ }
+    requires { ⌜ Begins (now src) (marks .form) (now glyphs) m (now t) × (length (now area) ≤ limit) ⌝ }
+    ensures { λ r. ⌜ Tries (length (now (t .entry)) < enoughCells) (length (now (area .entry)) < limit) r (now (out .entry)) (now (out .exit)) (writtenIn (marks .layout) (now (out .entry)) (cut (glyphEntries (marks .form) (now (glyphs .entry))) [] (pairTable (now (src .entry))))) ⌝ }
 {
     let at = m.mask + 1;
     let cover = word_inside(src, 2);
-    if t.len() <= at + most(src, cover, glyphs, form) {
+    if t.len() <= at + most(src, cover, glyphs, marks.form) {
         return Tried::FewCells;
     }
-    let len = meet(src, cover, glyphs, form, m, t, at);
+    let len = meet(src, cover, glyphs, marks.form, m, t, at);
     if len == 0 {
         return Tried::Became(Laid::Nothing);
     }
-    cut_noted(src, form, glyphs, Noted { at, len }, t, area, out)
+    cut_noted(src, marks, glyphs, Noted { at, len }, t, area, out)
 }
 
 // Whether the coverage or one of the class tables is null.
@@ -311,23 +340,23 @@ fn has_null(src: &[u8]) -> bool
 // What is left of a sound table, with an area that is not over the limit.
 fn cut_in(
     src: &[u8],
-    form: usize,
+    marks: Marks,
     glyphs: &[u8],
     t: &mut [u32],
     area: &mut [u8],
     out: &mut [u8],
 ) -> Tried
-    requires { ⌜ Sound (now src) form (now glyphs) × (length (now area) ≤ limit) ⌝ }
-    ensures { λ r. ⌜ Tries (length (now (t .entry)) < enoughCells) (length (now (area .entry)) < limit) r (now (out .entry)) (now (out .exit)) (written (now (out .entry)) (cut (glyphEntries form (now (glyphs .entry))) [] (pairTable (now (src .entry))))) ⌝ }
+    requires { ⌜ Sound (now src) (marks .form) (now glyphs) × (length (now area) ≤ limit) ⌝ }
+    ensures { λ r. ⌜ Tries (length (now (t .entry)) < enoughCells) (length (now (area .entry)) < limit) r (now (out .entry)) (now (out .exit)) (writtenIn (marks .layout) (now (out .entry)) (cut (glyphEntries (marks .form) (now (glyphs .entry))) [] (pairTable (now (src .entry))))) ⌝ }
 {
     if has_null(src) {
         return Tried::Became(Laid::Nothing);
     }
-    let m = lay_glyphs(glyphs, form, t, 0);
+    let m = lay_glyphs(glyphs, marks.form, t, 0);
     if m.mask == 0 {
         return Tried::FewCells;
     }
-    cut_map(src, form, glyphs, m, t, area, out)
+    cut_map(src, marks, glyphs, m, t, area, out)
 }
 
 // How much of the area is used: all of it, but not more than the limit.
@@ -345,14 +374,14 @@ fn front(area: &[u8]) -> usize
 pub fn class_pairs(
     src: &[u8],
     glyphs: &[u8],
-    form: usize,
+    marks: Marks,
     t: &mut [u32],
     area: &mut [u8],
     out: &mut [u8],
 ) -> Tried
-    requires { ⌜ Sound (now src) form (now glyphs) ⌝ }
-    ensures { λ r. ⌜ Tries (length (now (t .entry)) < enoughCells) (length (now (area .entry)) < limit) r (now (out .entry)) (now (out .exit)) (written (now (out .entry)) (cut (glyphEntries form (now (glyphs .entry))) [] (pairTable (now (src .entry))))) ⌝ }
+    requires { ⌜ Sound (now src) (marks .form) (now glyphs) ⌝ }
+    ensures { λ r. ⌜ Tries (length (now (t .entry)) < enoughCells) (length (now (area .entry)) < limit) r (now (out .entry)) (now (out .exit)) (writtenIn (marks .layout) (now (out .entry)) (cut (glyphEntries (marks .form) (now (glyphs .entry))) [] (pairTable (now (src .entry))))) ⌝ }
 {
     let n = front(area);
-    cut_in(src, form, glyphs, t, &mut area[..n], out)
+    cut_in(src, marks, glyphs, t, &mut area[..n], out)
 }

@@ -17,13 +17,13 @@ use Rattle.meaning.specs.Cut.{glyphsOf}
 use Rattle.laws.specs.Runs.{Up, both}
 use Rattle.laws.specs.Stands.{All}
 use Rattle.laws.specs.ReadsBack.{fault-pairs, table-pairs}
-use Rattle.laws.specs.SoundGood.{Bytes, part-sound, header-good}
+use Rattle.laws.specs.SoundGood.{Bytes, part-sound, header-good, word-small}
 use Rattle.coverage_index.specs.Index.{indexOf}
 use Rattle.differences.specs.Content.{Content, pairSays, setHolds, byIndex, covered, content}
 use Rattle.differences.specs.Entries.{each, beside, pairEntries, firstEntries, differences}
 use Rattle.differences.specs.Empty.{SortedPairs, Sorted}
 use Rattle.differences.specs.Sound.{sound-sorted}
-use Rattle.first_glyphs.specs.First.{coverOf, soundCover, sound-cover, word-small, covered-below, bind-same, by-slot, index-glyphs, cover-words, index-below, atGlyph, first-ids}
+use Rattle.first_glyphs.specs.First.{coverOf, soundCover, sound-cover, covered-below, bind-same, by-slot, index-glyphs, cover-words, index-below, atGlyph, first-ids}
 use Rattle.pair_differences.specs.Held.{pairsFrom, countIn, held}
 
 -- each covered glyph with its pairs, as the content of the table says them
@@ -84,7 +84,7 @@ module _ (s : List ℕ) (f : word s 0 ≡ 1) (h : fault 4 s ≡ none) where
   pair-table bytes = record {
     cover = covers;
     slots = in-slots;
-    few = λ g i e. omega (arith, index-below (coverOf s) g i e, below, word-small s 8 bytes);
+    few = λ g i e. omega (arith, index-below (coverOf s) g i e, below, word-small s bytes 8);
     ascend = λ g i e. (sorted .1 g (held s (word s (10 + 2 * i))) (in-slots g ∙ rw e)) .ascend;
   }
     where

@@ -1,15 +1,16 @@
 -- The label job: which files are faulty, in document 01's words, and what a job answers.
 use Prim.Native.Nat.{ℕ, _+_, _-_, _<_}
-use mathlib.Core.Path.{_≡_, refl, sym, ap, ap₂, _∙_}
+use mathlib.Core.Path.{_≡_, refl, sym, ap, _∙_}
 use mathlib.Core.Bool.{Bool, true, false, cond, _&&_, _||_, not, true≢false}
 use mathlib.Core.List.{List, [], _∷_}
 use native.Mathlib.Omega.{arith}
 use lib.ListN.{length, drop}
 use lib.Dec.{leb, eqb}
-use borrow.Author.Tests.{leb-true, leb-false, eqb-true, eqb-false, eq-eqb, not-true}
-use Rattle.meaning.specs.Words.{word, every}
+use borrow.Author.Tests.{leb-true, leb-false, eqb-false, not-true}
+use Rattle.meaning.specs.Words.{word, eqList, every}
 use Rattle.meaning.specs.Subset.{refused}
-use Rattle.meaning.specs.Job.{Part, ascii, jobLimit, trailer, tablePart, glyphPart, lookupPart, eqList, tag, runsTag, endsIn, tagged, formOf, before, goodJob, bytesOf, job}
+use Rattle.meaning.specs.Job.{Part, ascii, jobLimit, trailer, tablePart, glyphPart, lookupPart, tag, runsTag, endsIn, tagged, formOf, before, goodJob, bytesOf, job}
+use Rattle.laws.specs.Repeats.{list-same, same-list}
 use Rattle.promises.specs.Numbers.{and-left, and-right}
 use Rattle.promises.specs.Refusals.{Call, answer, refusals, first, answer-meets}
 
@@ -31,18 +32,6 @@ abbrev pub callOf : List ℕ → List ℕ → Call
 callOf f out = record { kind = word f (length f - 30); form = formOf f; packing = 0; source = bytesOf f (tablePart f); glyphs = bytesOf f (glyphPart f); lookups = bytesOf f (lookupPart f); buffer = out }
 
 -- Lists compared byte by byte.
-
-list-same : (a b : List ℕ) → eqList a b ≡ true → a ≡ b
-unfolding eqList
-list-same [] [] h = refl
-list-same [] (y ∷ b) h = absurd (true≢false (sym h))
-list-same (x ∷ a) [] h = absurd (true≢false (sym h))
-list-same (x ∷ a) (y ∷ b) h = ap₂ _∷_ (eqb-true x y (and-left (eqb x y) _ h)) (list-same a b (and-right (eqb x y) _ h))
-
-same-list : (a : List ℕ) → eqList a a ≡ true
-unfolding eqList
-same-list [] = refl
-same-list (x ∷ a) = rw (eq-eqb x x refl, same-list a)
 
 other-list : {a b : List ℕ} → a ≡ b → eqList a b ≡ false → ⊥
 other-list {a} {b} q e = true≢false (sym (same-list b) ∙ ap (λ (l : List ℕ). eqList l b) (sym q) ∙ e)

@@ -1,10 +1,10 @@
--- Every promise in one place, each with its words above it. They hold of every call: any kind, any form of the glyph map, any source bytes, any two maps, any buffer.
--- A reader who believes the definitions of `meaning` needs of this crate what stands here, the statements that it names in Refusals.antt (`Call`, `answer`, `plain`, `refusals`, `Meets`),
--- Survives.antt, and `Retained`, `new`, `renumbered`, `cutMatch`, `cutLigated`, `Closed`, `SubstituteRetained`, `SubstitutesRetained`, and `Faulty` and `callOf` of the job, each a line or two.
+-- Every promise in one place, each with its words above it. They hold of every call: any kind, any form of the glyph map, any layout, any source bytes, any two maps, any buffer.
+-- A reader who believes the definitions of `meaning` needs of this crate what stands here, the statements that it names in Refusals.antt (`Call`, `answer`, `laid`, `refusals`, `Meets`),
+-- Survives.antt, and `Retained`, `new`, `renumbered`, `cutMatch`, `cutLigated`, `Closed`, `SubstituteRetained`, `SubstitutesRetained`, `Different`, `inLayout`, and `Faulty` and `callOf` of the job, each a line or two.
 use Prim.Native.Nat.{ℕ, _≤_, _<_}
-use mathlib.Core.Path.{_≡_, sym, ap, _∙_, subst}
+use mathlib.Core.Path.{_≡_, refl, sym, ap, _∙_, subst}
 use mathlib.Core.Bool.{Bool, true, false, not}
-use mathlib.Core.Option.{Option, none, some, Option·map}
+use mathlib.Core.Option.{Option, none, some, Option·getD, Option·map}
 use mathlib.Core.List.{List, [], _∷_, _++_, map}
 use lib.ListN.{length, take, drop}
 use lib.Dec.{eqb}
@@ -13,7 +13,8 @@ use Rattle.meaning.specs.Maps.{runPairs, glyphEntries, goodGlyphMap}
 use Rattle.meaning.specs.Tables.{table, Table, Pair}
 use Rattle.meaning.specs.Fault.{fault}
 use Rattle.meaning.specs.Cut.{classMap?, cut}
-use Rattle.meaning.specs.Layout.{wordsFit}
+use Rattle.meaning.specs.Layout.{tableWords, wordsFit}
+use Rattle.meaning.specs.Packed.{BlockKind, header, packedBlocks, packed, packedWords}
 use Rattle.meaning.specs.Subset.{Outcome, left, refused, limit, goodKind, tooBig, subset}
 use Rattle.meaning.specs.Matching.{atPlace, match, ligate, adjust, skips, substitute}
 use Rattle.meaning.specs.Job.{trailer, tablePart, glyphPart, lookupPart, ascii, formOf, goodJob, bytesOf, job, program}
@@ -23,6 +24,8 @@ use Rattle.meaning.specs.Points as Points
 use Rattle.meaning.specs.Jobs as Jobs
 use Rattle.meaning.specs.Matches as Matches
 use Rattle.limits.specs.Limits as Limits
+use Rattle.laws.specs.Headers.{plain}
+use Rattle.laws.specs.PlainReading.{plain-reading}
 use Rattle.laws.specs.CutGood.{GoodMap}
 use Rattle.laws.specs.SoundGood.{Bytes}
 use Rattle.laws.specs.CallBack.{Passed, passed, good-glyph-map, left-good, call-reads-back}
@@ -33,6 +36,8 @@ use Rattle.promises.specs.Singles.{SubstituteRetained, SubstitutesRetain
 use Rattle.promises.specs.Classes.{null-map}
 use Rattle.promises.specs.Sizes as Sizes
 use Rattle.promises.specs.Sizes.{refusalsBefore}
+use Rattle.promises.specs.Packed as Packed
+use Rattle.promises.specs.Packed.{Different, inLayout}
 use Rattle.promises.specs.Forms as Forms
 use Rattle.promises.specs.Same as Same
 use Rattle.promises.specs.Places.{parts, Faulty, Any, Lowest}
@@ -43,7 +48,7 @@ use Rattle.promises.specs.Survives.{survives}
 use Rattle.promises.specs.JobFiles.{FaultyFile, callOf, refused-faulty, faulty-refused, sound-called}
 use Rattle.promises.specs.Wrong as Wrong
 use Rattle.promises.specs.Wrong.{Passes, refusing, copying, notWriting, writing, inventing, swaps, copiesOthers, dropsOthers}
-use Rattle.promises.specs.Refusals.{Call, answer, glyphMap, lookupMap, plainWords, plain, left?, refusals, first, NoneOf, Meets, answer-meets, meets-once, given-exactly, kept-exactly, refused-untouched, refused-length, malformed-place, no-room, kept-length, kept-bytes, buffer-length, empty-on-good}
+use Rattle.promises.specs.Refusals.{Call, answer, glyphMap, lookupMap, laidWords, laid, left?, refusals, first, NoneOf, Meets, answer-meets, meets-once, given-exactly, kept-exactly, refused-untouched, refused-length, malformed-place, no-room, kept-length, kept-bytes, buffer-length, empty-on-good}
 
 -- Worked cases, by computation.
 
@@ -55,7 +60,7 @@ rows = Rows.each-row
 pub points : map call Points.points ≡ map stated Points.points
 points = Points.each-point
 
--- The same for glyph maps as runs, and for the marks of the two forms and of the layout.
+-- The same for glyph maps as runs and the packed layout, and for the marks of the form and of the layout.
 pub forms : map (λ e. callIn (e .0) 0 (e .1)) Points.forms ≡ map (λ e. stated (e .1)) Points.forms
 forms = Points.each-form
 
@@ -106,7 +111,7 @@ module _ (c : Call) where
   pub place-of-fault : (answer c) .number ≡ 6 → some ((answer c) .len) ≡ fault (c .kind) (c .source)
   place-of-fault = malformed-place c
 
-  pub length-needed : (answer c) .number ≡ 10 → ((answer c) .len ≡ length (plain c)) × (length (c .buffer) < length (plain c))
+  pub length-needed : (answer c) .number ≡ 10 → ((answer c) .len ≡ length (laid c)) × (length (c .buffer) < length (laid c))
   length-needed = no-room c
 
   -- The buffer never changes its length.
@@ -124,13 +129,13 @@ module _ (c : Call) where
 
   -- Demand 2.
 
-  -- `kept-is-small`: what is kept has the length of the plain layout, at most the limit and at most the buffer, and each offset and count of it fits its word.
-  pub kept-is-small : (answer c) .number ≡ 0 → ((answer c) .len ≡ length (plain c)) × ((answer c) .len ≤ limit) × ((answer c) .len ≤ length (c .buffer)) × (wordsFit (plainWords c) ≡ true)
+  -- `kept-is-small`: what is kept has the length of the layout that is asked for, at most the limit and at most the buffer, and each offset and count of it fits its word.
+  pub kept-is-small : (answer c) .number ≡ 0 → ((answer c) .len ≡ length (laid c)) × ((answer c) .len ≤ limit) × ((answer c) .len ≤ length (c .buffer)) × (wordsFit (laidWords c) ≡ true)
   kept-is-small = kept-length c
 
-  -- Its bytes are the plain layout of what survives, and the bytes past them keep their old content.
-  pub kept-is-plain : (answer c) .number ≡ 0 → (answer c) .out ≡ plain c ++ drop ((answer c) .len) (c .buffer)
-  kept-is-plain = kept-bytes c
+  -- Its bytes are that layout of what survives, plain or packed, and the bytes past them keep their old content.
+  pub kept-is-laid : (answer c) .number ≡ 0 → (answer c) .out ≡ laid c ++ drop ((answer c) .len) (c .buffer)
+  kept-is-laid = kept-bytes c
 
   -- `empty-exactly`: on good input, where none of the refusals before it applies, the answer is 8 exactly if nothing survives, said without `cut` in Survives.antt.
   pub empty-exactly : NoneOf (take 10 (refusals c)) → eqb ((answer c) .number) 8 ≡ not (survives (glyphMap c) (table (c .kind) (c .source)))
@@ -236,6 +241,38 @@ either-job = Forms.same-job
 pub runs-of-one : (es : List (ℕ × ℕ)) → runPairs (Forms.ones es) ≡ es
 runs-of-one = Forms.ones-read
 
+-- The packed layout. The table of refusals, demand 2's lengths and demand 3 above are of the layout that is asked for, plain or packed.
+
+-- `one-header`: the plain layout of a table is the plain reading of the same header whose packed reading is the packed layout (`plain` in Headers.antt of `laws`, `packed` in Packed.antt of `meaning`).
+pub one-header : (t : Table) → (tableWords t ≡ plain (header t)) × (packedWords t ≡ packed (header t))
+unfolding packedWords
+one-header t = (plain-reading t, refl)
+
+-- `no-two-equal`: of the sets, the coverages and the class tables that the packed layout of a table writes, no two of a kind are equal.
+pub no-two-equal : (t : Table) (k : BlockKind) → Different (packedBlocks (header t) k)
+no-two-equal = Packed.no-two-equal
+
+-- `not-longer`: it is not longer than the plain layout, and each of its offsets and counts fits where those of the plain one do.
+pub not-longer : (t : Table) → length (flat (packedWords t)) ≤ length (flat (tableWords t))
+not-longer = Packed.not-longer
+
+pub packed-fits : (t : Table) → wordsFit (tableWords t) ≡ true → wordsFit (packedWords t) ≡ true
+packed-fits = Packed.packed-fits
+
+-- `kept-packed`: so where a call for the plain layout is kept, the same call for the packed one is kept too, and its length is not greater.
+pub kept-packed : (c : Call) (buffer : List ℕ) → (answer (inLayout 0 buffer c)) .number ≡ 0
+    → ((answer (inLayout 1 buffer c)) .number ≡ 0) × ((answer (inLayout 1 buffer c)) .len ≤ (answer (inLayout 0 buffer c)) .len)
+kept-packed = Packed.kept-packed
+
+-- `packed-content`: where both are kept, the bytes of the packed layout say what those of the plain one say.
+pub packed-content : (c : Call) → BytesOf c → (out out′ : List ℕ) → (answer (inLayout 0 out c)) .number ≡ 0 → (answer (inLayout 1 out′ c)) .number ≡ 0
+    → small-says (inLayout 1 out′ c) ≡ small-says (inLayout 0 out c)
+packed-content c bytes out out′ p q =
+    let of : (packing : ℕ) (buffer : List ℕ) → BytesOf (inLayout packing buffer c) = λ packing buffer. record { source = bytes .source; glyphs = bytes .glyphs; lookups = bytes .lookups } in
+    let plain-reads = reads-back (inLayout 0 out c) (of 0 out) p .0 in
+    let packed-reads = reads-back (inLayout 1 out′ c) (of 1 out′) q .0 in
+    ap (λ (o : Option Table). Option·getD o (says c)) (sym packed-reads ∙ plain-reads)
+
 -- An absent class table.
 
 -- `null-class-table`: with a null table every glyph holds class 0, which alone survives there, as 0, where some glyph is retained.
@@ -245,14 +282,14 @@ null-class-table = null-map
 -- Bigger tables.
 
 -- `kept-as-before`: where the refusals before 8 don't apply, a plain layout of at most 65,536 bytes, which is what was kept before the limit was raised, is not refused as 9.
--- Its bytes are the plain layout, as they were (`kept-is-plain`).
-pub kept-as-before : (c : Call) → BytesOf c → goodKind (c .kind) ≡ true → goodGlyphMap (c .form) (c .glyphs) ≡ true → fault (c .kind) (c .source) ≡ none → length (plain c) ≤ 65536 → tooBig (plainWords c) ≡ false
-kept-as-before c bytes k m f l = Sizes.left-fits (c .kind) (left? c) (left-good (c .kind) (c .form) (c .source) (c .glyphs) (c .lookups) (bytes .source) (bytes .glyphs) (bytes .lookups) k m f) l
+-- Its bytes are the plain layout, as they were (`kept-is-laid`).
+pub kept-as-before : (c : Call) → BytesOf c → c .packing ≡ 0 → goodKind (c .kind) ≡ true → goodGlyphMap (c .form) (c .glyphs) ≡ true → fault (c .kind) (c .source) ≡ none → length (laid c) ≤ 65536 → tooBig (laidWords c) ≡ false
+kept-as-before c bytes p k m f l = Sizes.left-fits (c .packing) (c .kind) (left? c) p (left-good (c .kind) (c .form) (c .source) (c .glyphs) (c .lookups) (bytes .source) (bytes .glyphs) (bytes .lookups) k m f) l
 
 -- `bytes-kept-before`: what was kept under the table of refusals with the limits as they were (`refusalsBefore` in Sizes.antt, where 4 and 9 go by 65,536 bytes) is kept now,
 -- with the same bytes: the plain layout of what survives, which has not changed.
-pub bytes-kept-before : (c : Call) → BytesOf c → NoneOf (refusalsBefore c) → ((answer c) .number ≡ 0) × ((answer c) .out ≡ plain c ++ drop (length (plain c)) (c .buffer))
-bytes-kept-before c bytes n = Sizes.kept-before c (kept-as-before c bytes) n
+pub bytes-kept-before : (c : Call) → BytesOf c → c .packing ≡ 0 → NoneOf (refusalsBefore c) → ((answer c) .number ≡ 0) × ((answer c) .out ≡ laid c ++ drop (length (laid c)) (c .buffer))
+bytes-kept-before c bytes p n = Sizes.kept-before c (kept-as-before c bytes p) n
 
 -- The condition on ligatures is needed: without it the small table forms another ligature than the source.
 pub closed-needed : (Matches.less-one .number ≡ 0) × (ligate (table 3 Matches.two-ligatures) 5 (6 ∷ 7 ∷ []) ≡ some (20, 3)) × (ligate (table 3 (left Matches.less-one)) 0 (1 ∷ 2 ∷ []) ≡ some (3, 2))

@@ -14,8 +14,8 @@ use Rattle.meaning.specs.Tables.{Table, table}
 use Rattle.meaning.specs.Fault.{fault}
 use Rattle.meaning.specs.Records.{recordsWithin}
 use Rattle.meaning.specs.Cut.{cut}
-use Rattle.meaning.specs.Layout.{tableWords, wordsFit}
-use Rattle.meaning.specs.Subset.{Outcome, refused, place, limit, goodKind, hasFormat, hasDevice, tooBig, laidInto, goodPacking, written, subset}
+use Rattle.meaning.specs.Layout.{wordsFit}
+use Rattle.meaning.specs.Subset.{Outcome, refused, place, limit, goodKind, hasFormat, hasDevice, tooBig, laidInto, goodPacking, wordsIn, writtenIn, subset}
 use Rattle.laws.specs.Stands.{All}
 use Rattle.laws.specs.CallBack.{subset-is, big-fit}
 use Rattle.promises.specs.Numbers.{and-left, and-right}
@@ -48,17 +48,17 @@ lookupMap c = mapEntries (c .lookups)
 abbrev pub left? : Call → Option Table
 left? c = cut (glyphMap c) (lookupMap c) (table (c .kind) (c .source))
 
--- the words of the plain layout of what is left; none if nothing is
-unfoldable pub words? : Option Table → List ℕ
-words? none = []
-words? (some t) = tableWords t
+-- the words of what is left in the layout with this mark; none if nothing is
+unfoldable pub words? : ℕ → Option Table → List ℕ
+words? packing none = []
+words? packing (some t) = wordsIn packing t
 
--- the plain layout: its words, and its bytes
-abbrev pub plainWords : Call → List ℕ
-plainWords c = words? (left? c)
+-- the layout that is asked for: its words, and its bytes
+abbrev pub laidWords : Call → List ℕ
+laidWords c = words? (c .packing) (left? c)
 
-abbrev pub plain : Call → List ℕ
-plain c = flat (plainWords c)
+abbrev pub laid : Call → List ℕ
+laid c = flat (laidWords c)
 
 -- the table of refusals of documents 01 and 02, in the written order: the number of each, and whether it applies to a call, each judged by itself
 unfoldable pub refusals : Call → List (ℕ × Bool)
@@ -85,10 +85,10 @@ refusals c =
     ∷ (12, not (recordsWithin (table (c .kind) (c .source))))
     -- nothing survives
     ∷ (8, not (survives (glyphMap c) (table (c .kind) (c .source))))
-    -- the plain layout is over the limit, or an offset or a count of it over 65,535
-    ∷ (9, tooBig (plainWords c))
-    -- the buffer is shorter than the plain layout
-    ∷ (10, ltb (length (c .buffer)) (length (plain c)))
+    -- the layout is over the limit, or an offset or a count of it over 65,535
+    ∷ (9, tooBig (laidWords c))
+    -- the buffer is shorter than the layout
+    ∷ (10, ltb (length (c .buffer)) (length (laid c)))
     ∷ []
 
 -- the number of the first refusal that applies; 0, kept, if none does
@@ -96,20 +96,20 @@ unfoldable pub first : List (ℕ × Bool) → ℕ
 first [] = 0
 first (r ∷ rs) = cond (r .1) (r .0) (first rs)
 
--- the length that goes with a number: of the plain layout where it is kept or there is no room for it, the place of the lowest faulty part with 6, and 0 otherwise
+-- the length that goes with a number: of the layout where it is kept or there is no room for it, the place of the lowest faulty part with 6, and 0 otherwise
 unfoldable pub lengthBy : Call → ℕ → ℕ
-lengthBy c n = cond (eqb n 0 || eqb n 10) (length (plain c)) (cond (eqb n 6) (place (c .kind) (c .source)) 0)
+lengthBy c n = cond (eqb n 0 || eqb n 10) (length (laid c)) (cond (eqb n 6) (place (c .kind) (c .source)) 0)
 
 -- The public statement: the first number that applies; the length that goes with it;
--- the plain layout at the front of the buffer, and the rest of it as it was, where it is kept, and otherwise the buffer as it was.
+-- the layout that is asked for at the front of the buffer, and the rest of it as it was, where it is kept, and otherwise the buffer as it was.
 pub record Meets (c : Call) (r : Outcome) : Type 0 where
   pub number : r .number ≡ first (refusals c)
   pub len : r .len ≡ lengthBy c (r .number)
-  pub out : r .out ≡ cond (eqb (r .number) 0) (plain c ++ drop (length (plain c)) (c .buffer)) (c .buffer)
+  pub out : r .out ≡ cond (eqb (r .number) 0) (laid c ++ drop (length (laid c)) (c .buffer)) (c .buffer)
 
 -- an outcome by its number, as the public statement gives it
 byNumber : Call → ℕ → Outcome
-byNumber c n = record { number = n; len = lengthBy c n; out = cond (eqb n 0) (plain c ++ drop (length (plain c)) (c .buffer)) (c .buffer) }
+byNumber c n = record { number = n; len = lengthBy c n; out = cond (eqb n 0) (laid c ++ drop (length (laid c)) (c .buffer)) (c .buffer) }
 
 -- refusals that are tested before an outcome
 tried : Call → List (ℕ × Bool) → Outcome → Outcome
@@ -127,14 +127,14 @@ tried-is c (r ∷ rs) qs y e = step (r .1) (tried-is c rs qs y e)
 
 -- the last three
 unfolded : (c : Call) (o : Option Table) → left? c ≡ o
-    → written (c .buffer) o
-    ≡ byNumber c (cond (not (isSome o)) 8 (cond (tooBig (words? o)) 9 (cond (ltb (length (c .buffer)) (length (flat (words? o)))) 10 0)))
-unfolding written laidInto words? isSome lengthBy byNumber
+    → writtenIn (c .packing) (c .buffer) o
+    ≡ byNumber c (cond (not (isSome o)) 8 (cond (tooBig (words? (c .packing) o)) 9 (cond (ltb (length (c .buffer)) (length (flat (words? (c .packing) o)))) 10 0)))
+unfolding writtenIn laidInto words? isSome lengthBy byNumber
 unfolded c none e = refl
-unfolded c (some t) e = step (tooBig (tableWords t)) (ltb (length (c .buffer)) (length bs))
+unfolded c (some t) e = step (tooBig (wordsIn (c .packing) t)) (ltb (length (c .buffer)) (length bs))
   where
     bs : List ℕ
-    bs = flat (tableWords t)
+    bs = flat (wordsIn (c .packing) t)
 
     step : (b d : Bool) → cond b (refused (c .buffer) 9) (cond d (record { number = 10; len = length bs; out = c .buffer }) (record { number = 0; len = length bs; out = bs ++ drop (length bs) (c .buffer) })) ≡ byNumber c (cond b 9 (cond d 10 0))
     step true d = refl
@@ -146,7 +146,7 @@ answer-is : (c : Call) → answer c ≡ byNumber c (first (refusals c))
 unfolding refusals first lengthBy byNumber tried
 answer-is c =
     subset-is (c .kind) (c .form) (c .packing) (c .source) (c .glyphs) (c .lookups) (c .buffer)
-    ∙ tried-is c (take 10 (refusals c)) (drop 10 (refusals c)) (written (c .buffer) (left? c))
+    ∙ tried-is c (take 10 (refusals c)) (drop 10 (refusals c)) (writtenIn (c .packing) (c .buffer) (left? c))
     (rw (cut-survives (glyphMap c) (lookupMap c) (table (c .kind) (c .source))) at (unfolded c (left? c) refl))
 
 -- the call meets the public statement
@@ -279,25 +279,25 @@ module _ (c : Call) where
       step (some p) q = refl
 
   -- with 10 it is the length needed, and the buffer is shorter
-  pub no-room : (answer c) .number ≡ 10 → ((answer c) .len ≡ length (plain c)) × (length (c .buffer) < length (plain c))
+  pub no-room : (answer c) .number ≡ 10 → ((answer c) .len ≡ length (laid c)) × (length (c .buffer) < length (laid c))
   unfolding refusals lengthBy
   no-room h = (
     answer-meets c .len ∙ rw h,
-    ltb-true (length (c .buffer)) (length (plain c)) (given-exactly (take 12 (refusals c)) 10 (ltb (length (c .buffer)) (length (plain c))) [] refl .0 h .0),
+    ltb-true (length (c .buffer)) (length (laid c)) (given-exactly (take 12 (refusals c)) 10 (ltb (length (c .buffer)) (length (laid c))) [] refl .0 h .0),
   )
 
-  -- what is kept: its length is that of the plain layout, which is at most the limit and the buffer, and each word of it fits 16 bits
-  pub kept-length : (answer c) .number ≡ 0 → ((answer c) .len ≡ length (plain c)) × ((answer c) .len ≤ limit) × ((answer c) .len ≤ length (c .buffer)) × (wordsFit (plainWords c) ≡ true)
+  -- what is kept: its length is that of the layout, which is at most the limit and the buffer, and each word of it fits 16 bits
+  pub kept-length : (answer c) .number ≡ 0 → ((answer c) .len ≡ length (laid c)) × ((answer c) .len ≤ limit) × ((answer c) .len ≤ length (c .buffer)) × (wordsFit (laidWords c) ≡ true)
   unfolding refusals lengthBy
   kept-length h =
-      let l : (answer c) .len ≡ length (plain c) = answer-meets c .len ∙ rw h in
+      let l : (answer c) .len ≡ length (laid c) = answer-meets c .len ∙ rw h in
       let n = kept-exactly .0 h in
       let late = n .1 .1 .1 .1 .1 .1 .1 .1 .1 .1 .1 in
-      let f = big-fit (plainWords c) (late .0) in
-      (l, omega (arith, f .1), omega (arith, ltb-false (length (c .buffer)) (length (plain c)) (late .1 .0)), f .0)
+      let f = big-fit (laidWords c) (late .0) in
+      (l, omega (arith, f .1), omega (arith, ltb-false (length (c .buffer)) (length (laid c)) (late .1 .0)), f .0)
 
-  -- its bytes are the plain layout, and those past them keep their old content
-  pub kept-bytes : (answer c) .number ≡ 0 → (answer c) .out ≡ plain c ++ drop ((answer c) .len) (c .buffer)
+  -- its bytes are the layout, and those past them keep their old content
+  pub kept-bytes : (answer c) .number ≡ 0 → (answer c) .out ≡ laid c ++ drop ((answer c) .len) (c .buffer)
   kept-bytes h = answer-meets c .out ∙ rw (h, kept-length h .0)
 
   -- the buffer is as long as before, whatever the answer
@@ -307,7 +307,7 @@ module _ (c : Call) where
       step : (n : ℕ) → (answer c) .number ≡ n → length ((answer c) .out) ≡ length (c .buffer)
       step zero e =
           let k = kept-length e in
-          omega (arith, ap length (kept-bytes e), length-append (plain c) (drop ((answer c) .len) (c .buffer)), length-drop ((answer c) .len) (c .buffer))
+          omega (arith, ap length (kept-bytes e), length-append (laid c) (drop ((answer c) .len) (c .buffer)), length-drop ((answer c) .len) (c .buffer))
       step (suc n) e = ap length (refused-untouched (λ q. omega arith))
 
   -- where none of the refusals before it applies the number is 8 exactly if nothing survives
@@ -317,7 +317,7 @@ module _ (c : Call) where
       let r = h .1 .1 .1 .1 .1 in
       ap (λ (n : ℕ). eqb n 8) (answer-meets c .number)
       ∙ rw (h .0, h .1 .0, h .1 .1 .0, h .1 .1 .1 .0, h .1 .1 .1 .1 .0, r .0, r .1 .0, r .1 .1 .0, r .1 .1 .1 .0, r .1 .1 .1 .1 .0)
-      (step (survives (glyphMap c) (table (c .kind) (c .source))) (tooBig (plainWords c)) (ltb (length (c .buffer)) (length (plain c))))
+      (step (survives (glyphMap c) (table (c .kind) (c .source))) (tooBig (laidWords c)) (ltb (length (c .buffer)) (length (laid c))))
     where
       step : (t big short : Bool) → eqb (cond (not t) 8 (cond big 9 (cond short 10 0))) 8 ≡ not t
       step false big short = refl

@@ -11,7 +11,7 @@ use Rattle.meaning.specs.Maps.{goodLookups, goodForm, goodGlyphMap}
 use Rattle.meaning.specs.Tables.{table}
 use Rattle.meaning.specs.Fault.{fault}
 use Rattle.meaning.specs.Records.{recordsWithin}
-use Rattle.meaning.specs.Subset.{limit, goodKind, hasFormat, hasDevice, goodPacking, written}
+use Rattle.meaning.specs.Subset.{limit, goodKind, hasFormat, hasDevice, goodPacking, writtenIn}
 use Rattle.laws.specs.CallBack.{subset-is}
 use Rattle.promises.specs.Refusals.{Call, answer, left?, refusals, NoneOf, kept-exactly}
 
@@ -58,7 +58,7 @@ module _ (c : Call) where
       (n1, (n13, (n14, (n2, (n3, (n4, (n5, (n6, (n7, (n12, tt))))))))))
 
   -- a call that passes answers what is written of its cut
-  pub tested-gives : GoodSource (c .kind) (c .source) → GoodMaps c → answer c ≡ written (c .buffer) (left? c)
+  pub tested-gives : GoodSource (c .kind) (c .source) → GoodMaps c → answer c ≡ writtenIn (c .packing) (c .buffer) (left? c)
   tested-gives s m =
       subset-is (c .kind) (c .form) (c .packing) (c .source) (c .glyphs) (c .lookups) (c .buffer)
       ∙ rw (s .kind-good, m .form, m .packing, m .glyphs, m .lookups, s .not-long, s .has-format, s .sound, s .no-device, s .within)

@@ -5,12 +5,12 @@ use mathlib.Core.Option.{Option, none, some}
 use mathlib.Core.List.{List, [], _∷_}
 use lib.ListN.{length}
 use lib.Dec.{eqb}
-use Rattle.meaning.specs.Words.{word, inside, every, isSome}
+use Rattle.meaning.specs.Words.{word, inside, every, isSome, eqList}
 use Rattle.meaning.specs.Tables.{Table, dropNull, table}
 use Rattle.meaning.specs.Fault.{fault}
 use Rattle.meaning.specs.Records.{recordsWithin}
 use Rattle.meaning.specs.Subset.{limit, lastFormat, hasFormat}
-use Rattle.meaning.specs.Job.{long, partAt, bytesOf, eqList}
+use Rattle.meaning.specs.Job.{long, partAt, bytesOf}
 use Rattle.replaying.specs.Listed.{orElse, ifSome, entryAt, entriesFrom, listed, listLimit, goodEntry, goodList, sourceOf, lookupOf, lookupsOf, malformed, lookupRefusal, firstRefusal, namesBelow, ruleNames, setsName, recordsName, allNamed}
 use Rattle.replaying.specs.Trace.{Run, runsOf}
 use Rattle.replaying.specs.Applying.{run}

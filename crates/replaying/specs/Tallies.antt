@@ -8,8 +8,7 @@ use native.Mathlib.Omega.{arith}
 use lib.ListN.{length, getD, length-append}
 use lib.Dec.{eqb}
 use borrow.Author.Tests.{ne-eqb}
-use Rattle.meaning.specs.Words.{isSome}
-use Rattle.meaning.specs.Job.{eqList}
+use Rattle.meaning.specs.Words.{eqList, isSome}
 use Rattle.meaning.specs.Tables.{Table}
 use Rattle.replaying.specs.Trace.{Run, runsOf}
 use Rattle.replaying.specs.Listed.{ifSome, lookupsOf}

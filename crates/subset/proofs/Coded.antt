@@ -14,8 +14,8 @@ use Rattle.meaning.specs.Tables.{Table, table}
 use Rattle.meaning.specs.Fault.{fault}
 use Rattle.meaning.specs.Records.{recordsWithin}
 use Rattle.meaning.specs.Cut.{cut}
-use Rattle.meaning.specs.Layout.{wordsFit, tableWords}
-use Rattle.meaning.specs.Subset.{Outcome, refused, limit, goodKind, hasFormat, hasDevice, tooBig, laidInto, goodPacking, written, subset}
+use Rattle.meaning.specs.Layout.{wordsFit}
+use Rattle.meaning.specs.Subset.{Outcome, refused, limit, goodKind, hasFormat, hasDevice, tooBig, laidInto, goodPacking, wordsIn, writtenIn, subset}
 use Rattle.laws.specs.CallBack.{subset-is}
 use Rattle.checks.specs.Near.{place-near}
 use Rattle.subset.specs.Answers.{numberOf, lengthOf, outcome, decoded}
@@ -49,10 +49,10 @@ laid-short out ws = step (ltb limit (length bytes)) (not (wordsFit ws)) (ltb (le
     step false false true e = record { most = omega (arith, ltb-false limit (length bytes) e) }
     step false false false e = record { most = omega (arith, ltb-false limit (length bytes) e) }
 
-written-short : (out : List ℕ) (o : Option Table) → Short (written out o)
-unfolding written
-written-short out none = record { most = omega arith }
-written-short out (some t) = laid-short out (tableWords t)
+written-short : (layout : ℕ) (out : List ℕ) (o : Option Table) → Short (writtenIn layout out o)
+unfolding writtenIn
+written-short layout out none = record { most = omega arith }
+written-short layout out (some t) = laid-short out (wordsIn layout t)
 
 -- the length of a call on a source of bytes
 subset-short : (kind form layout : ℕ) (s g l out : List ℕ) → ((i : ℕ) → getD s i 0 < 256) → Short (subset kind form layout s g l out)
@@ -67,7 +67,7 @@ subset-short kind form layout s g l out bytes =
     (or-refused (inside s 0 2 && not (hasFormat kind (word s 0))) out 5
     (or-short (isSome (fault kind s)) (record { most = omega (arith, place-near s bytes kind) })
     (or-refused (eqb kind 4 && (hasDevice (word s 4) || hasDevice (word s 6))) out 7
-    (or-refused (not (recordsWithin (table kind s))) out 12 (written-short out (cut (glyphEntries form g) (mapEntries l) (table kind s)))))))))))))
+    (or-refused (not (recordsWithin (table kind s))) out 12 (written-short layout out (cut (glyphEntries form g) (mapEntries l) (table kind s)))))))))))))
 
 -- no number is over 14
 pub number-most : (a : Answer) → numberOf a ≤ 14

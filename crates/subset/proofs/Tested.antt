@@ -13,7 +13,7 @@ use Rattle.meaning.specs.Tables.{table}
 use Rattle.meaning.specs.Fault.{fault}
 use Rattle.meaning.specs.Records.{recordsWithin}
 use Rattle.meaning.specs.Cut.{cut}
-use Rattle.meaning.specs.Subset.{refused, limit, goodKind, hasFormat, hasDevice, goodPacking, written, subset}
+use Rattle.meaning.specs.Subset.{refused, limit, goodKind, hasFormat, hasDevice, goodPacking, writtenIn, subset}
 use Rattle.laws.specs.CallBack.{subset-is}
 use Rattle.glyph_runs.specs.Runs.{GlyphMap}
 use Rattle.room.specs.Laid.{outcomeOf}
@@ -97,5 +97,5 @@ module _ (kind form layout : ℕ) (s g l : List ℕ) (r : Judged) (j : Judges ki
 
 -- what was laid is the call's outcome
 pub cut-outcome : {kind form layout : ℕ} {s g l : List ℕ} → Passes kind form layout s g l → (out : List ℕ) (r : Laid) {x : Answer} {after : List ℕ}
-    → outcomeOf r after ≡ written out (cut (glyphEntries form g) (mapEntries l) (table kind s)) → x ≡ answerOf r → outcome x after ≡ subset kind form layout s g l out
+    → outcomeOf r after ≡ writtenIn layout out (cut (glyphEntries form g) (mapEntries l) (table kind s)) → x ≡ answerOf r → outcome x after ≡ subset kind form layout s g l out
 cut-outcome p out r {x} {after} i j = ap (λ (y : Answer). outcome y after) j ∙ same-outcome r after ∙ i ∙ p .outcomes out

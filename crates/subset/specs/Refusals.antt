@@ -5,7 +5,7 @@ use mathlib.Core.List.{List}
 use Rattle.meaning.specs.Maps.{mapEntries, glyphEntries}
 use Rattle.meaning.specs.Tables.{table}
 use Rattle.meaning.specs.Cut.{cut}
-use Rattle.meaning.specs.Subset.{written, subset}
+use Rattle.meaning.specs.Subset.{writtenIn, subset}
 use Rattle.cut.specs.Cutting as cutting
 use Rattle.subset.specs.Answers.{outcome}
 use Rattle.subset.specs.declared.Judged.{Judged}
@@ -14,7 +14,7 @@ use Rattle.subset.specs.declared.Judged.the-variants.{Refused, Sound}
 -- no test refuses: the source can be cut, and what comes of that is the call's outcome
 pub record Passes (kind form layout : ℕ) (s g l : List ℕ) : Type 0 where
   pub sound : cutting.Sound kind form s g l
-  pub outcomes : (out : List ℕ) → written out (cut (glyphEntries form g) (mapEntries l) (table kind s)) ≡ subset kind form layout s g l out
+  pub outcomes : (out : List ℕ) → writtenIn layout out (cut (glyphEntries form g) (mapEntries l) (table kind s)) ≡ subset kind form layout s g l out
 
 -- the answer that refuses is the call's, whatever the buffer; or no test refuses
 abbrev pub Judges : ℕ → ℕ → ℕ → List ℕ → List ℕ → List ℕ → Judged → Type 0

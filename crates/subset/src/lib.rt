@@ -6,6 +6,7 @@ use cut::cut_lent;
 use cut::cut_own;
 use maps::good_glyphs;
 use maps::good_lookups;
+use marks::Marks;
 use room::LIMIT;
 use room::Laid;
 use wire::Fault;
@@ -41,13 +42,6 @@ pub enum Answer {
     BadJob,
 }
 
-// What a call is marked with: the kind of its source, the form of its glyph map, and the layout that is asked for.
-pub struct Marks {
-    pub kind: usize,
-    pub form: usize,
-    pub layout: usize,
-}
-
 // What the tests before the cut say: the answer that refuses the call, or that the source is sound.
 pub enum Judged {
     Refused(Answer),
@@ -74,11 +68,11 @@ fn good_form(form: usize) -> bool
     form == 6
 }
 
-// Whether there is a layout with this mark: 0, the plain one.
+// Whether there is a layout with this mark: 0 plain, or 1 packed.
 fn good_layout(layout: usize) -> bool
     ensures { λ r. ⌜ r ≡ goodPacking layout ⌝ }
 {
-    layout == 0
+    layout <= 1
 }
 
 // Whether a source is over the limit.
@@ -165,7 +159,7 @@ pub fn subset(marks: Marks, source: &[u8], glyphs: &[u8], lookups: &[u8], out: &
     if let Judged::Refused(answer) = refusal(marks, source, glyphs, lookups) {
         return answer;
     }
-    answer_for(cut_own(marks.kind, source, glyphs, marks.form, lookups, out))
+    answer_for(cut_own(marks, source, glyphs, lookups, out))
 }
 
 // The same call with lent scratch, whatever it holds: 32-bit cells, and an area of bytes. Where it is too short our own is taken; with `cut::CELLS` cells and `cut::BYTES` bytes it never is.
@@ -183,16 +177,7 @@ pub fn subset_in(
     if let Judged::Refused(answer) = refusal(marks, source, glyphs, lookups) {
         return answer;
     }
-    answer_for(cut_lent(
-        marks.kind,
-        source,
-        glyphs,
-        marks.form,
-        lookups,
-        cells,
-        area,
-        out,
-    ))
+    answer_for(cut_lent(marks, source, glyphs, lookups, cells, area, out))
 }
 
 // The number of an answer in documents 01 and 02.

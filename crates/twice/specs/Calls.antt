@@ -9,35 +9,19 @@ use lib.ListN.{length, drop}
 use lib.Seq.{take-at}
 use lib.Dec.{ltb, eqb}
 use borrow.Author.Tests.{le-ltb, eqb-true, not-false}
-use Rattle.meaning.specs.Words.{word, inside, bytes2, flat, isSome, bind}
+use Rattle.meaning.specs.Words.{word, inside, flat, isSome, bind}
 use Rattle.meaning.specs.Parts.{coverage, classes}
 use Rattle.meaning.specs.Tables.{Table, Pair, table, pairTable, reach, reaches, pairSet, cellRows, fieldCount}
 use Rattle.meaning.specs.Fault.{fault}
 use Rattle.meaning.specs.Cut.{cut, cutPairs, keptSets, keptPairs, newFormat, newSecond, classMap, coveredMap, secondMap, keptRows, keptClassPairs}
-use Rattle.meaning.specs.Layout.{setsLayout, coversLayout, cellsLayout, coverLayout, tableWords}
-use Rattle.meaning.specs.Subset.{Outcome, left, refused, limit, lastFormat, hasFormat, hasDevice, tooBig, laidInto, written}
+use Rattle.meaning.specs.Subset.{Outcome, left, refused, limit, hasFormat, hasDevice, tooBig, laidInto, wordsIn, writtenIn}
 use Rattle.laws.specs.Through.{Opt}
-use Rattle.laws.specs.ReadsBack.{kindOf, table-pairs}
+use Rattle.laws.specs.ReadsBack.{table-pairs}
 use Rattle.laws.specs.CutGood.{GoodOf, format-small, second-small}
-use Rattle.laws.specs.CallBack.{no-fault, left-good}
-use Rattle.promises.specs.Refusals.{Call, answer, glyphMap, lookupMap, words?, plainWords, plain, refusals, kept-exactly, kept-length, kept-bytes}
+use Rattle.laws.specs.CallBack.{no-fault, left-good, first-format}
+use Rattle.promises.specs.Refusals.{Call, answer, glyphMap, lookupMap, words?, laidWords, laid, refusals, kept-exactly, kept-length, kept-bytes}
 use Rattle.promises.specs.Tested.{GoodSource, tests, kept-tested}
 use Rattle.promises.specs.Promises.{BytesOf, small-says, reads-back, small-within}
-
--- a layout begins with its table's format, which is one that its kind has
-first-format : (t : Table) → hasFormat (kindOf t) (word (flat (tableWords t)) 0) ≡ true
-unfolding kindOf hasFormat lastFormat word bytes2 flat setsLayout coversLayout cellsLayout coverLayout tableWords
-first-format (Table.by-glyph false cover sets) = refl
-first-format (Table.by-glyph true cover sets) = refl
-first-format (Table.by-class false cover b i a sets) = refl
-first-format (Table.by-class true cover b i a sets) = refl
-first-format (Table.by-cover false b i a rs) = refl
-first-format (Table.by-cover true b i a rs) = refl
-first-format (Table.ligatures cover sets) = refl
-first-format (Table.pairs-of cover f1 f2 sets) = refl
-first-format (Table.class-pairs cover first second f1 f2 n rows) = refl
-first-format (Table.single-delta cover d) = refl
-first-format (Table.single-list cover subs) = refl
 
 -- No value format of what is cut of pairs has a bit of 0x00F0.
 NoDevice : Table → Type 0
@@ -111,19 +95,19 @@ left-no-device g l kind s u is = go (eqb kind 4) refl
         says-no-device u (subst (Opt NoDevice) is′ (cut-no-device g l s))
 
 -- what is written of a table that is not too big, into a buffer that has room for it
-written-fits : (t : Table) (buffer : List ℕ) → tooBig (tableWords t) ≡ false → length (flat (tableWords t)) ≤ length buffer
-    → written buffer (some t) ≡ record { number = 0; len = length (flat (tableWords t)); out = flat (tableWords t) ++ drop (length (flat (tableWords t))) buffer }
-unfolding written laidInto
-written-fits t buffer big room = rw (big, le-ltb (length buffer) (length (flat (tableWords t))) room)
+written-fits : (packing : ℕ) (t : Table) (buffer : List ℕ) → tooBig (wordsIn packing t) ≡ false → length (flat (wordsIn packing t)) ≤ length buffer
+    → writtenIn packing buffer (some t) ≡ record { number = 0; len = length (flat (wordsIn packing t)); out = flat (wordsIn packing t) ++ drop (length (flat (wordsIn packing t))) buffer }
+unfolding writtenIn laidInto
+written-fits packing t buffer big room = rw (big, le-ltb (length buffer) (length (flat (wordsIn packing t))) room)
 
 -- what is refused for what it is, as empty or too big, is refused so into any buffer
-pub refused-anywhere : (out out′ : List ℕ) (o : Option Table) (n : ℕ) → 0 < n → n < 10 → (written out o) .number ≡ n → (written out′ o) .number ≡ n
-unfolding written laidInto
-refused-anywhere out out′ none n low high h = h
-refused-anywhere out out′ (some t) n low high h = go (tooBig (tableWords t)) (ltb (length out) (length bs)) (ltb (length out′) (length bs)) h
+pub refused-anywhere : (packing : ℕ) (out out′ : List ℕ) (o : Option Table) (n : ℕ) → 0 < n → n < 10 → (writtenIn packing out o) .number ≡ n → (writtenIn packing out′ o) .number ≡ n
+unfolding writtenIn laidInto
+refused-anywhere packing out out′ none n low high h = h
+refused-anywhere packing out out′ (some t) n low high h = go (tooBig (wordsIn packing t)) (ltb (length out) (length bs)) (ltb (length out′) (length bs)) h
   where
     bs : List ℕ
-    bs = flat (tableWords t)
+    bs = flat (wordsIn packing t)
 
     -- what is written, by whether it is too big and whether there is no room for it
     at : List ℕ → Bool → Bool → Outcome
@@ -134,18 +118,18 @@ refused-anywhere out out′ (some t) n low high h = go (tooBig (tableWords t)) (
     go false true short′ h = absurd (omega arith)
     go false false short′ h = absurd (omega arith)
 
--- the bytes that a kept call leaves are its plain layout
-pub left-plain : (c : Call) → (answer c) .number ≡ 0 → left (answer c) ≡ plain c
-left-plain c kept = rw (kept-bytes c kept) (take-at (plain c) (drop ((answer c) .len) (c .buffer)) ((answer c) .len) (sym (kept-length c kept .0)))
+-- the bytes that a kept call leaves are the layout that it asks for
+pub left-laid : (c : Call) → (answer c) .number ≡ 0 → left (answer c) ≡ laid c
+left-laid c kept = rw (kept-bytes c kept) (take-at (laid c) (drop ((answer c) .len) (c .buffer)) ((answer c) .len) (sym (kept-length c kept .0)))
 
 module _ (c : Call) (bytes : BytesOf c) (kept : (answer c) .number ≡ 0) where
   -- the words of its layout are those of the table that its bytes say
-  words-left : plainWords c ≡ tableWords (small-says c)
+  words-left : laidWords c ≡ wordsIn (c .packing) (small-says c)
   unfolding words?
-  words-left = ap words? (reads-back c bytes kept .0)
+  words-left = ap (words? (c .packing)) (reads-back c bytes kept .0)
 
-  bytes-left : left (answer c) ≡ flat (tableWords (small-says c))
-  bytes-left = left-plain c kept ∙ ap flat words-left
+  bytes-left : left (answer c) ≡ flat (wordsIn (c .packing) (small-says c))
+  bytes-left = left-laid c kept ∙ ap flat words-left
 
   pub left-kind : GoodOf (c .kind) (small-says c)
   left-kind =
@@ -160,9 +144,9 @@ module _ (c : Call) (bytes : BytesOf c) (kept : (answer c) .number ≡ 0) where
       let u = left (answer c) in
       record {
         kind-good = tests c (kept-tested c kept) .0 .kind-good;
-        not-long = le-ltb limit (length u) (omega (arith, kept-length c kept .0, kept-length c kept .1, ap length (left-plain c kept)));
+        not-long = le-ltb limit (length u) (omega (arith, kept-length c kept .0, kept-length c kept .1, ap length (left-laid c kept)));
         has-format = no-other (inside u 0 2) (hasFormat (c .kind) (word u 0))
-            (subst (λ (s : List ℕ). hasFormat (c .kind) (word s 0) ≡ true) (sym bytes-left) (subst (λ (k : ℕ). hasFormat k (word (flat (tableWords (small-says c))) 0) ≡ true) (left-kind .1) (first-format (small-says c))));
+            (subst (λ (s : List ℕ). hasFormat (c .kind) (word s 0) ≡ true) (sym bytes-left) (subst (λ (k : ℕ). hasFormat k (word (flat (wordsIn (c .packing) (small-says c))) 0) ≡ true) (left-kind .1) (first-format (c .packing) (small-says c))));
         sound = ap isSome (reads-back c bytes kept .1);
         no-device = left-no-device (glyphMap c) (lookupMap c) (c .kind) (c .source) u (reads-back c bytes kept .0);
         within = ap not (small-within c bytes kept);
@@ -174,9 +158,9 @@ module _ (c : Call) (bytes : BytesOf c) (kept : (answer c) .number ≡ 0) where
 
   -- what it leaves, written into any buffer that has room for it
   pub left-fits : (buffer : List ℕ) → length (left (answer c)) ≤ length buffer
-      → written buffer (some (small-says c)) ≡ record { number = 0; len = length (left (answer c)); out = left (answer c) ++ drop (length (left (answer c))) buffer }
+      → writtenIn (c .packing) buffer (some (small-says c)) ≡ record { number = 0; len = length (left (answer c)); out = left (answer c) ++ drop (length (left (answer c))) buffer }
   unfolding refusals
   left-fits buffer room =
       let (n1, (n13, (n14, (n2, (n3, (n4, (n5, (n6, (n7, (n12, (n8, (n9, late)))))))))))) = kept-exactly c .0 kept in
-      subst (λ (s : List ℕ). written buffer (some (small-says c)) ≡ record { number = 0; len = length s; out = s ++ drop (length s) buffer }) (sym bytes-left)
-      (written-fits (small-says c) buffer (subst (λ (ws : List ℕ). tooBig ws ≡ false) words-left n9) (subst (λ (s : List ℕ). length s ≤ length buffer) bytes-left room))
+      subst (λ (s : List ℕ). writtenIn (c .packing) buffer (some (small-says c)) ≡ record { number = 0; len = length s; out = s ++ drop (length s) buffer }) (sym bytes-left)
+      (written-fits (c .packing) (small-says c) buffer (subst (λ (ws : List ℕ). tooBig ws ≡ false) words-left n9) (subst (λ (s : List ℕ). length s ≤ length buffer) bytes-left room))

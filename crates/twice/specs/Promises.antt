@@ -1,4 +1,5 @@
--- Request 6, cutting twice: every statement in one place, each with its words above it.
+-- Request 6, cutting twice: every statement in one place, each with its words above it. The request is about the plain layout, mark 0;
+-- the statements hold of the packed one too, if the two cuts that are compared are for one layout. The first cut of two may be in the other.
 -- A reader who believes the definitions of `meaning` needs `Call`, `answer`, `glyphMap`, `lookupMap`, `BytesOf`, `says`, `small-says`, `GoodMaps` and `asRuns` of `promises`, and of this crate what stands here and in Definitions.antt.
 use Prim.Native.Nat.{ℕ, _≤_, _<_}
 use mathlib.Core.Path.{_≡_, refl, sym, ap, _∙_}
@@ -12,7 +13,7 @@ use Rattle.meaning.specs.Words.{flat, ascends, keys, values, member, bind}
 use Rattle.meaning.specs.Maps.{mapEntries, goodLookups, goodForm, glyphEntries, goodGlyphMap}
 use Rattle.meaning.specs.Tables.{Table}
 use Rattle.meaning.specs.Cut.{cut}
-use Rattle.meaning.specs.Subset.{Outcome, left, written}
+use Rattle.meaning.specs.Subset.{Outcome, left, writtenIn}
 use Rattle.laws.specs.Stands.{All, all-map, Word}
 use Rattle.laws.specs.Runs.{up-ascends}
 use Rattle.laws.specs.Ascends.{lookups-ascend}
@@ -31,7 +32,7 @@ use Rattle.twice.specs.Cuts as Cuts
 use Rattle.twice.specs.Identity.{cut-same}
 use Rattle.twice.specs.Written.{glyphs-written, runs-written, combined-good, combined-lookups, same-good}
 use Rattle.twice.specs.Lookups.{good-names, own-good, own-identity, own-all}
-use Rattle.twice.specs.Calls.{refused-anywhere, left-plain, left-kind, left-source, left-fits}
+use Rattle.twice.specs.Calls.{refused-anywhere, left-laid, left-kind, left-source, left-fits}
 use Rattle.twice.specs.Cases.{Done, doubles, done, stated, each-double, first, again, again-runs, each-again, beyond, beyond-single, differs, without-lookups, record-lost}
 
 -- `cases`: worked cases, by computation: the combined maps, and the answers of the second call and of the single one.
@@ -82,8 +83,9 @@ pub record Follows (c : Call) (d : Cut) : Type 0 where
   pub good : GoodMaps (second c d)
   pub within : Within (glyphMap c) (glyphMap (second c d))
 
--- e combines the first call and d: its marks and maps are good, the glyph map in either form, and the maps say what is combined of what those two say
+-- e combines the first call and d: its marks and maps are good, the glyph map in either form, it is for d's layout, and the maps say what is combined of what those two say
 pub record Combines (c : Call) (d e : Cut) : Type 0 where
+  pub layout : e .packing ≡ d .packing
   pub good : GoodMaps (single c e)
   pub glyphs : glyphMap (single c e) ≡ combined (glyphMap c) (glyphMap (second c d))
   pub lookups : lookupMap (single c e) ≡ combined (lookupMap c) (lookupMap (second c d))
@@ -126,7 +128,7 @@ module _ (c : Call) (bytes : BytesOf c) (first-kept : (answer c) .number ≡ 0) 
     combines-by : (form : ℕ) (m : List ℕ) → goodForm form ≡ true → (glyphEntries form m ≡ combined (glyphMap c) (glyphMap (second c d))) × (goodGlyphMap form m ≡ true)
         → Combines c d (record { form = form; packing = d .packing; glyphs = m; lookups = combinedLookups (c .lookups) (d .lookups); buffer = d .buffer })
     combines-by form m f w =
-        record { good = record { form = f; packing = follows .good .packing; glyphs = w .1; lookups = both-lookups .1 }; glyphs = w .0; lookups = both-lookups .0 }
+        record { layout = refl; good = record { form = f; packing = follows .good .packing; glyphs = w .1; lookups = both-lookups .1 }; glyphs = w .0; lookups = both-lookups .0 }
 
     -- `combined-as-pairs`, `combined-as-runs`: the combined maps, written down as bytes, are good maps and say what is combined: the glyph map as pairs, and as runs.
     pub combined-as-pairs : Combines c d (combinedCut c d)
@@ -147,23 +149,25 @@ module _ (c : Call) (bytes : BytesOf c) (first-kept : (answer c) .number ≡ 0) 
           (tables (glyphMap c) (glyphMap (second c d)) (lookupMap c) (lookupMap (second c d)) old-ascend new-ascend new-words
           (up-ascends 0 (keys (glyphMap (second c d))) (second-map .old)) (lookups-ascend (c .lookups) (passed .1 .lookups)) (follows .within) (says c))
 
-      second-gives : answer (second c d) ≡ written (d .buffer) (left? (single c e))
-      second-gives = tested-gives (second c d) (left-source c bytes first-kept) (follows .good) ∙ ap (written (d .buffer)) left-same
+      second-gives : answer (second c d) ≡ writtenIn (d .packing) (d .buffer) (left? (single c e))
+      second-gives = tested-gives (second c d) (left-source c bytes first-kept) (follows .good) ∙ ap (writtenIn (d .packing) (d .buffer)) left-same
 
-      single-gives : answer (single c e) ≡ written (e .buffer) (left? (single c e))
-      single-gives = tested-gives (single c e) (passed .0) (combines .good)
+      single-gives : answer (single c e) ≡ writtenIn (d .packing) (e .buffer) (left? (single c e))
+      single-gives = tested-gives (single c e) (passed .0) (combines .good) ∙ ap (λ (packing : ℕ). writtenIn packing (e .buffer) (left? (single c e))) (combines .layout)
 
       -- `cut-twice`: where the first call is kept, the second call on the bytes that it leaves and the single call by the combined maps, in buffers with the same content, give the same:
       -- number, length and buffer. So with room both times the bytes are the same, and if the second is empty or too big, so is the single one.
       pub cut-twice : e .buffer ≡ d .buffer → answer (second c d) ≡ answer (single c e)
-      cut-twice b = second-gives ∙ ap (λ (out : List ℕ). written out (left? (single c e))) (sym b) ∙ sym single-gives
+      cut-twice b = second-gives ∙ ap (λ (out : List ℕ). writtenIn (d .packing) out (left? (single c e))) (sym b) ∙ sym single-gives
 
       -- Its parts, whatever the two buffers are: the same bytes, where both are kept;
       pub same-bytes : (answer (second c d)) .number ≡ 0 → (answer (single c e)) .number ≡ 0 → left (answer (second c d)) ≡ left (answer (single c e))
-      same-bytes k k′ = left-plain (second c d) k ∙ ap (λ (o : Option Table). flat (words? o)) left-same ∙ sym (left-plain (single c e) k′)
+      same-bytes k k′ =
+          left-laid (second c d) k ∙ ap (λ (o : Option Table). flat (words? (d .packing) o)) left-same ∙ ap (λ (packing : ℕ). flat (words? packing (left? (single c e)))) (sym (combines .layout))
+          ∙ sym (left-laid (single c e) k′)
 
       refused-too : (n : ℕ) → 0 < n → n < 10 → (answer (second c d)) .number ≡ n → (answer (single c e)) .number ≡ n
-      refused-too n low high h = rw single-gives (refused-anywhere (d .buffer) (e .buffer) (left? (single c e)) n low high (rw second-gives at h))
+      refused-too n low high h = rw single-gives (refused-anywhere (d .packing) (d .buffer) (e .buffer) (left? (single c e)) n low high (rw second-gives at h))
 
       -- if the second is empty, so is the single one; if it is too big, so is the single one.
       pub empty-too : (answer (second c d)) .number ≡ 8 → (answer (single c e)) .number ≡ 8
@@ -175,8 +179,9 @@ module _ (c : Call) (bytes : BytesOf c) (first-kept : (answer c) .number ≡ 0) 
   -- The identity.
 
   -- d is the identity over what the first call leaves: its marks and maps are good; its glyph map, in either form, takes just the new ids of the first one, each to itself;
-  -- its lookup map is an identity that has each lookup of the table that is left
+  -- its lookup map is an identity that has each lookup of the table that is left; and it is for the first call's layout
   pub record ByIdentity (d : Cut) : Type 0 where
+    pub layout : d .packing ≡ c .packing
     pub good : GoodMaps (second c d)
     pub glyphs : glyphMap (second c d) ≡ same (values (glyphMap c))
     pub lookups : Identity (lookupMap (second c d))
@@ -191,7 +196,7 @@ module _ (c : Call) (bytes : BytesOf c) (first-kept : (answer c) .number ≡ 0) 
       (says c) (small-says c) (reads-back c bytes first-kept .0) (lookupMap (second c d)) (is .lookups) (is .each)
       in
       tested-gives (second c d) (left-source c bytes first-kept) (is .good)
-      ∙ ap (written (d .buffer)) (rw (is .glyphs) e)
+      ∙ ap (λ (packing : ℕ). writtenIn packing (d .buffer) (left? (second c d))) (is .layout) ∙ ap (writtenIn (c .packing) (d .buffer)) (rw (is .glyphs) e)
       ∙ left-fits c bytes first-kept (d .buffer) room
 
   -- So it is kept, and leaves the bytes that the first call left.
@@ -209,6 +214,7 @@ module _ (c : Call) (bytes : BytesOf c) (first-kept : (answer c) .number ≡ 0) 
   identity-by form m buffer f w =
       let n = good-names (small-says c) (left-kind c bytes first-kept .0) in
       record {
+        layout = refl;
         good = record { form = f; packing = passed .1 .packing; glyphs = w .1; lookups = own-good (small-says c) n };
         glyphs = w .0;
         lookups = own-identity (small-says c) n;

@@ -2,7 +2,7 @@
 // Each is made three times: what is kept on a buffer that is one byte short, on one that is exact and on one that is longer, what has no room on three that are too short,
 // and any other refusal on an empty, a small and a large buffer.
 // Number, length and the whole buffer are compared.
-use subset::Marks;
+use marks::Marks;
 use subset::length_of;
 use subset::number_of;
 use subset::subset;
@@ -16,13 +16,19 @@ ghost use Prim.Native.Nat.{_≤_, _<_};
 ghost use lib.ListN.{length};
 
 // The most bytes of stored calls.
-const FILE: usize = 200000;
+const FILE: usize = 262144;
 
-// The bytes before the parts of a stored call: the kind, the form of the glyph map, the number of the answer, the lengths of source, glyph map and lookup map, and the length that comes with the answer.
-const HEADER: usize = 14;
+// The bytes before the parts of a stored call: the kind, the form of the glyph map, the layout, the number of the answer, the lengths of source, glyph map and lookup map, and the length that comes with the answer.
+const HEADER: usize = 16;
 
 // The form of the glyph maps that are made here.
 const PAIRS: usize = 4;
+
+// The layout in which no part is shared.
+const PLAIN: usize = 0;
+
+// The layout in which equal blocks are written once.
+const PACKED: usize = 1;
 
 // How often each call is made.
 const TIMES: usize = 3;
@@ -218,42 +224,43 @@ fn verdict(label: &[u8], n: usize, good: usize) -> usize
 
 // How many kept bytes a stored call has: none where it is refused.
 fn kept_len(file: &[u8], at: usize) -> usize
-    requires { ⌜ at ≤ 200000 ⌝ }
+    requires { ⌜ at ≤ 262144 ⌝ }
     ensures { λ r. ⌜ r < 65536 ⌝ }
 {
-    if word_at(file, at + 4) != 0 {
+    if word_at(file, at + 6) != 0 {
         return 0;
     }
-    word_at(file, at + 12)
+    word_at(file, at + 14)
+}
+
+// The marks of a call.
+fn marked(kind: usize, form: usize, layout: usize) -> Marks {
+    Marks { kind, form, layout }
 }
 
 // The marks of a call for the plain layout.
 fn plain(kind: usize, form: usize) -> Marks {
-    Marks {
-        kind,
-        form,
-        layout: 0,
-    }
+    marked(kind, form, PLAIN)
 }
 
 // How many agree of the calls of a stored call, which is the one of this index.
 fn stored(index: usize, call: &[u8]) -> usize
     ensures { λ r. ⌜ r ≤ 3 ⌝ }
 {
-    let glyphs = HEADER + word_at(call, 6);
-    let lookups = glyphs + word_at(call, 8);
-    let kept = lookups + word_at(call, 10);
+    let glyphs = HEADER + word_at(call, 8);
+    let lookups = glyphs + word_at(call, 10);
+    let kept = lookups + word_at(call, 12);
     let end = kept + kept_len(call, 0);
     if call.len() < end {
         return 0;
     }
     let good = calls(
-        plain(word_at(call, 0), word_at(call, 2)),
+        marked(word_at(call, 0), word_at(call, 2), word_at(call, 4)),
         &call[HEADER..glyphs],
         &call[glyphs..lookups],
         &call[lookups..kept],
-        word_at(call, 4),
-        word_at(call, 12),
+        word_at(call, 6),
+        word_at(call, 14),
         &call[kept..end],
     );
     verdict(b"stored call ", index, good)
@@ -261,10 +268,10 @@ fn stored(index: usize, call: &[u8]) -> usize
 
 // The bytes of the stored call at `at`.
 fn call_size(file: &[u8], at: usize) -> usize
-    requires { ⌜ at ≤ 200000 ⌝ }
-    ensures { λ r. ⌜ (14 ≤ r) × (r ≤ 300000) ⌝ }
+    requires { ⌜ at ≤ 262144 ⌝ }
+    ensures { λ r. ⌜ (16 ≤ r) × (r ≤ 300000) ⌝ }
 {
-    let parts = word_at(file, at + 6) + word_at(file, at + 8) + word_at(file, at + 10);
+    let parts = word_at(file, at + 8) + word_at(file, at + 10) + word_at(file, at + 12);
     HEADER + parts + kept_len(file, at)
 }
 
@@ -285,7 +292,7 @@ fn cut_short() {
 
 // Runs the stored calls, and prints how many of these and of those that were made before agreed.
 fn run(file: &[u8], made: usize, good: usize)
-    requires { ⌜ (length (now file) ≤ 200000) × (made ≤ 65536) × (good ≤ made) ⌝ }
+    requires { ⌜ (length (now file) ≤ 262144) × (made ≤ 65536) × (good ≤ made) ⌝ }
 {
     let mut at = 0;
     let mut index = 0;
@@ -376,17 +383,24 @@ fn put_map(out: &mut [u8], n: usize)
     }
 }
 
-// A context of format 3 at `places` places, each of `n` glyphs, that share one coverage.
-fn put_source(out: &mut [u8], places: usize, n: usize)
-    requires { ⌜ (places ≤ 65536) × (n ≤ 16384) ⌝ }
+// A context of format 3 at `places` places, each of `n` glyphs from `first` on, that share one coverage.
+fn put_shared(out: &mut [u8], places: usize, n: usize, first: usize)
+    requires { ⌜ (places ≤ 65536) × (n ≤ 16384) × (first ≤ 65536) ⌝ }
 {
     let at = 6 + 2 * places;
     put_record(out, 0, 3, places, 0);
     put_offsets(out, places, at, 0);
-    put_cover(out, at, n, 1);
+    put_cover(out, at, n, first);
 }
 
-// What is kept of it: each place has a coverage of its own, of the new glyphs.
+// Such a source, of old glyphs.
+fn put_source(out: &mut [u8], places: usize, n: usize)
+    requires { ⌜ (places ≤ 65536) × (n ≤ 16384) ⌝ }
+{
+    put_shared(out, places, n, 1);
+}
+
+// What the plain layout keeps of it: each place has a coverage of its own, of the new glyphs.
 fn put_result(out: &mut [u8], places: usize, n: usize)
     requires { ⌜ (places ≤ 65536) × (n ≤ 16384) ⌝ }
 {
@@ -420,6 +434,20 @@ fn higher_offset() -> usize
     put_map(&mut glyphs, 1);
     let good = refused_calls(plain(1, PAIRS), &source, &glyphs, b"", 9, 0);
     verdict(b"a coverage at ", 65536, good)
+}
+
+// How many agree of the calls whose packed layout has one coverage for these 8,192 places.
+fn packed_coverage() -> usize
+    ensures { λ r. ⌜ r ≤ 3 ⌝ }
+{
+    let mut source = [0u8; 16396];
+    put_source(&mut source, 8192, 1);
+    let mut glyphs = [0u8; 4];
+    put_map(&mut glyphs, 1);
+    let mut kept = [0u8; 16396];
+    put_shared(&mut kept, 8192, 1, 2);
+    let good = kept_calls(marked(1, PAIRS, PACKED), &source, &glyphs, b"", &kept);
+    verdict(b"places with one coverage: ", 8192, good)
 }
 
 // How many agree of the calls on 9,000 covered glyphs.
@@ -611,11 +639,11 @@ fn large_tables() -> usize
 
 // How many agree of the calls at the limits.
 fn limits() -> usize
-    ensures { λ r. ⌜ r ≤ 42 ⌝ }
+    ensures { λ r. ⌜ r ≤ 45 ⌝ }
 {
     let contexts = sources(1) + sources(2);
     let others = sources(3) + sources(4) + sources(5);
-    let offsets = highest_offset() + higher_offset();
+    let offsets = highest_offset() + higher_offset() + packed_coverage();
     contexts + others + offsets + most_substitutes() + more_substitutes()
 }
 
@@ -623,5 +651,5 @@ fn main() {
     let good = limits() + large_tables();
     let mut file = [0u8; FILE];
     let n = io::read_full(0, &mut file);
-    run(&file[..n], 17 * TIMES, good);
+    run(&file[..n], 18 * TIMES, good);
 }

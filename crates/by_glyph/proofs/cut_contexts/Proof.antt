@@ -13,7 +13,7 @@ word-inside-requires : tie.Need-word-inside-requires
 word-inside-requires c κs = omega (arith, header-inside _ 4 _ _ (c .before .before .before .before .before .before .pre .0))
 
 returns : tie.Need-returns
-returns c = written-none _ (rules-null _ _ _ _ (sym (c .before .word-inside .ensures .0) ∙ c .if1 .taken))
+returns c = written-none _ _ (rules-null _ _ _ _ (sym (c .before .word-inside .ensures .0) ∙ c .if1 .taken))
 
 returns-2 : tie.Need-returns-2
 returns-2 c = (omega (arith, glyphs-no-room (c .before .before .before .before .lay-glyphs .ensures) (c .if2 .taken)), refl)
@@ -37,7 +37,7 @@ returns-4 c =
     let g = glyphs-stand l (c .before .before .before .before .before .before .before .before .before .before .before .before .before .before .before .before .before .if2 .left) (a .pre .2) n in
     let bs = bytes-all (a .args .src .now) (λ i. omega (arith, c .before .before .before .before .before .before .before .before .before .before .before .before .before .before .before .before .before .before .before .before .before .before .before .before .before .before .before .before .before .before .shared-slice-known .given i)) in
     let bl = bytes-all (a .args .lookups .now) (λ i. omega (arith, c .before .before .before .before .before .before .before .before .before .before .before .before .before .before .before .before .before .before .before .before .before .before .before .before .before .before .before .before .shared-slice-known3 .given i)) in
-    two-answered l _ (rules-fit (a .args .src .now) bs (a .pre .2) (a .args .chained) (a .args .lookups .now) bl (a .pre .0)) (rules-cut _ _ _ g _ g g (n .holds (c .before .before .before .before .before .before .before .before .before .before .if3 .left)) (a .args .chained) (λ z. c .before .before .before .before .before .before .before .before .before .before .before .before .before .before .before .before .before .before .before .before .before .before .before .if1 .left (c .before .before .before .before .before .before .before .before .before .before .before .before .before .before .before .before .before .before .before .before .before .before .before .before .word-inside .ensures .0 ∙ z)) (rules-asked _ (λ i. omega (arith, c .before .before .before .before .before .before .before .before .before .before .before .before .before .before .before .before .before .before .before .before .before .before .before .before .before .before .before .before .before .before .shared-slice-known .given i)) (a .pre .1) (a .args .chained) (a .pre .0))) n (a .pre .3) (c .before .before .before .before .before .before .cut-sets .ensures)
+    two-answered l (a .args .marks .layout) _ (rules-fit (a .args .src .now) bs (a .pre .2) (a .args .marks .layout) (a .args .chained) (a .args .lookups .now) bl (a .pre .0)) (rules-cut _ _ _ g _ g g (n .holds (c .before .before .before .before .before .before .before .before .before .before .if3 .left)) (a .args .chained) (a .args .marks .layout) (λ z. c .before .before .before .before .before .before .before .before .before .before .before .before .before .before .before .before .before .before .before .before .before .before .before .if1 .left (c .before .before .before .before .before .before .before .before .before .before .before .before .before .before .before .before .before .before .before .before .before .before .before .before .word-inside .ensures .0 ∙ z)) (rules-asked _ (λ i. omega (arith, c .before .before .before .before .before .before .before .before .before .before .before .before .before .before .before .before .before .before .before .before .before .before .before .before .before .before .before .before .before .before .shared-slice-known .given i)) (a .pre .1) (a .args .chained) (a .pre .0))) n (a .pre .3) (c .before .before .before .before .before .before .cut-sets .ensures)
 
 pub cut-contexts-spec : {M : Type 1} → statement M
 cut-contexts-spec =

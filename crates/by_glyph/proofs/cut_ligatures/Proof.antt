@@ -13,7 +13,7 @@ word-inside-requires : tie.Need-word-inside-requires
 word-inside-requires c κs = omega (arith, header-inside _ 4 _ _ (c .before .before .before .before .before .pre .0))
 
 returns : tie.Need-returns
-returns c = written-none _ (ligatures-null _ _ _ (sym (c .before .word-inside .ensures .0) ∙ c .if1 .taken))
+returns c = written-none _ _ (ligatures-null _ _ _ (sym (c .before .word-inside .ensures .0) ∙ c .if1 .taken))
 
 returns-2 : tie.Need-returns-2
 returns-2 c = (omega (arith, glyphs-no-room (c .before .before .before .before .lay-glyphs .ensures) (c .if2 .taken)), refl)
@@ -28,7 +28,7 @@ returns-3 c =
     let a = c .before .before .before .before .before .before .before .before .before .before .before .before .before .before .before .before .before .before .before .before .before .before .before in
     let l = c .before .before .before .before .before .before .before .before .before .before .before .before .before .before .lay-glyphs .ensures in
     let bs = bytes-all (a .args .src .now) (λ i. omega (arith, c .before .before .before .before .before .before .before .before .before .before .before .before .before .before .before .before .before .before .before .before .before .before .shared-slice-known .given i)) in
-    one-answered l _ (ligatures-fit (a .args .src .now) bs (a .pre .2) (a .pre .0)) (ligatures-cut _ _ _ (l .holds (c .before .before .before .before .before .before .before .before .before .before .if2 .left)) (λ z. c .before .before .before .before .before .before .before .before .before .before .before .before .before .before .before .before .if1 .left (c .before .before .before .before .before .before .before .before .before .before .before .before .before .before .before .before .before .word-inside .ensures .0 ∙ z)) (ligatures-asked _ (λ i. omega (arith, c .before .before .before .before .before .before .before .before .before .before .before .before .before .before .before .before .before .before .before .before .before .before .shared-slice-known .given i)) (a .pre .1) (a .pre .0))) (c .before .before .before .before .before .before .cut-sets .ensures)
+    one-answered l (a .args .marks .layout) _ (ligatures-fit (a .args .src .now) bs (a .pre .2) (a .args .marks .layout) (a .pre .0)) (ligatures-cut _ _ _ (l .holds (c .before .before .before .before .before .before .before .before .before .before .if2 .left)) (λ z. c .before .before .before .before .before .before .before .before .before .before .before .before .before .before .before .before .if1 .left (c .before .before .before .before .before .before .before .before .before .before .before .before .before .before .before .before .before .word-inside .ensures .0 ∙ z)) (a .args .marks .layout) (ligatures-asked _ (λ i. omega (arith, c .before .before .before .before .before .before .before .before .before .before .before .before .before .before .before .before .before .before .before .before .before .before .shared-slice-known .given i)) (a .pre .1) (a .pre .0))) (c .before .before .before .before .before .before .cut-sets .ensures)
 
 pub cut-ligatures-spec : {M : Type 1} → statement M
 cut-ligatures-spec =

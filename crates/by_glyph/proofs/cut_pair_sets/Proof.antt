@@ -1,6 +1,7 @@
 use mathlib.Core.Path.{refl}
 use native.Mathlib.Omega.{arith}
 use borrow.Author.Needs.{needs}
+use Rattle.laws.specs.SoundGood.{bytes-all}
 use Rattle.by_glyph.proofs.Asking.{may-count, may-meet, may-write, pairs-answered}
 use Rattle.by_glyph.proofs.cut_pair_sets.Statement.{statement}
 use Rattle.by_glyph.proofs.cut_pair_sets.Tie as tie
@@ -21,7 +22,7 @@ meet-requires c κs =
 write-pair-table-requires : tie.Need-write-pair-table-requires
 write-pair-table-requires c κs =
     let a = c .before .before .before .before .before .before .before .before .before .before .before .before .before .before .before .before in
-    (may-write (a .pre .0) (a .pre .1) (a .pre .3) (c .before .before .before .before .before .before .before .before .before .before .word-inside .ensures .0) (c .before .before .before .before .before .meet .ensures), a .pre .2)
+    (may-write (a .pre .0) (a .pre .1) (a .pre .3) (c .before .before .before .before .before .before .before .before .before .before .word-inside .ensures .0) (c .before .before .before .before .before .meet .ensures) (bytes-all (a .args .src .now) (λ i. omega (arith, c .before .before .before .before .before .before .before .before .before .before .before .before .before .before .before .shared-slice-known .given i))), a .pre .2)
 
 returns-2 : tie.Need-returns-2
 returns-2 c =

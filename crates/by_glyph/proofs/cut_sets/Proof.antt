@@ -1,6 +1,8 @@
 use mathlib.Core.Path.{refl, ap}
 use native.Mathlib.Omega.{arith}
+use lib.Dec.{eqb}
 use borrow.Author.Needs.{needs}
+use Rattle.laws.specs.SoundGood.{bytes-all}
 use Rattle.kept_table.specs.Table.{tableOf}
 use Rattle.kept_table.specs.Answers.{answered-said}
 use Rattle.kept_sets.specs.Sorts.{told-none}
@@ -22,27 +24,27 @@ meet-requires c κs =
     may-meet (a .pre .0) (a .pre .1) (a .pre .3) (c .before .before .before .before .word-inside .ensures .0) (c .before .before .most .ensures) (c .before .if1 .left)
 
 rem-write-shared : tie.Need-rem-write-shared
-rem-write-shared c = omega (arith, form-some (c .before .before .before .before .before .before .before .before .before .before .before .before .before .before .before .before .before .pre .1 .map))
+rem-write-shared c = omega (arith, form-some (c .before .before .before .before .before .before .before .before .before .before .before .before .before .before .before .before .before .before .pre .1 .map))
 
 write-shared-requires : tie.Need-write-shared-requires
 write-shared-requires c κs =
-    let a = c .before .before .before .before .before .before .before .before .before .before .before .before .before .before .before .before .before .before .before in
-    (may-write (a .pre .0) (a .pre .1) (a .pre .3) (c .before .before .before .before .before .before .before .before .before .before .before .before .before .word-inside .ensures .0) (c .before .before .before .before .before .before .before .before .meet .ensures), a .pre .2, a .pre .4)
+    let a = c .before .before .before .before .before .before .before .before .before .before .before .before .before .before .before .before .before .before .before .before in
+    (may-write (a .pre .0) (a .pre .1) (a .pre .3) (c .before .before .before .before .before .before .before .before .before .before .before .before .before .before .word-inside .ensures .0) (c .before .before .before .before .before .before .before .before .before .meet .ensures) (bytes-all (a .args .src .now) (λ i. omega (arith, c .before .before .before .before .before .before .before .before .before .before .before .before .before .before .before .before .before .before .before .shared-slice-known .given i))), a .pre .2, a .pre .4)
 
 returns-2 : tie.Need-returns-2
 returns-2 c =
-    let a = c .before .before .before .before .before .before .before .before .before .before .before .before .before .before .before .before .before .before .before .before .before .before .before .before .before .before in
-    answered-said (λ n. absurd n) (ap (tableOf (a .args .sort)) (kept-said (a .pre .0) (a .pre .1) (a .pre .3) (c .before .before .before .before .before .before .before .before .before .before .before .before .before .before .before .before .before .before .before .before .word-inside .ensures .0) (c .before .before .before .before .before .before .before .before .before .before .before .before .before .before .before .meet .ensures))) (c .before .before .before .before .before .before .write-shared .ensures)
+    let a = c .before .before .before .before .before .before .before .before .before .before .before .before .before .before .before .before .before .before .before .before .before .before .before .before .before .before .before in
+    answered-said (λ n. absurd n) (ap (tableOf (eqb (a .args .marks .layout) 1) (a .args .sort)) (kept-said (a .pre .0) (a .pre .1) (a .pre .3) (c .before .before .before .before .before .before .before .before .before .before .before .before .before .before .before .before .before .before .before .before .before .word-inside .ensures .0) (c .before .before .before .before .before .before .before .before .before .before .before .before .before .before .before .before .meet .ensures))) (c .before .before .before .before .before .before .write-shared .ensures)
 
 write-table-requires : tie.Need-write-table-requires
 write-table-requires c κs =
     let a = c .before .before .before .before .before .before .before .before .before .before .before .before .before .before .before .before .before .before .before .before in
-    (may-write (a .pre .0) (a .pre .1) (a .pre .3) (c .before .before .before .before .before .before .before .before .before .before .before .before .before .before .word-inside .ensures .0) (c .before .before .before .before .before .before .before .before .before .meet .ensures), a .pre .2, told-none (a .args .sort) 1 (a .pre .4))
+    (may-write (a .pre .0) (a .pre .1) (a .pre .3) (c .before .before .before .before .before .before .before .before .before .before .before .before .before .before .word-inside .ensures .0) (c .before .before .before .before .before .before .before .before .before .meet .ensures) (bytes-all (a .args .src .now) (λ i. omega (arith, c .before .before .before .before .before .before .before .before .before .before .before .before .before .before .before .before .before .before .before .shared-slice-known .given i))), a .pre .2, told-none (a .args .sort) 1 (a .pre .4))
 
 returns-3 : tie.Need-returns-3
 returns-3 c =
     let a = c .before .before .before .before .before .before .before .before .before .before .before .before .before .before .before .before .before .before .before .before .before .before .before .before .before .before .before .before in
-    answered-said (λ n. absurd n) (ap (tableOf (a .args .sort)) (kept-said (a .pre .0) (a .pre .1) (a .pre .3) (c .before .before .before .before .before .before .before .before .before .before .before .before .before .before .before .before .before .before .before .before .before .before .word-inside .ensures .0) (c .before .before .before .before .before .before .before .before .before .before .before .before .before .before .before .before .before .meet .ensures))) (c .before .before .before .before .before .before .before .write-table .ensures)
+    answered-said (λ n. absurd n) (ap (tableOf (eqb (a .args .marks .layout) 1) (a .args .sort)) (kept-said (a .pre .0) (a .pre .1) (a .pre .3) (c .before .before .before .before .before .before .before .before .before .before .before .before .before .before .before .before .before .before .before .before .before .before .word-inside .ensures .0) (c .before .before .before .before .before .before .before .before .before .before .before .before .before .before .before .before .before .meet .ensures))) (c .before .before .before .before .before .before .before .write-table .ensures)
 
 pub cut-sets-spec : {M : Type 1} → statement M
 cut-sets-spec =

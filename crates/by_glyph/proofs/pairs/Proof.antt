@@ -3,7 +3,7 @@ use native.Mathlib.Omega.{arith}
 use borrow.Author.Needs.{needs}
 use Rattle.meaning.specs.Maps.{glyphEntries}
 use Rattle.meaning.specs.Cut.{cut}
-use Rattle.meaning.specs.Subset.{written}
+use Rattle.meaning.specs.Subset.{writtenIn}
 use Rattle.by_glyph.specs.Whole.{front-length, front-tries}
 use Rattle.by_glyph.specs.PairTables.{pairTable}
 use Rattle.by_glyph.proofs.pairs.Statement.{statement}
@@ -22,7 +22,7 @@ returns : tie.Need-returns
 returns c =
     let r = c .before .before .before .before .before .before in
     let a = c .before .before .before .before .before .before .before .before .before .before .before .before .before .before .before .before .args in
-    front-tries (a .area .now) (c .before .before .before .before .before .before .before .before .before .before .least .ensures) _ (r .cut-pairs .result) (a .out .now) _ (written (a .out .now) (cut (glyphEntries (a .form) (a .glyphs .now)) [] (pairTable (a .src .now)))) (r .cut-pairs .ensures)
+    front-tries (a .area .now) (c .before .before .before .before .before .before .before .before .before .before .least .ensures) _ (r .cut-pairs .result) (a .out .now) _ (writtenIn (a .marks .layout) (a .out .now) (cut (glyphEntries (a .marks .form) (a .glyphs .now)) [] (pairTable (a .src .now)))) (r .cut-pairs .ensures)
 
 pub pairs-spec : {M : Type 1} → statement M
 pairs-spec =

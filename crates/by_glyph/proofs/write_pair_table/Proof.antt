@@ -1,4 +1,8 @@
-use Rattle.by_glyph.specs.PairTables.{ready-pairs}
+use native.Mathlib.Omega.{arith}
+use Rattle.laws.specs.SoundGood.{bytes-all}
+use Rattle.kept_sets.specs.declared.Sort.the-variants.{Pairs}
+use Rattle.by_glyph.specs.PairTables.{oneMap, ready-pairs}
+use Rattle.by_glyph.proofs.Smallness.{small-left}
 use Rattle.by_glyph.proofs.Asking.{asks-formats, puts-length, told-new}
 use borrow.Author.Needs.{needs}
 use Rattle.by_glyph.proofs.write_pair_table.Statement.{statement}
@@ -14,7 +18,8 @@ write-table-requires : tie.Need-write-table-requires
 write-table-requires c κs =
     let a = c .before .before .before .before .before .before .before .before .before .before .before .before .before in
     let n = c .before .before .before .before .before .before .before in
-    (ready-pairs (a .args .src .now) (n .new-formats .result) (n .new-formats .ensures .f1) (n .new-formats .ensures .f2) (a .pre .0), a .pre .1, told-new (n .new-formats .ensures) (c .before .before .before .before .before .kept-places .ensures .0))
+    let b = bytes-all (a .args .src .now) (λ i. omega (arith, c .before .before .before .before .before .before .before .before .before .before .before .before .shared-slice-known .given i)) in
+    (ready-pairs (a .args .src .now) (n .new-formats .result) (n .new-formats .ensures .f1) (n .new-formats .ensures .f2) (small-left (Pairs (n .new-formats .result)) (a .args .src .now) b (a .args .t .now) (oneMap (a .args .g))) (a .pre .0), a .pre .1, told-new (n .new-formats .ensures) (c .before .before .before .before .before .kept-places .ensures .0))
 
 returns : tie.Need-returns
 returns c =

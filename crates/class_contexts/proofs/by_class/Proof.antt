@@ -2,7 +2,7 @@ use Rattle.class_contexts.proofs.Entry.{front-length, front-tries}
 use Rattle.meaning.specs.Maps.{mapEntries, glyphEntries}
 use Rattle.meaning.specs.Tables.{classContext}
 use Rattle.meaning.specs.Cut.{cut}
-use Rattle.meaning.specs.Subset.{written}
+use Rattle.meaning.specs.Subset.{writtenIn}
 use native.Mathlib.Omega.{arith}
 use borrow.Author.Needs.{needs}
 use Rattle.class_contexts.proofs.by_class.Statement.{statement}
@@ -24,7 +24,7 @@ cut-in-requires c κs = let a = c .before .before .before .before .before .befor
 returns : tie.Need-returns
 returns c = let r = c .before .before .before .before .before .before in
     let a = c .before .before .before .before .before .before .before .before .before .before .before .before .before .before .before .before .before .before .args in
-    front-tries (a .t .now) (a .area .now) (r .cut-in .result) (a .out .now) (r .cut-in .last .1 .1 .1 .1 .1 .1 .1 .0) (written (a .out .now) (cut (glyphEntries (a .form) (a .glyphs .now)) (mapEntries (a .lookups .now)) (classContext (a .chained) (a .src .now))))
+    front-tries (a .t .now) (a .area .now) (r .cut-in .result) (a .out .now) (r .cut-in .last .1 .1 .1 .1 .1 .1 .1 .0) (writtenIn (a .marks .layout) (a .out .now) (cut (glyphEntries (a .marks .form) (a .glyphs .now)) (mapEntries (a .lookups .now)) (classContext (a .chained) (a .src .now))))
     (c .before .before .before .before .before .before .before .before .before .before .before .least .ensures) (c .before .before .before .before .before .before .before .before .before .before .least2 .ensures) (r .cut-in .ensures)
 
 pub by-class-spec : {M : Type 1} → statement M

@@ -9,10 +9,10 @@ use Rattle.class_contexts.proofs.cut_in.Statement.{statement}
 use Rattle.class_contexts.proofs.cut_in.Tie as tie
 
 returns : tie.Need-returns
-returns c = not-covered (c .before .before .before .before .before .before .before .before .args .chained) (c .before .before .before .before .before .before .before .before .args .src .now) (glyphEntries (c .before .before .before .before .before .before .before .before .args .form) (c .before .before .before .before .before .before .before .before .args .glyphs .now)) (mapEntries (c .before .before .before .before .before .before .before .before .args .lookups .now)) (c .before .before .before .before .before .before .before .before .args .out .now) (sym (c .before .word-at .ensures .0) ∙ c .if1 .taken)
+returns c = not-covered (c .before .before .before .before .before .before .before .before .args .chained) (c .before .before .before .before .before .before .before .before .args .src .now) (glyphEntries (c .before .before .before .before .before .before .before .before .args .marks .form) (c .before .before .before .before .before .before .before .before .args .glyphs .now)) (mapEntries (c .before .before .before .before .before .before .before .before .args .lookups .now)) (c .before .before .before .before .before .before .before .before .args .marks .layout) (c .before .before .before .before .before .before .before .before .args .out .now) (sym (c .before .word-at .ensures .0) ∙ c .if1 .taken)
 
 returns-2 : tie.Need-returns-2
-returns-2 c = not-classed (c .before .before .before .before .before .before .before .before .before .before .args .chained) (c .before .before .before .before .before .before .before .before .before .before .args .src .now) (glyphEntries (c .before .before .before .before .before .before .before .before .before .before .args .form) (c .before .before .before .before .before .before .before .before .before .before .args .glyphs .now)) (mapEntries (c .before .before .before .before .before .before .before .before .before .before .args .lookups .now)) (c .before .before .before .before .before .before .before .before .before .before .args .out .now) (sym (c .before .input-at .ensures) ∙ c .if2 .taken)
+returns-2 c = not-classed (c .before .before .before .before .before .before .before .before .before .before .args .chained) (c .before .before .before .before .before .before .before .before .before .before .args .src .now) (glyphEntries (c .before .before .before .before .before .before .before .before .before .before .args .marks .form) (c .before .before .before .before .before .before .before .before .before .before .args .glyphs .now)) (mapEntries (c .before .before .before .before .before .before .before .before .before .before .args .lookups .now)) (c .before .before .before .before .before .before .before .before .before .before .args .marks .layout) (c .before .before .before .before .before .before .before .before .before .before .args .out .now) (sym (c .before .input-at .ensures) ∙ c .if2 .taken)
 
 returns-3 : tie.Need-returns-3
 returns-3 c = (few-lookups (c .before .before .before .before .before .before .before .before .before .before .before .before .before .before .before .before .pre .0) (c .before .before .before .before .lay .ensures) (c .if3 .taken), refl)

@@ -1,3 +1,4 @@
+use Rattle.repeats.specs.Book.{packs}
 use Rattle.class_slots.specs.Sets.{slots-near}
 use Rattle.class_layouts.proofs.Finishing.{tail-places, finish-table}
 use native.Mathlib.Omega.{arith}
@@ -5,20 +6,21 @@ use borrow.Author.Needs.{needs}
 use Rattle.class_layouts.proofs.finish.Statement.{statement}
 use Rattle.class_layouts.proofs.finish.Tie as tie
 
-settle-requires : tie.Need-settle-requires
-settle-requires c κs = let p = c .before .before .before .before .pre in
-    (omega (arith, p .few, p .start, p .room, c .before .slots-at .ensures), omega (arith, p .few, p .low, c .before .slots-at .ensures, slots-near (c .before .before .before .before .args .chained)))
+settle-slots-requires : tie.Need-settle-slots-requires
+settle-slots-requires c κs =
+    let p = c .before .before .before .before .before .pre .0 in
+    (omega (arith, p .few, p .start, p .room, c .before .slots-at .ensures), omega (arith, p .few, p .low, c .before .slots-at .ensures, slots-near (c .before .before .before .before .before .args .chained)))
 
 write-tail-requires : tie.Need-write-tail-requires
-write-tail-requires c κs = let p = c .before .before .before .before .before .before .before .before .before .before .before .before .pre in
-    let q = tail-places p (c .before .before .before .before .before .before .before .before .before .slots-at .ensures) (c .before .before .before .before .before .before .before .settle .ensures) (c .before .before .before .put .ensures .1) in
-    (p .tail-in, q, omega (arith, p .room, q .inside))
+write-tail-requires c κs =
+    let p = c .before .before .before .before .before .before .before .before .before .before .before .before .before .before in
+    (p .pre .0 .tail-in, tail-places (packs (p .args .book .now)) (p .pre .0) (c .before .before .before .before .before .before .before .before .before .before .slots-at .ensures) (c .before .before .before .before .before .before .before .before .settle-slots .ensures) (c .before .before .before .before .put .ensures .1), p .pre .1)
 
 sub-put : tie.Need-sub-put
-sub-put c = omega (arith, c .before .before .before .before .before .before .before .before .before .before .before .before .before .slots-at .ensures, slots-near (c .before .before .before .before .before .before .before .before .before .before .before .before .before .before .before .before .args .chained))
+sub-put c = omega (arith, c .before .before .before .before .before .before .before .before .before .before .before .before .before .before .before .before .slots-at .ensures, slots-near (c .before .before .before .before .before .before .before .before .before .before .before .before .before .before .before .before .before .before .before .before .args .chained))
 
 returns : tie.Need-returns
-returns c = finish-table (c .before .before .before .before .before .before .before .before .before .before .before .before .before .before .before .before .before .before .before .pre) (c .before .before .before .before .before .before .before .before .before .before .before .before .before .before .before .before .slots-at .ensures) (c .before .before .before .before .before .before .before .before .before .before .before .before .before .before .settle .ensures) (c .before .before .before .before .before .before .before .before .before .before .put .ensures .1) (c .before .before .before .before .before .before .write-tail .ensures) (c .before .before .put2 .ensures .1)
+returns c = finish-table (packs (c .before .before .before .before .before .before .before .before .before .before .before .before .before .before .before .before .before .before .before .before .before .before .before .args .book .now)) (c .before .before .before .before .before .before .before .before .before .before .before .before .before .before .before .before .before .before .before .before .before .before .before .pre .0) (c .before .before .before .before .before .before .before .before .before .before .before .before .before .before .before .before .before .before .before .slots-at .ensures) (c .before .before .before .before .before .before .before .before .before .before .before .before .before .before .before .before .before .settle-slots .ensures) (c .before .before .before .before .before .before .before .before .before .before .before .before .before .put .ensures .1) (c .before .before .before .before .before .before .before .before .write-tail .ensures) (c .before .before .put2 .ensures .1)
 
 pub finish-spec : {M : Type 1} → statement M
 finish-spec =
@@ -27,12 +29,13 @@ finish-spec =
     (λ c κs. search needs)
     (λ c. search needs)
     (λ c. search needs)
-    settle-requires
+    settle-slots-requires
     (λ c κs. search needs)
     (λ c. search needs)
     (λ c. search needs)
     write-tail-requires
     sub-put
     (λ c κs. search needs)
+    (λ c. search needs)
     (λ c. search needs)
     returns)

@@ -1,31 +1,33 @@
-use Rattle.class_layouts.proofs.Laying.{places-next, tables-plain, tables-chained}
-use borrow.Author.Tests.{not-true, not-false}
+use Rattle.class_slots.specs.Sets.{slots-near}
+use Rattle.class_layouts.proofs.Finishing.{tail-many}
+use Rattle.class_layouts.proofs.Laying.{tables-laid}
 use native.Mathlib.Omega.{arith}
 use borrow.Author.Needs.{needs}
 use Rattle.class_layouts.proofs.write_tables.Statement.{statement}
 use Rattle.class_layouts.proofs.write_tables.Tie as tie
 
+sub-n : tie.Need-sub-n
+sub-n c = omega (arith, c .slots-at .ensures, slots-near (c .before .before .before .before .before .before .before .before .before .before .before .args .chained))
+
+settle-slots-requires : tie.Need-settle-slots-requires
+settle-slots-requires c κs =
+    let a = c .before .before .before .before .before .before .before .before .before .before .before .before .pre .1 in
+    (omega (arith, a .places .before, a .places .room, c .before .before .before .before .before .before .note-tables .ensures .same, c .before .slots-at .ensures, slots-near (c .before .before .before .before .before .before .before .before .before .before .before .before .args .chained)), omega (arith, a .low))
+
 returns : tie.Need-returns
-returns c = tables-plain (c .before .before .before .before .before .before .before .args .t .now) (c .before .before .before .before .before .before .before .args .tail) (c .before .before .before .before .before .before .before .pre .1) (c .before .before .write-table .ensures) (c .before .before .before .before .before .before .before .args .chained) (not-true _ (c .before .before .before .before .if1 .taken))
-
-write-table-requires-3 : tie.Need-write-table-requires-3
-write-table-requires-3 c κs = (c .before .before .before .before .before .before .before .before .pre .0 .input, places-next 6 1 (c .before .before .before .before .before .before .before .before .pre .1) (c .before .before .before .write-table2 .ensures) (omega arith))
-
-write-table-requires-4 : tie.Need-write-table-requires-4
-write-table-requires-4 c κs = (c .before .before .before .before .before .before .before .before .before .before .before .before .pre .0 .ahead, places-next 8 1 (places-next 6 2 (c .before .before .before .before .before .before .before .before .before .before .before .before .pre .1) (c .before .before .before .before .before .before .before .write-table2 .ensures) (omega arith)) (c .before .before .before .write-table3 .ensures) (omega arith))
-
-returns-2 : tie.Need-returns-2
-returns-2 c = tables-chained (c .before .before .before .before .before .before .before .before .before .before .before .before .before .before .before .args .t .now) (c .before .before .before .before .before .before .before .before .before .before .before .before .before .before .before .args .tail) (c .before .before .before .before .before .before .before .before .before .before .before .before .before .before .before .pre .1) (c .before .before .before .before .before .before .before .before .before .before .write-table2 .ensures) (c .before .before .before .before .before .before .write-table3 .ensures) (c .before .before .write-table4 .ensures) (c .before .before .before .before .before .before .before .before .before .before .before .before .before .before .before .args .chained) (not-false _ (c .before .before .before .before .before .before .before .before .before .before .before .before .if1 .left))
+returns c =
+    let a = c .before .before .before .before .before .before .before .before .before .before .before .before .before .before .before .args in
+    tables-laid (a .chained) (a .t .now) (a .tail) (c .before .before .before .before .before .before .before .before .before .before .before .before .before .before .before .pre .1) (c .before .before .before .before .before .before .before .before .before .note-tables .ensures) (omega (arith, c .before .before .before .before .slots-at .ensures, tail-many (a .chained) (a .t .now) (a .tail))) (c .before .before .settle-slots .ensures)
 
 pub write-tables-spec : {M : Type 1} → statement M
 write-tables-spec =
     tie.close
     (tie.spec
     (λ c κs. search needs)
-    (λ c. search needs)
-    returns
     (λ c κs. search needs)
-    write-table-requires-3
-    write-table-requires-4
+    sub-n
     (λ c. search needs)
-    returns-2)
+    settle-slots-requires
+    (λ c. search needs)
+    (λ c. search needs)
+    returns)

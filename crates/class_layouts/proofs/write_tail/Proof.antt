@@ -1,21 +1,23 @@
-use Rattle.class_layouts.proofs.Laying.{lays-past, places-next, cover-laid, tail-laid}
+use Rattle.repeats.specs.Book.{packs}
+use Rattle.class_layouts.proofs.Laying.{tail-past, cover-over, tables-asked, tail-laid}
 use native.Mathlib.Omega.{arith}
 use borrow.Author.Needs.{needs}
 use Rattle.class_layouts.proofs.write_tail.Statement.{statement}
 use Rattle.class_layouts.proofs.write_tail.Tie as tie
 
 returns : tie.Need-returns
-returns c = lays-past _ _ (c .before .before .if1 .taken) (c .over .ensures)
+returns c = tail-past _ (c .before .before .before .before .before .before .args .chained) (c .before .before .before .before .before .before .pre .0) (c .before .before .before .before .before .before .pre .1) (c .before .before .if1 .taken) (c .over .ensures)
+
+returns-2 : tie.Need-returns-2
+returns-2 c = cover-over _ (c .before .before .before .before .before .before .before .before .before .before .before .before .before .args .chained) (c .before .before .before .before .before .before .before .before .before .before .before .before .before .pre .0) (c .before .before .before .before .before .before .before .before .before .before .before .before .before .pre .1) (omega (arith, c .before .before .before .before .before .before .before .before .before .if1 .left)) (c .before .before .before .before .before .before .before .put .ensures .1) (c .before .before .before .write-cover .ensures) (c .if2 .taken)
 
 write-tables-requires : tie.Need-write-tables-requires
 write-tables-requires c κs =
-    let a = c .before .before .before .before .before .before .before .before .before .before .before .before in
-    (a .pre .0, places-next 4 3 (a .pre .1) (cover-laid (a .args .t .now) (a .args .tail) (a .pre .0) (omega (arith, c .before .before .before .before .before .before .before .before .before .if1 .left)) (c .before .before .before .before .before .before .before .put .ensures .1) (c .before .before .before .write-cover .ensures)) (omega arith))
-
-returns-2 : tie.Need-returns-2
-returns-2 c =
     let a = c .before .before .before .before .before .before .before .before .before .before .before .before .before .before .before in
-    tail-laid (a .args .chained) (a .args .t .now) (a .args .tail) (a .pre .0) (omega (arith, c .before .before .before .before .before .before .before .before .before .before .before .before .if1 .left)) (a .pre .1) (c .before .before .before .before .before .before .before .before .before .before .put .ensures .1) (c .before .before .before .before .before .before .write-cover .ensures) (c .before .before .write-tables .ensures)
+    (a .pre .0, tables-asked (packs (a .args .book .now)) (a .args .chained) (a .pre .0) (a .pre .1) (omega (arith, c .before .before .before .before .before .before .before .before .before .before .before .if1 .left)) (c .before .before .before .before .before .before .before .before .before .put .ensures .1) (c .before .before .before .before .before .write-cover .ensures) (c .before .before .if2 .left) (a .pre .2))
+
+returns-3 : tie.Need-returns-3
+returns-3 c = tail-laid _ (c .before .before .before .before .before .before .before .before .before .before .before .before .before .before .before .before .before .before .before .before .args .chained) (c .before .before .before .before .before .before .before .before .before .before .before .before .before .before .before .before .before .before .before .before .pre .0) (c .before .before .before .before .before .before .before .before .before .before .before .before .before .before .before .before .before .before .before .before .pre .1) (omega (arith, c .before .before .before .before .before .before .before .before .before .before .before .before .before .before .before .before .if1 .left)) (c .before .before .before .before .before .before .before .before .before .before .before .before .before .before .put .ensures .1) (c .before .before .before .before .before .before .before .before .before .before .write-cover .ensures) (c .before .before .before .before .before .before .before .if2 .left) (c .before .before .before .before .write-tables .ensures)
 
 pub write-tail-spec : {M : Type 1} → statement M
 write-tail-spec =
@@ -28,6 +30,9 @@ write-tail-spec =
     (λ c. search needs)
     (λ c κs. search needs)
     (λ c κs. search needs)
+    (λ c. search needs)
+    returns-2
     write-tables-requires
     (λ c. search needs)
-    returns-2)
+    (λ c. search needs)
+    returns-3)

@@ -14,7 +14,7 @@ word-inside-requires c κs = search needs
 returns : tie.Need-returns
 returns c =
     let a = c .before .before .before .before .args in
-    place-past (a .src .now) (a .slots) (a .t .now) (a .marks) (a .class) (omega (arith, c .before .word-inside .ensures))
+    (place-past (a .src .now) (a .slots) (a .t .now) (a .marks) (a .class) (omega (arith, c .before .word-inside .ensures)), omega arith)
 
 add-if2 : tie.Need-add-if2
 add-if2 c = search needs
@@ -32,7 +32,7 @@ returns-2 : tie.Need-returns-2
 returns-2 c =
     let i = c .before .before .before in
     let a = i .before .before .before .before .args in
-    place-unmarked (a .src .now) (a .slots) (a .t .now) (a .marks) (a .class) (omega (arith, i .before .word-inside .ensures, i .if1 .left)) (c .if2 .taken)
+    (place-unmarked (a .src .now) (a .slots) (a .t .now) (a .marks) (a .class) (omega (arith, i .before .word-inside .ensures, i .if1 .left)) (c .if2 .taken), omega arith)
 
 mul-word-inside : tie.Need-mul-word-inside
 mul-word-inside c = search needs
@@ -47,7 +47,7 @@ returns-3 : tie.Need-returns-3
 returns-3 c =
     let i = c .before .before .before .before in
     let a = i .before .before .before .before .args in
-    place-there (a .src .now) (a .slots) (a .t .now) (a .marks) (a .class) (omega (arith, i .before .word-inside .ensures, i .if1 .left)) (c .before .if2 .left) (c .word-inside2 .ensures .0)
+    (place-there (a .src .now) (a .slots) (a .t .now) (a .marks) (a .class) (omega (arith, i .before .word-inside .ensures, i .if1 .left)) (c .before .if2 .left) (c .word-inside2 .ensures .0), c .word-inside2 .ensures .1)
 
 pub set-place-spec : {M : Type 1} → statement M
 set-place-spec =

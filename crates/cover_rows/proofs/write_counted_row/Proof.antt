@@ -1,9 +1,4 @@
-use mathlib.Core.Path.{ap, _∙_}
-use Prim.Native.Nat.{_-_}
-use lib.ListN.{length}
-use lib.Seq.{length-sets}
-use Rattle.meaning.specs.Words.{bytes2}
-use Rattle.cover_rows.proofs.Rows.{writes-same}
+use Rattle.cover_rows.proofs.Rows.{counted-asks}
 use Rattle.cover_rows.proofs.Lays.{laid-said}
 use borrow.Author.Needs.{needs}
 use Rattle.cover_rows.proofs.write_counted_row.Statement.{statement}
@@ -11,12 +6,12 @@ use Rattle.cover_rows.proofs.write_counted_row.Tie as tie
 
 write-row-requires : tie.Need-write-row-requires
 write-row-requires c κs =
-    let a = c .before .before .before .before .before .before .before .before .before .before .before in
-    writes-same (a .pre .0) (ap length (c .before .before .before .before .put .ensures .1) ∙ length-sets (a .args .area .now) (a .args .row .at - 2) (bytes2 (a .args .row .len)))
+    let a = c .before .before .before .before .before .before .before .before .before .before .before .before .before in
+    counted-asks (a .pre .0) (a .pre .1) (c .before .before .before .before .before .put .ensures .1)
 
 returns : tie.Need-returns
-returns c = laid-said (c .before .before .before .before .before .before .before .before .before .put .ensures .1) (c .before .before .before .before .write-row .ensures)
+returns c = laid-said (c .before .before .before .before .before .before .before .before .before .before .before .before .put .ensures .1) (c .before .before .before .before .before .before .write-row .ensures)
 
 pub write-counted-row-spec : {M : Type 1} → statement M
 write-counted-row-spec =
-    tie.close (tie.spec (λ c. search needs) (λ c κs. search needs) write-row-requires (λ c. search needs) (λ c. search needs) returns)
+    tie.close (tie.spec (λ c. search needs) (λ c κs. search needs) write-row-requires (λ c. search needs) (λ c. search needs) (λ c. search needs) returns)

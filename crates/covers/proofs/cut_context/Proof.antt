@@ -13,11 +13,11 @@ add-if2 c = omega (arith, c .before .before .before .before .before .cover-parts
 returns-2 : tie.Need-returns-2
 returns-2 c = cut-short (c .before .before .before .before .before .before .before .before .before .before .before .before .pre) (c .before .before .before .before .before .before .cover-parts .ensures) (c .before .before .before .before .most-notes .ensures) (c .if2 .taken)
 
-write-context-requires : tie.Need-write-context-requires
-write-context-requires c κs = cut-asks (c .before .before .before .before .before .before .before .before .before .before .before .before .before .before .pre) (c .before .before .before .before .before .before .before .before .cover-parts .ensures) (c .before .before .before .before .before .before .most-notes .ensures) (c .before .before .before .before .before .if1 .left) (c .before .before .if2 .left)
+write-in-requires : tie.Need-write-in-requires
+write-in-requires c κs = cut-asks (c .before .before .before .before .before .before .before .before .before .before .before .before .before .before .pre) (c .before .before .before .before .before .before .before .before .cover-parts .ensures) (c .before .before .before .before .before .before .most-notes .ensures) (c .before .before .before .before .before .if1 .left) (c .before .before .if2 .left)
 
 returns-3 : tie.Need-returns-3
-returns-3 c = cut-into (c .before .before .before .before .before .before .before .before .before .before .before .before .before .before .before .before .before .before .before .before .before .before .before .before .pre) (c .before .before .before .before .before .before .before .before .before .before .before .before .before .before .before .before .before .before .cover-parts .ensures) (c .before .before .before .before .before .before .before .before .before .before .before .before .before .before .before .before .most-notes .ensures) (c .before .before .before .before .before .before .before .before .before .write-context .ensures) (c .before .before .settle .ensures)
+returns-3 c = cut-into (c .before .before .before .before .before .before .before .before .before .before .before .before .before .before .before .before .before .before .before .before .before .before .before .before .pre) (c .before .before .before .before .before .before .before .before .before .before .before .before .before .before .before .before .before .before .cover-parts .ensures) (c .before .before .before .before .before .before .before .before .before .before .before .before .before .before .before .before .most-notes .ensures) (c .before .before .before .before .before .before .before .before .before .write-in .ensures) (c .before .before .settle .ensures)
 
 pub cut-context-spec : {M : Type 1} → statement M
 cut-context-spec =
@@ -32,7 +32,7 @@ cut-context-spec =
     (λ c. search needs)
     add-if2
     returns-2
-    write-context-requires
+    write-in-requires
     (λ c κs. search needs)
     (λ c. search needs)
     (λ c. search needs)

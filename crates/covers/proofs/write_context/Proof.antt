@@ -3,16 +3,16 @@ use Rattle.covers.proofs.write_context.Statement.{statement}
 use Rattle.covers.proofs.write_context.Tie as tie
 
 write-chained-requires : tie.Need-write-chained-requires
-write-chained-requires c κs = rw (c .before .before .if1 .taken) at (c .before .before .before .before .before .before .before .pre)
+write-chained-requires c κs = (rw (c .before .before .before .if1 .taken) at (c .before .before .before .before .before .before .before .before .before .pre .0), c .before .before .before .before .before .before .before .before .before .pre .1)
 
 returns : tie.Need-returns
-returns c = rw (c .before .before .before .before .before .before .before .if1 .taken) (c .before .before .before .before .write-chained .ensures)
+returns c = rw (c .before .before .before .before .before .before .before .before .before .before .if1 .taken) (c .before .before .before .before .before .before .write-chained .ensures)
 
 write-plain-requires : tie.Need-write-plain-requires
-write-plain-requires c κs = rw (c .before .before .if1 .left) at (c .before .before .before .before .before .before .before .pre)
+write-plain-requires c κs = (rw (c .before .before .before .if1 .left) at (c .before .before .before .before .before .before .before .before .before .pre .0), c .before .before .before .before .before .before .before .before .before .pre .1)
 
 returns-2 : tie.Need-returns-2
-returns-2 c = rw (c .before .before .before .before .before .before .before .if1 .left) (c .before .before .before .before .write-plain .ensures)
+returns-2 c = rw (c .before .before .before .before .before .before .before .before .before .before .if1 .left) (c .before .before .before .before .before .before .write-plain .ensures)
 
 pub write-context-spec : {M : Type 1} → statement M
 write-context-spec =
@@ -21,8 +21,10 @@ write-context-spec =
     write-chained-requires
     (λ c. search needs)
     (λ c. search needs)
+    (λ c. search needs)
     returns
     write-plain-requires
+    (λ c. search needs)
     (λ c. search needs)
     (λ c. search needs)
     returns-2)

@@ -16,7 +16,7 @@ use Rattle.cut.proofs.+in_all.{statement}
 use Rattle.cut.proofs.+in_all.Tie.{close}
 
 abbrev μ-in-all : Measures 4 in-all-kinds.ps ℕ
-μ-in-all κs a = a .1 .1 .1 .1 .1 .0
+μ-in-all κs a = a .1 .1 .1 .1 .0
 
 -- what `in_all` is given at the measure t, and what a call of it asks below t
 abbrev in-all-at : ℕ → In 4 in-all-kinds.ps
@@ -39,7 +39,7 @@ returns : (t : ℕ) → in-all-lts.Need-returns-2 (in-all-below t, in-all.Post, 
 returns t c =
     let k = c .before .before .before .before in
     let a = k .before .before .before .before .before .before .before .before .before in
-    never-short (a .args .kind) (a .args .src .now) (length (cleared classCells)) (length (cleared enoughBytes)) (all-cells (a .args .kind) (a .args .src .now)) all-bytes (k .cut-in .ensures)
+    never-short (a .args .marks .kind) (a .args .src .now) (length (cleared classCells)) (length (cleared enoughBytes)) (all-cells (a .args .marks .kind) (a .args .src .now)) all-bytes (k .cut-in .ensures)
 
 pub +in-all-spec : {M : Type 1} → statement M
 +in-all-spec =

@@ -16,7 +16,7 @@ use Rattle.cut.proofs.+in_all_but_classes.{statement}
 use Rattle.cut.proofs.+in_all_but_classes.Tie.{close}
 
 abbrev μ-in-all-but-classes : Measures 4 in-all-but-classes-kinds.ps ℕ
-μ-in-all-but-classes κs a = a .1 .1 .1 .1 .1 .0
+μ-in-all-but-classes κs a = a .1 .1 .1 .1 .0
 
 -- what `in_all_but_classes` is given at the measure t, and what a call of it asks below t
 abbrev in-all-but-classes-at : ℕ → In 4 in-all-but-classes-kinds.ps
@@ -39,7 +39,7 @@ returns : (t : ℕ) → in-all-but-classes-lts.Need-returns-2 (in-all-but-classe
 returns t c =
     let k = c .before .before .before .before in
     let a = k .before .before .before .before .before .before .before .before .before in
-    never-short (a .args .kind) (a .args .src .now) (length (cleared otherCells)) (length (cleared enoughBytes)) (other-cells (a .args .kind) (a .args .src .now) (a .pre .1 .1)) all-bytes (k .cut-in .ensures)
+    never-short (a .args .marks .kind) (a .args .src .now) (length (cleared otherCells)) (length (cleared enoughBytes)) (other-cells (a .args .marks .kind) (a .args .src .now) (a .pre .1 .1)) all-bytes (k .cut-in .ensures)
 
 pub +in-all-but-classes-spec : {M : Type 1} → statement M
 +in-all-but-classes-spec =

@@ -14,7 +14,7 @@ use Rattle.cut.proofs.+in_more.{statement}
 use Rattle.cut.proofs.+in_more.Tie.{close}
 
 abbrev μ-in-more : Measures 4 in-more-kinds.ps ℕ
-μ-in-more κs a = a .1 .1 .1 .1 .1 .0
+μ-in-more κs a = a .1 .1 .1 .1 .0
 
 -- what `in_more` is given at the measure t, and what a call of it asks below t
 abbrev in-more-at : ℕ → In 4 in-more-kinds.ps
@@ -37,7 +37,7 @@ returns : (t : ℕ) → in-more-lts.Need-returns-2 (in-more-below t, in-more.Pos
 returns t c =
     let k = c .before .before .before .before in
     let a = k .before .before .before .before .before .before .before .before .before .args in
-    unless-short (a .kind) (a .src .now) (length (cleared 12288)) (length (cleared 24576)) (k .cut-in .ensures)
+    unless-short (a .marks .kind) (a .src .now) (length (cleared 12288)) (length (cleared 24576)) (k .cut-in .ensures)
 
 pub +in-more-spec : {M : Type 1} → statement M
 +in-more-spec =

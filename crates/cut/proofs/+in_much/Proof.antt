@@ -14,7 +14,7 @@ use Rattle.cut.proofs.+in_much.{statement}
 use Rattle.cut.proofs.+in_much.Tie.{close}
 
 abbrev μ-in-much : Measures 4 in-much-kinds.ps ℕ
-μ-in-much κs a = a .1 .1 .1 .1 .1 .0
+μ-in-much κs a = a .1 .1 .1 .1 .0
 
 -- what `in_much` is given at the measure t, and what a call of it asks below t
 abbrev in-much-at : ℕ → In 4 in-much-kinds.ps
@@ -37,7 +37,7 @@ returns : (t : ℕ) → in-much-lts.Need-returns-2 (in-much-below t, in-much.Pos
 returns t c =
     let k = c .before .before .before .before in
     let a = k .before .before .before .before .before .before .before .before .before .args in
-    unless-short (a .kind) (a .src .now) (length (cleared 40960)) (length (cleared 65536)) (k .cut-in .ensures)
+    unless-short (a .marks .kind) (a .src .now) (length (cleared 40960)) (length (cleared 65536)) (k .cut-in .ensures)
 
 pub +in-much-spec : {M : Type 1} → statement M
 +in-much-spec =

@@ -14,7 +14,7 @@ use Rattle.cut.proofs.+in_some.{statement}
 use Rattle.cut.proofs.+in_some.Tie.{close}
 
 abbrev μ-in-some : Measures 4 in-some-kinds.ps ℕ
-μ-in-some κs a = a .1 .1 .1 .1 .1 .0
+μ-in-some κs a = a .1 .1 .1 .1 .0
 
 -- what `in_some` is given at the measure t, and what a call of it asks below t
 abbrev in-some-at : ℕ → In 4 in-some-kinds.ps
@@ -37,7 +37,7 @@ returns : (t : ℕ) → in-some-lts.Need-returns-2 (in-some-below t, in-some.Pos
 returns t c =
     let k = c .before .before .before .before in
     let a = k .before .before .before .before .before .before .before .before .before .args in
-    unless-short (a .kind) (a .src .now) (length (cleared 4608)) (length (cleared 8192)) (k .cut-in .ensures)
+    unless-short (a .marks .kind) (a .src .now) (length (cleared 4608)) (length (cleared 8192)) (k .cut-in .ensures)
 
 pub +in-some-spec : {M : Type 1} → statement M
 +in-some-spec =

@@ -30,21 +30,21 @@ returns c =
     let k = c .before .before .before .before .before .before in
     let w = k .before .before .before .before .before in
     let a = w .before .before .before .before .before .before .before .args in
-    tries-1 (a .chained) (a .src .now) (w .word-at .ensures .0) (glyphEntries (a .form) (a .glyphs .now)) (mapEntries (a .lookups .now)) (length (a .t .now)) (length (a .area .now)) (k .contexts .result) (a .out .now) (k .contexts .last .1 .1 .1 .1 .1 .1 .1 .0) (omega arith) (k .contexts .ensures)
+    tries-1 (a .chained) (a .src .now) (w .word-at .ensures .0) (a .marks .layout) (glyphEntries (a .marks .form) (a .glyphs .now)) (mapEntries (a .lookups .now)) (length (a .t .now)) (length (a .area .now)) (k .contexts .result) (a .out .now) (k .contexts .last .1 .1 .1 .1 .1 .1 .1 .0) (omega arith) (k .contexts .ensures)
 
 returns-2 : tie.Need-returns-2
 returns-2 c =
     let k = c .before .before .before .before .before .before in
     let w = k .before .before .before .before .before in
     let a = w .before .before .before .before .before .before .before .args in
-    tries-2 (a .chained) (a .src .now) (w .word-at .ensures .0) (glyphEntries (a .form) (a .glyphs .now)) (mapEntries (a .lookups .now)) (length (a .t .now)) (length (a .area .now)) (k .by-class .result) (a .out .now) (k .by-class .last .1 .1 .1 .1 .1 .1 .1 .0) (omega arith) (k .by-class .ensures)
+    tries-2 (a .chained) (a .src .now) (w .word-at .ensures .0) (a .marks .layout) (glyphEntries (a .marks .form) (a .glyphs .now)) (mapEntries (a .lookups .now)) (length (a .t .now)) (length (a .area .now)) (k .by-class .result) (a .out .now) (k .by-class .last .1 .1 .1 .1 .1 .1 .1 .0) (omega arith) (k .by-class .ensures)
 
 returns-3 : tie.Need-returns-3
 returns-3 c =
     let k = c .before .before .before .before .before .before in
     let w = k .before .before .before .before .before in
     let a = w .before .before .before .before .before .before .before .args in
-    tries-3 (a .chained) (a .src .now) (w .word-at .ensures .0) (glyphEntries (a .form) (a .glyphs .now)) (mapEntries (a .lookups .now)) (length (a .t .now)) (length (a .area .now)) (k .by-cover .result) (a .out .now) (k .by-cover .last .1 .1 .1 .1 .1 .1 .1 .0) (omega arith) (omega arith) (k .by-cover .ensures)
+    tries-3 (a .chained) (a .src .now) (w .word-at .ensures .0) (a .marks .layout) (glyphEntries (a .marks .form) (a .glyphs .now)) (mapEntries (a .lookups .now)) (length (a .t .now)) (length (a .area .now)) (k .by-cover .result) (a .out .now) (k .by-cover .last .1 .1 .1 .1 .1 .1 .1 .0) (omega arith) (omega arith) (k .by-cover .ensures)
 
 pub context-in-spec : {M : Type 1} → statement M
 context-in-spec =

@@ -6,23 +6,23 @@ use borrow.Author.Needs.{needs}
 use Rattle.meaning.specs.Maps.{mapEntries, glyphEntries}
 use Rattle.meaning.specs.Tables.{table}
 use Rattle.meaning.specs.Cut.{cut}
-use Rattle.meaning.specs.Subset.{written}
+use Rattle.meaning.specs.Subset.{writtenIn}
 use Rattle.cut.proofs.Sizes.{small-became, small-untouched, large-became, not-short}
 use Rattle.cut.proofs.cut_own.Statement.{statement}
 use Rattle.cut.proofs.cut_own.Tie as tie
 
 abbrev Inv-loop : tie.InvT-loop
-Inv-loop kind src glyphs form lookups out₀ size₀ out size = out ≡ out₀
+Inv-loop marks src glyphs lookups out₀ size₀ out size = out ≡ out₀
 
 abbrev μ-loop : tie.MeasureT-loop
-μ-loop kind src glyphs form lookups out₀ size₀ out size = 4 - size
+μ-loop marks src glyphs lookups out₀ size₀ out size = 4 - size
 
 returns : tie.Need-returns Inv-loop μ-loop
 returns c =
     let k = c .before .before .before .before .before in
     let l = k .before .before .before in
     let a = l .before .before .before .before .before .before .args in
-    small-became (k .in-size .ensures) (c .before .laid .given .1) ∙ ap (λ (o : List ℕ). written o (cut (glyphEntries (a .form) (a .glyphs .now)) (mapEntries (a .lookups .now)) (table (a .kind) (a .src .now)))) (l .loop .inv)
+    small-became (k .in-size .ensures) (c .before .laid .given .1) ∙ ap (λ (o : List ℕ). writtenIn (a .marks .layout) o (cut (glyphEntries (a .marks .form) (a .glyphs .now)) (mapEntries (a .lookups .now)) (table (a .marks .kind) (a .src .now)))) (l .loop .inv)
 
 loop-again : tie.Need-loop-again Inv-loop μ-loop
 loop-again c =
@@ -37,7 +37,7 @@ returns-3 c =
     let k = c .before .before .before .before .before in
     let l = k .before .before .before in
     let a = l .before .before .before .before .before .before .args in
-    large-became (k .in-most .ensures) (c .before .laid2 .given .1) ∙ ap (λ (o : List ℕ). written o (cut (glyphEntries (a .form) (a .glyphs .now)) (mapEntries (a .lookups .now)) (table (a .kind) (a .src .now)))) (l .loop .inv)
+    large-became (k .in-most .ensures) (c .before .laid2 .given .1) ∙ ap (λ (o : List ℕ). writtenIn (a .marks .layout) o (cut (glyphEntries (a .marks .form) (a .glyphs .now)) (mapEntries (a .lookups .now)) (table (a .marks .kind) (a .src .now)))) (l .loop .inv)
 
 pub cut-own-spec : {M : Type 1} → statement M
 cut-own-spec =

@@ -9,7 +9,7 @@ returns : tie.Need-returns
 returns c =
     let k = c .before .before .before .before in
     let a = k .before .before .before .before .before .before .before .before .args in
-    unless-short (a .kind) (a .src .now) (length (cleared 512)) (length (cleared 1024)) (k .cut-in .ensures)
+    unless-short (a .marks .kind) (a .src .now) (length (cleared 512)) (length (cleared 1024)) (k .cut-in .ensures)
 
 pub in-little-spec : {M : Type 1} → statement M
 in-little-spec =

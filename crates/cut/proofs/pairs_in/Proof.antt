@@ -24,14 +24,14 @@ returns c =
     let k = c .before .before .before .before .before .before in
     let w = k .before .before .before .before .before in
     let a = w .before .before .before .before .before .before .args in
-    tries-glyph-pairs (a .src .now) (w .word-at .ensures .0) (glyphEntries (a .form) (a .glyphs .now)) (length (a .t .now)) (length (a .area .now)) (k .pairs .result) (a .out .now) (k .pairs .last .1 .1 .1 .1 .1 .0) (omega arith) (k .pairs .ensures)
+    tries-glyph-pairs (a .src .now) (w .word-at .ensures .0) (a .marks .layout) (glyphEntries (a .marks .form) (a .glyphs .now)) (length (a .t .now)) (length (a .area .now)) (k .pairs .result) (a .out .now) (k .pairs .last .1 .1 .1 .1 .1 .0) (omega arith) (k .pairs .ensures)
 
 returns-2 : tie.Need-returns-2
 returns-2 c =
     let k = c .before .before .before .before .before .before in
     let w = k .before .before .before .before .before in
     let a = w .before .before .before .before .before .before .args in
-    tries-class-pairs (a .src .now) (w .word-at .ensures .0) (glyphEntries (a .form) (a .glyphs .now)) (length (a .t .now)) (length (a .area .now)) (k .class-pairs .result) (a .out .now) (k .class-pairs .last .1 .1 .1 .1 .1 .0) (omega arith) (k .class-pairs .ensures)
+    tries-class-pairs (a .src .now) (w .word-at .ensures .0) (a .marks .layout) (glyphEntries (a .marks .form) (a .glyphs .now)) (length (a .t .now)) (length (a .area .now)) (k .class-pairs .result) (a .out .now) (k .class-pairs .last .1 .1 .1 .1 .1 .0) (omega arith) (k .class-pairs .ensures)
 
 pub pairs-in-spec : {M : Type 1} → statement M
 pairs-in-spec =

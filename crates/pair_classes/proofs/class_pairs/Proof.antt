@@ -3,7 +3,7 @@ use borrow.Author.Needs.{needs}
 use Rattle.meaning.specs.Maps.{glyphEntries}
 use Rattle.meaning.specs.Tables.{pairTable}
 use Rattle.meaning.specs.Cut.{cut}
-use Rattle.meaning.specs.Subset.{written}
+use Rattle.meaning.specs.Subset.{writtenIn}
 use Rattle.pair_classes.proofs.Cutting.{front-length, front-near, front-tries}
 use Rattle.pair_classes.proofs.class_pairs.Statement.{statement}
 use Rattle.pair_classes.proofs.class_pairs.Tie as tie
@@ -21,7 +21,7 @@ returns : tie.Need-returns
 returns c =
     let a = c .before .before .before .before .before .before .before .before .before .before .before .before .before .before .before .before .before .args in
     let k = c .before .before .before .before .before .before .cut-in in
-    front-tries (a .area .now) (c .before .before .before .before .before .before .before .before .before .before .front .ensures) (a .t .now) (k .result) (a .out .now) (k .last .1 .1 .1 .1 .1 .0) (written (a .out .now) (cut (glyphEntries (a .form) (a .glyphs .now)) [] (pairTable (a .src .now)))) (k .ensures)
+    front-tries (a .area .now) (c .before .before .before .before .before .before .before .before .before .before .front .ensures) (a .t .now) (k .result) (a .out .now) (k .last .1 .1 .1 .1 .1 .0) (writtenIn (a .marks .layout) (a .out .now) (cut (glyphEntries (a .marks .form) (a .glyphs .now)) [] (pairTable (a .src .now)))) (k .ensures)
 
 pub class-pairs-spec : {M : Type 1} → statement M
 class-pairs-spec =

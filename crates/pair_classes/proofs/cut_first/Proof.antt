@@ -21,7 +21,7 @@ returns-2 : tie.Need-returns-2
 returns-2 c =
     let a = c .before .before .before .before .before .before .before .before .before .before .before .before .before .before .before .before .before .before .before .before .before in
     let k = c .before .before .before .before .lay-pairs in
-    all-left (a .pre .0) refl (c .before .before .before .before .before .before .before .before .before .before .before .before .before .before .word-inside .ensures .0) (c .before .before .before .before .before .before .before .before .before .before .before .before .second-classes .ensures) (c .before .before .before .before .before .before .before .before .if1 .left) (a .args .area .now) (k .result) (a .args .out .now) (k .last .1 .1 .1 .1 .1 .1 .0) (k .ensures)
+    all-left (a .pre .0) refl (c .before .before .before .before .before .before .before .before .before .before .before .before .before .before .word-inside .ensures .0) (c .before .before .before .before .before .before .before .before .before .before .before .before .second-classes .ensures) (c .before .before .before .before .before .before .before .before .if1 .left) (a .args .marks .layout) (a .args .area .now) (k .result) (a .args .out .now) (k .last .1 .1 .1 .1 .1 .1 .1 .0) (k .ensures)
 
 pub cut-first-spec : {M : Type 1} → statement M
 cut-first-spec =

@@ -7,7 +7,7 @@ use Rattle.laws.specs.SoundGood.{bytes-all}
 use Rattle.meaning.specs.Maps.{glyphEntries}
 use Rattle.meaning.specs.Tables.{pairTable}
 use Rattle.meaning.specs.Cut.{cut}
-use Rattle.meaning.specs.Subset.{written}
+use Rattle.meaning.specs.Subset.{writtenIn}
 use Rattle.pair_classes.proofs.cut_in.Statement.{statement}
 use Rattle.pair_classes.proofs.cut_in.Tie as tie
 
@@ -18,7 +18,7 @@ has-null-requires c κs =
 returns : tie.Need-returns
 returns c =
     let a = c .before .before .before .before .before .before .before in
-    null-left (a .args .src .now) (a .pre .0 .format) (glyphEntries (a .args .form) (a .args .glyphs .now)) (a .args .out .now) (sym (c .before .has-null .ensures) ∙ c .if1 .taken)
+    null-left (a .args .src .now) (a .pre .0 .format) (glyphEntries (a .args .marks .form) (a .args .glyphs .now)) (a .args .marks .layout) (a .args .out .now) (sym (c .before .has-null .ensures) ∙ c .if1 .taken)
 
 lay-glyphs-requires : tie.Need-lay-glyphs-requires
 lay-glyphs-requires c κs = (omega arith, c .before .before .before .before .before .before .before .before .pre .0 .glyphs-good)
@@ -36,7 +36,7 @@ returns-3 : tie.Need-returns-3
 returns-3 c =
     let a = c .before .before .before .before .before .before .before .before .before .before .before .before .before .before .before .before .before .before .before .before .before .before .before in
     let k = c .before .before .before .before .before .before .cut-map in
-    cells-same (k .result) (a .args .out .now) (k .last .1 .1 .1 .1 .1 .1 .0) (written (a .args .out .now) (cut (glyphEntries (a .args .form) (a .args .glyphs .now)) [] (pairTable (a .args .src .now)))) (c .before .before .before .before .before .before .before .before .before .before .before .before .before .before .lay-glyphs .ensures .kept) (a .args .area .now) (k .ensures)
+    cells-same (k .result) (a .args .out .now) (k .last .1 .1 .1 .1 .1 .1 .0) (writtenIn (a .args .marks .layout) (a .args .out .now) (cut (glyphEntries (a .args .marks .form) (a .args .glyphs .now)) [] (pairTable (a .args .src .now)))) (c .before .before .before .before .before .before .before .before .before .before .before .before .before .before .lay-glyphs .ensures .kept) (a .args .area .now) (k .ensures)
 
 pub cut-in-spec : {M : Type 1} → statement M
 cut-in-spec =

@@ -5,7 +5,7 @@ use Rattle.pair_classes.proofs.Cutting.{cells-same, may-bound, few-note
 use Rattle.meaning.specs.Maps.{glyphEntries}
 use Rattle.meaning.specs.Tables.{pairTable}
 use Rattle.meaning.specs.Cut.{cut}
-use Rattle.meaning.specs.Subset.{written}
+use Rattle.meaning.specs.Subset.{writtenIn}
 use Rattle.pair_classes.proofs.cut_map.Statement.{statement}
 use Rattle.pair_classes.proofs.cut_map.Tie as tie
 
@@ -22,7 +22,7 @@ meet-requires c κs =
 returns-2 : tie.Need-returns-2
 returns-2 c =
     let a = c .before .before .before .before .before .before .before .before .before .before .before .before .before .before in
-    none-met (a .pre .0) refl (c .before .before .before .before .before .before .before .word-inside .ensures .0) (c .before .before .before .meet .ensures) (a .args .out .now) (c .if2 .taken)
+    none-met (a .pre .0) refl (c .before .before .before .before .before .before .before .word-inside .ensures .0) (c .before .before .before .meet .ensures) (a .args .marks .layout) (a .args .out .now) (c .if2 .taken)
 
 cut-noted-requires : tie.Need-cut-noted-requires
 cut-noted-requires c κs =
@@ -33,7 +33,7 @@ returns-3 : tie.Need-returns-3
 returns-3 c =
     let a = c .before .before .before .before .before .before .before .before .before .before .before .before .before .before .before .before .before .before .before .before .before .before .before .before in
     let k = c .before .before .before .before .before .before .cut-noted in
-    cells-same (k .result) (a .args .out .now) (k .last .1 .1 .1 .1 .1 .1 .0) (written (a .args .out .now) (cut (glyphEntries (a .args .form) (a .args .glyphs .now)) [] (pairTable (a .args .src .now)))) (c .before .before .before .before .before .before .before .before .before .before .before .before .before .meet .ensures .kept) (a .args .area .now) (k .ensures)
+    cells-same (k .result) (a .args .out .now) (k .last .1 .1 .1 .1 .1 .1 .0) (writtenIn (a .args .marks .layout) (a .args .out .now) (cut (glyphEntries (a .args .marks .form) (a .args .glyphs .now)) [] (pairTable (a .args .src .now)))) (c .before .before .before .before .before .before .before .before .before .before .before .before .before .meet .ensures .kept) (a .args .area .now) (k .ensures)
 
 pub cut-map-spec : {M : Type 1} → statement M
 cut-map-spec =

@@ -7,7 +7,7 @@ use Rattle.laws.specs.Written.{wrote-length}
 use Rattle.meaning.specs.Maps.{glyphEntries}
 use Rattle.meaning.specs.Tables.{pairTable}
 use Rattle.meaning.specs.Cut.{cut}
-use Rattle.meaning.specs.Subset.{written}
+use Rattle.meaning.specs.Subset.{writtenIn}
 use Rattle.pair_classes.proofs.cut_noted.Statement.{statement}
 use Rattle.pair_classes.proofs.cut_noted.Tie as tie
 
@@ -41,7 +41,7 @@ returns-3 : tie.Need-returns-3
 returns-3 c =
     let a = c .before .before .before .before .before .before .before .before .before .before .before .before .before .before .before .before .before .before .before .before .before .before .before .before .before .before .before .before .before .before .before .before in
     let k = c .before .before .before .before .before .before .cut-first in
-    scratch-same (k .result) (a .args .out .now) (k .last .1 .1 .1 .1 .1 .1 .1 .0) (written (a .args .out .now) (cut (glyphEntries (a .args .form) (a .args .glyphs .now)) [] (pairTable (a .args .src .now)))) (c .before .before .before .before .before .before .before .before .before .before .before .before .before .before .first-classes .ensures .kept) (c .before .before .before .before .before .before .before .before .before .before .before .before .before .before .before .before .before .before .before .before .before .put-covered .ensures) (k .ensures)
+    scratch-same (k .result) (a .args .out .now) (k .last .1 .1 .1 .1 .1 .1 .1 .0) (writtenIn (a .args .marks .layout) (a .args .out .now) (cut (glyphEntries (a .args .marks .form) (a .args .glyphs .now)) [] (pairTable (a .args .src .now)))) (c .before .before .before .before .before .before .before .before .before .before .before .before .before .before .first-classes .ensures .kept) (c .before .before .before .before .before .before .before .before .before .before .before .before .before .before .before .before .before .before .before .before .before .put-covered .ensures) (k .ensures)
 
 pub cut-noted-spec : {M : Type 1} → statement M
 cut-noted-spec =

@@ -1,4 +1,4 @@
--- `vectors::run` is safe and ends: each stored call has at least 14 bytes, and at most three of its calls agree. Assumes nothing.
+-- `vectors::run` is safe and ends: each stored call has at least 16 bytes, and at most three of its calls agree. Assumes nothing.
 use Prim.Native.Nat.{_-_, _*_, _≤_}
 use native.Mathlib.Omega.{arith}
 use lib.ListN.{length}
@@ -7,7 +7,7 @@ use Rattle.vectors.proofs.run.Statement.{statement}
 use Rattle.vectors.proofs.run.Tie as tie
 
 abbrev Inv-loop : tie.InvT-loop
-Inv-loop file made good at₀ index₀ agreeing₀ at index agreeing = (at ≤ length file) × (14 * index ≤ at) × (agreeing ≤ 3 * index)
+Inv-loop file made good at₀ index₀ agreeing₀ at index agreeing = (at ≤ length file) × (16 * index ≤ at) × (agreeing ≤ 3 * index)
 
 abbrev μ-loop : tie.MeasureT-loop
 μ-loop file made good at₀ index₀ agreeing₀ at index agreeing = length file - at

@@ -4,8 +4,8 @@ use lib.ListN.{length}
 use lib.Seq.{length-sets}
 use borrow.Author.Needs.{needs}
 use Rattle.class_slots.proofs.Settling.{Settling, settling-all, settling-turn, settling-end}
-use Rattle.class_slots.proofs.settle.Statement.{statement}
-use Rattle.class_slots.proofs.settle.Tie as tie
+use Rattle.class_slots.proofs.settle_slots.Statement.{statement}
+use Rattle.class_slots.proofs.settle_slots.Tie as tie
 
 abbrev Inv-loop : tie.InvT-loop
 Inv-loop area₀ at n p i₀ area i = Settling p at n area₀ area i
@@ -51,8 +51,8 @@ same-length c = ap length (settling-end (c .before .loop .inv) (c .loop-test .le
 returns : tie.Need-returns Inv-loop μ-loop
 returns c = settling-end (c .before .loop .inv) (c .loop-test .left)
 
-pub settle-spec : {M : Type 1} → statement M
-settle-spec =
+pub settle-slots-spec : {M : Type 1} → statement M
+settle-slots-spec =
     tie.close
     (tie.spec
     Inv-loop

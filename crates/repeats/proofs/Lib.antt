@@ -1,0 +1,5 @@
+pub mod Comparing
+pub mod Seeking
+pub mod Coming
+pub mod Further
+pub mod Settling

@@ -1,0 +1,10 @@
+use Rattle.repeats.proofs.Coming.{passing-end}
+use borrow.Author.Needs.{needs}
+use Rattle.repeats.proofs.again.Statement.{statement}
+use Rattle.repeats.proofs.again.Tie as tie
+
+returns : tie.Need-returns
+returns c = passing-end
+
+pub again-spec : {M : Type 1} → statement M
+again-spec = tie.close (tie.spec returns (λ c κs. search needs) (λ c. search needs) (λ c κs. search needs) (λ c. search needs))

@@ -1,0 +1,225 @@
+// Blocks of one kind that are written into the area one after the other, from `first` on, and a book of them, by which one that is equal to an earlier one is found.
+// The first cell of a book says how many blocks are in it. Two cells follow for each: how many words it has; and a sum over them, times 65,536, plus the place of the source that it came from.
+// The last cell says how many further places of the source are known to lead to one of them. From there on backwards each has a cell, as long as the blocks leave room: how many words stand before its block, times 65,536, plus the place.
+// A book of one cell has no block: then each is written, as the plain layout has them.
+use cells::cell;
+use cells::put_cell;
+use room::HIGHEST;
+use wire::word_at;
+ghost use mathlib.Core.Path.{_≡_};
+ghost use Prim.Native.Nat.{_+_, _-_, _*_, _≤_, _<_};
+ghost use lib.ListN.{length, getD};
+ghost use Rattle.meaning.specs.Words.{words, eqList};
+ghost use Rattle.repeats.specs.Book.{sumOf, alike, Begun, Noted, NotedPlace, Found, Fresh, Again, Settled};
+
+// The cells of a book that is enough for sets or coverages: none of these has less than two words, and none starts more than 65,535 bytes behind the first.
+pub const BOOK: usize = 32769;
+
+// Where a block stands, which is 0 if that is too far behind the first, and the place after all blocks.
+pub struct Spot {
+    pub at: usize,
+    pub end: usize,
+}
+
+// Where the last cell of a book stands.
+fn last(book: &[u32]) -> usize
+    ensures { λ r. ⌜ r ≡ length (now (book .entry)) - 1 ⌝ }
+{
+    if book.len() == 0 {
+        return 0;
+    }
+    book.len() - 1
+}
+
+// A book with no block.
+pub fn begin(book: &mut [u32])
+    ensures { λ _. ⌜ Begun (now (book .entry)) (now (book .exit)) ⌝ }
+{
+    put_cell(book, 0, 0);
+    let z = last(book);
+    put_cell(book, z, 0);
+}
+
+// A sum over the `n` words from `p` on.
+fn sum(area: &[u8], p: usize, n: usize) -> usize
+    requires { ⌜ p + 2 * n < 0x1_0000_0000_0000 ⌝ }
+    ensures { λ r. ⌜ (r ≡ sumOf 0 (words (now (area .entry)) p n)) × (r < 65536) ⌝ }
+{
+    let mut s = 0;
+    let mut i = 0;
+    while i < n {
+        s = (31 * s + word_at(area, p + 2 * i)) % 65536;
+        i += 1;
+    }
+    s
+}
+
+// Whether the `n` words from `a` on are those from `b` on.
+fn same(area: &[u8], a: usize, b: usize, n: usize) -> bool
+    requires { ⌜ (a + 2 * n < 0x4_0000_0000_0000) × (b + 2 * n < 0x4_0000_0000_0000) ⌝ }
+    ensures { λ r. ⌜ r ≡ eqList (words (now (area .entry)) a n) (words (now (area .entry)) b n) ⌝ }
+{
+    let mut i = 0;
+    while i < n {
+        if word_at(area, a + 2 * i) != word_at(area, b + 2 * i) {
+            return false;
+        }
+        i += 1;
+    }
+    true
+}
+
+// Whether the i-th block of the book, which stands at `at`, is equal to the `n` words at `p`, whose sum is `s`: their bytes are compared only if length and sum agree.
+fn is_equal(area: &[u8], book: &[u32], i: usize, at: usize, p: usize, n: usize, s: usize) -> bool
+    requires { ⌜ (i < 65536) × (at + 2 * n < 0x4_0000_0000_0000) × (p + 2 * n < 0x4_0000_0000_0000) ⌝ }
+    ensures { λ r. ⌜ r ≡ alike (now (area .entry)) (now (book .entry)) i at p n s ⌝ }
+{
+    if cell(book, 1 + 2 * i) != n {
+        return false;
+    }
+    if cell(book, 2 + 2 * i) / 65536 != s {
+        return false;
+    }
+    same(area, at, p, n)
+}
+
+// Where the first block of the book stands that is equal to the `n` words at `p`, whose sum is `s`; `p` if none is.
+fn find(area: &[u8], book: &[u32], first: usize, p: usize, n: usize, s: usize) -> usize
+    requires { ⌜ (getD (now book) 0 0 < 65536) × (first ≤ p) × (p + 2 * n < 0x1_0000_0000_0000) × (s ≡ sumOf 0 (words (now area) p n)) ⌝ }
+    ensures { λ r. ⌜ Found (now (area .entry)) (now (book .entry)) first p n s r ⌝ }
+{
+    let count = cell(book, 0);
+    let mut at = first;
+    let mut i = 0;
+    while i < count {
+        if is_equal(area, book, i, at, p, n, s) {
+            return at;
+        }
+        at += 2 * cell(book, 1 + 2 * i);
+        i += 1;
+    }
+    p
+}
+
+// One block more in the book, of `n` words, with its sum and the place that it came from in `mark`.
+fn note(book: &mut [u32], n: usize, mark: usize)
+    requires { ⌜ (getD (now book) 0 0 < 65536) × (n < 0x1_0000_0000) × (mark < 0x1_0000_0000) ⌝ }
+    ensures { λ _. ⌜ Noted n mark (now (book .entry)) (now (book .exit)) ⌝ }
+{
+    let count = cell(book, 0);
+    put_cell(book, 1 + 2 * count, n);
+    put_cell(book, 2 + 2 * count, mark);
+    put_cell(book, 0, count + 1);
+}
+
+// Where the block stands that was written from this place of the source; 0 if the book has none from there.
+fn among(book: &[u32], first: usize, source: usize) -> usize
+    requires { ⌜ (getD (now book) 0 0 < 65536) × (first < 0x1_0000_0000_0000) ⌝ }
+    ensures { λ r. ⌜ Again (now (book .entry)) first source r ⌝ }
+{
+    let count = cell(book, 0);
+    let mut at = first;
+    let mut i = 0;
+    while i < count {
+        if cell(book, 2 + 2 * i) % 65536 == source {
+            return at;
+        }
+        at += 2 * cell(book, 1 + 2 * i);
+        i += 1;
+    }
+    0
+}
+
+// Where the block stands that this further place of the source is known to lead to; 0 if it is not known.
+fn elsewhere(book: &[u32], first: usize, source: usize) -> usize
+    requires { ⌜ (getD (now book) 0 0 < 65536) × (first < 0x1_0000_0000_0000) ⌝ }
+    ensures { λ r. ⌜ Again (now (book .entry)) first source r ⌝ }
+{
+    let blocks = cell(book, 0);
+    let count = cell(book, last(book));
+    let mut i = 0;
+    while i < count {
+        if book.len() < 3 + 2 * blocks + i {
+            return 0;
+        }
+        let c = cell(book, book.len() - 2 - i);
+        if c % 65536 == source {
+            return first + 2 * (c / 65536);
+        }
+        i += 1;
+    }
+    0
+}
+
+// Where the block stands that this place of the source is known to lead to; 0 if it is not known.
+pub fn again(book: &[u32], first: usize, source: usize) -> usize
+    requires { ⌜ (getD (now book) 0 0 < 65536) × (first < 0x1_0000_0000_0000) ⌝ }
+    ensures { λ r. ⌜ Again (now (book .entry)) first source r ⌝ }
+{
+    if book.len() < 2 {
+        return 0;
+    }
+    let at = among(book, first, source);
+    if at != 0 {
+        return at;
+    }
+    elsewhere(book, first, source)
+}
+
+// One place of the source more that leads to the block `offset` bytes behind the first, if there is room for it.
+fn note_place(book: &mut [u32], offset: usize, source: usize)
+    requires { ⌜ (getD (now book) 0 0 < 65536) × (source < 65536) ⌝ }
+    ensures { λ _. ⌜ NotedPlace offset source (now (book .entry)) (now (book .exit)) ⌝ }
+{
+    let count = cell(book, 0);
+    let z = last(book);
+    let n = cell(book, z);
+    if HIGHEST < offset {
+        return;
+    }
+    if HIGHEST < n {
+        return;
+    }
+    if book.len() < 3 + 2 * count + n {
+        return;
+    }
+    put_cell(book, z - 1 - n, offset / 2 * 65536 + source);
+    put_cell(book, z, n + 1);
+}
+
+// A block that is new: it stands at `p`, up to `q`, unless that is too far behind the first.
+fn fresh(first: usize, p: usize, q: usize) -> Spot
+    requires { ⌜ first ≤ p ⌝ }
+    ensures { λ r. ⌜ Fresh first p q r ⌝ }
+{
+    if HIGHEST < p - first {
+        return Spot { at: 0, end: q };
+    }
+    Spot { at: p, end: q }
+}
+
+// The block that was written at `p`, up to `q`, from this place of the source, behind those of the book: if one of these is equal, then it is that one, and the place after all is `p` again; else it is noted, and the place after all is `q`.
+pub fn settle(
+    area: &[u8],
+    first: usize,
+    p: usize,
+    q: usize,
+    source: usize,
+    book: &mut [u32],
+) -> Spot
+    requires { ⌜ (getD (now book) 0 0 < 65536) × (first ≤ p) × (p ≤ q) × (q < 0x1_0000_0000) × (source < 65536) ⌝ }
+    ensures { λ r. ⌜ Settled (now (area .entry)) first p q source (now (book .entry)) (now (book .exit)) r ⌝ }
+{
+    if book.len() < 2 {
+        return fresh(first, p, q);
+    }
+    let n = (q - p) / 2;
+    let s = sum(area, p, n);
+    let at = find(area, book, first, p, n, s);
+    if at != p {
+        note_place(book, at - first, source);
+        return Spot { at, end: p };
+    }
+    note(book, n, 65536 * s + source);
+    fresh(first, p, q)
+}
