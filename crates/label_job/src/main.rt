@@ -1,4 +1,6 @@
 // The program: reads a label job from standard input, and prints what is kept of its table, or the number of the refusal.
+use input::Input;
+use input::read_input;
 use job::run;
 use report::report;
 use subset::length_of;
@@ -8,7 +10,6 @@ ghost use Prim.Native.Nat.{_≤_};
 ghost use lib.ListN.{length};
 ghost use Rattle.report.specs.Lengths.{textRoom};
 ghost use Rattle.label_job.specs.Answered.{Answered};
-ghost use Rattle.label_job.specs.Input.{Within};
 
 // One byte more than the longest job file has, so that a longer one is seen.
 const FILE: usize = 65537;
@@ -18,40 +19,6 @@ const RESULT: usize = 262144;
 
 // Room for the longest text.
 const TEXT: usize = 540700;
-
-// What came of reading: a number of bytes at the front of the buffer, or that a read failed.
-pub enum Input {
-    Bytes(usize),
-    Failed,
-}
-
-// Reads standard input once; 0 bytes are its end.
-fn read_once(part: &mut [u8]) -> Input
-    ensures { λ r. ⌜ Within r (length (now (part .exit))) ⌝ }
-{
-    let got = libc::read(0, part);
-    if got < 0 {
-        return Input::Failed;
-    }
-    Input::Bytes(io::count(got, part))
-}
-
-// Reads standard input to its end, or until `file` is full.
-fn read_input(file: &mut [u8]) -> Input
-    ensures { λ r. ⌜ Within r (length (now (file .exit))) ⌝ }
-{
-    let mut n = 0;
-    while n < file.len() {
-        let Input::Bytes(more) = read_once(&mut file[n..]) else {
-            return Input::Failed;
-        };
-        if more == 0 {
-            return Input::Bytes(n);
-        }
-        n += more;
-    }
-    Input::Bytes(n)
-}
 
 // A buffer for the text. Its contract says how long it is, and nothing of what is in it.
 fn blank() -> [u8; TEXT]

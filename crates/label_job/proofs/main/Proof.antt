@@ -1,7 +1,7 @@
 -- `label_job::main` meets its contract: what was read is lent, and what is printed is a part of the text. Assumes nothing.
 use borrow.Author.Needs.{needs}
 use Rattle.label_job.proofs.Answering.{answered-part}
-use Rattle.label_job.proofs.Reading.{read-within, read-part}
+use Rattle.input.proofs.Reading.{read-within, read-part}
 use Rattle.label_job.proofs.main.Statement.{statement}
 use Rattle.label_job.proofs.main.Tie as tie
 
