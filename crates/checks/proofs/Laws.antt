@@ -1,8 +1,8 @@
 -- The ways through a header's check.
 use Prim.Native.Nat.{ℕ, _+_, _*_, _<_}
 use mathlib.Core.Path.{_≡_, refl, sym, ap, _∙_}
-use mathlib.Core.Bool.{Bool, true, false, cond, _&&_, and-false}
-use mathlib.Core.Option.{Option, none, some}
+use mathlib.Core.Bool.{Bool, true, false, _&&_, and-false}
+use mathlib.Core.Option.{Option, some}
 use mathlib.Core.List.{List}
 use native.Mathlib.Nat.{zero-add}
 use native.Mathlib.Omega.{arith}
@@ -15,8 +15,7 @@ use Rattle.meaning.specs.Fault.{partFault, lowest, faultThrough, coverageFault,
 use Rattle.class_counts.specs.Header.{goodHeader}
 use Rattle.laws.specs.ReadsBack.{fault-is}
 use Rattle.wire.specs.declared.Fault.{Fault}
-use Rattle.wire.specs.declared.Fault.the-variants.{At, Sound}
-use Rattle.wire.specs.Fault.{faultOf, placeOf, is-at, is-sound}
+use Rattle.wire.specs.Fault.{faultOf, placeOf}
 use Rattle.wire.specs.Reached.{Lowest, lowest-part}
 use Rattle.checks.specs.Parts.{byGlyphFault, byClassFault, ligaturesFault, pairFields, glyphPairsFault, classPairsFault}
 
@@ -52,24 +51,6 @@ module _ (s : List ℕ) (n : ℕ) {at : ℕ} (e : at ≡ word s 2) where
   pub enough-sound : (at ≡ 0 → ⊥) → coverageSound s at ≡ true → {m : ℕ} → m ≡ length (coverage s at) → leb m n ≡ enough s n
   unfolding enough
   enough-sound z f h = rw (← e, ne-eqb at 0 z, f, h)
-
--- what a coverage's check answers
-module _ (s : List ℕ) (at : ℕ) {r : Fault} (e : r ≡ faultOf (coverageFault s at)) where
-  pub cover-sound : r ≡ Sound → coverageSound s at ≡ true
-  unfolding coverageFault partFault
-  cover-sound f = step (coverageSound s at) (is-sound (coverageFault s at) f e)
-    where
-      step : (b : Bool) → cond b none (some at) ≡ none → b ≡ true
-      step true q = refl
-      step false q = let z : _≡_ {A = ℕ} 0 1 = cc in absurd (omega arith)
-
-  pub cover-faulty : {p : ℕ} → r ≡ At p → coverageSound s at ≡ false
-  unfolding coverageFault partFault
-  cover-faulty {p} f = step (coverageSound s at) (is-at (coverageFault s at) f e)
-    where
-      step : (b : Bool) → cond b none (some at) ≡ some p → b ≡ false
-      step true q = let z : _≡_ {A = ℕ} 0 1 = cc in absurd (omega arith)
-      step false q = refl
 
 -- a part that an offset of the header reaches
 pub lowest-reached : {faultAt : ℕ → Option ℕ} {s : List ℕ} {slot n : ℕ} {low : Fault} {i off : ℕ} → Lowest faultAt s 0 slot n low i → i < n → off ≡ word s (slot + 2 * i) → (off ≡ 0 → ⊥)

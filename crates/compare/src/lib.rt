@@ -4,6 +4,7 @@ use cover_differences::list_chained;
 use cover_differences::list_plain;
 use listing::put_listed;
 use pair_differences::list_pairs;
+use pair_pos::pair_device;
 use room::LIMIT;
 use set_differences::HEADS;
 use set_differences::LINKS;
@@ -13,13 +14,11 @@ use wire::Fault;
 use wire::inside;
 use wire::word_at;
 ghost use mathlib.Core.Path.{_≡_};
-ghost use mathlib.Core.Bool.{true, false, _&&_, _||_, not};
+ghost use mathlib.Core.Bool.{true, false, _&&_, not};
 ghost use Prim.Native.Nat.{_+_, _*_, _≤_, _<_};
 ghost use lib.ListN.{length};
-ghost use lib.Dec.{eqb};
 ghost use Rattle.meaning.specs.Words.{word, inside};
 ghost use Rattle.meaning.specs.Tables.{table};
-ghost use Rattle.meaning.specs.Subset.{hasDevice};
 ghost use Rattle.differences.specs.Content.{content};
 ghost use Rattle.differences.specs.Entries.{differences};
 ghost use Rattle.differences.specs.Compare.{comparedKind, comparedFormat, tableRefusal, refusal, compare};
@@ -77,26 +76,6 @@ fn other_format(kind: usize, src: &[u8]) -> bool
         return false;
     }
     !compared_format(kind, word_at(src, 0))
-}
-
-// Whether a value format has a bit of 0x00F0.
-fn has_device(format: usize) -> bool
-    ensures { λ r. ⌜ r ≡ hasDevice format ⌝ }
-{
-    format / 16 % 16 != 0
-}
-
-// Whether the kind is pair, and one of the two value formats has such a bit.
-fn pair_device(kind: usize, src: &[u8]) -> bool
-    ensures { λ r. ⌜ r ≡ eqb kind 4 && (hasDevice (word (now (src .entry)) 4) || hasDevice (word (now (src .entry)) 6)) ⌝ }
-{
-    if kind != 4 {
-        return false;
-    }
-    if has_device(word_at(src, 4)) {
-        return true;
-    }
-    has_device(word_at(src, 6))
 }
 
 // Why a subtable of this kind is refused, if it is: over the limit, a format that is not compared, malformed, or device bits.

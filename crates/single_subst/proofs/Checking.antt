@@ -1,7 +1,7 @@
 -- The ways through a check of single substitutions.
 use Prim.Native.Nat.{ℕ, _+_, _*_, _≤_}
-use mathlib.Core.Path.{_≡_, refl, sym, _∙_}
-use mathlib.Core.Bool.{Bool, true, false, cond, _&&_}
+use mathlib.Core.Path.{_≡_, sym, _∙_}
+use mathlib.Core.Bool.{true, false, _&&_}
 use mathlib.Core.Option.{none, some}
 use mathlib.Core.List.{List}
 use native.Mathlib.Nat.{zero-add}
@@ -15,9 +15,6 @@ use Rattle.meaning.specs.Fault.{partFault, lowest, faultThrough, coverageFault,
 use Rattle.laws.specs.Runs.{both}
 use Rattle.laws.specs.FaultsLeft.{lowest-none}
 use Rattle.laws.specs.SoundGood.{part-sound}
-use Rattle.wire.specs.declared.Fault.{Fault}
-use Rattle.wire.specs.declared.Fault.the-variants.{At, Sound}
-use Rattle.wire.specs.Fault.{faultOf, is-at, is-sound}
 use Rattle.single_subst.specs.Pairs.{goodHeader}
 
 -- a substitute for each covered glyph, and no other
@@ -33,24 +30,6 @@ module _ (s : List ℕ) (n : ℕ) {at : ℕ} (e : at ≡ word s 2) where
   pub count-sound : (at ≡ 0 → ⊥) → coverageSound s at ≡ true → {m : ℕ} → m ≡ length (coverage s at) → eqb m n ≡ equalCount s n
   unfolding equalCount
   count-sound z f h = rw (← e, ne-eqb at 0 z, f, h)
-
--- what a coverage's check answers
-module _ (s : List ℕ) (at : ℕ) {r : Fault} (e : r ≡ faultOf (coverageFault s at)) where
-  pub cover-sound : r ≡ Sound → coverageSound s at ≡ true
-  unfolding coverageFault partFault
-  cover-sound f = step (coverageSound s at) (is-sound (coverageFault s at) f e)
-    where
-      step : (b : Bool) → cond b none (some at) ≡ none → b ≡ true
-      step true q = refl
-      step false q = let z : _≡_ {A = ℕ} 0 1 = cc in absurd (omega arith)
-
-  pub cover-faulty : {p : ℕ} → r ≡ At p → coverageSound s at ≡ false
-  unfolding coverageFault partFault
-  cover-faulty {p} f = step (coverageSound s at) (is-at (coverageFault s at) f e)
-    where
-      step : (b : Bool) → cond b none (some at) ≡ some p → b ≡ false
-      step true q = let z : _≡_ {A = ℕ} 0 1 = cc in absurd (omega arith)
-      step false q = refl
 
 -- the header
 module _ (s : List ℕ) where

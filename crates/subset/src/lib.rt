@@ -7,18 +7,16 @@ use cut::cut_own;
 use maps::good_glyphs;
 use maps::good_lookups;
 use marks::Marks;
+use pair_pos::pair_device;
 use room::LIMIT;
 use room::Laid;
 use wire::Fault;
-use wire::word_at;
 ghost use mathlib.Core.Path.{_≡_};
-ghost use mathlib.Core.Bool.{_&&_, _||_};
 ghost use Prim.Native.Nat.{_+_, _*_, _≤_};
 ghost use lib.ListN.{length};
-ghost use lib.Dec.{ltb, eqb};
-ghost use Rattle.meaning.specs.Words.{word};
+ghost use lib.Dec.{ltb};
 ghost use Rattle.meaning.specs.Maps.{goodForm};
-ghost use Rattle.meaning.specs.Subset.{limit, goodKind, goodPacking, hasDevice, subset};
+ghost use Rattle.meaning.specs.Subset.{limit, goodKind, goodPacking, subset};
 ghost use Rattle.subset.specs.Answers.{numberOf, lengthOf, outcome, decoded, answerOf};
 ghost use Rattle.subset.specs.Refusals.{Judges};
 
@@ -80,26 +78,6 @@ fn too_long(source: &[u8]) -> bool
     ensures { λ r. ⌜ r ≡ ltb limit (length (now (source .entry))) ⌝ }
 {
     LIMIT < source.len()
-}
-
-// Whether a value format has a bit of 0x00F0.
-fn has_device(format: usize) -> bool
-    ensures { λ r. ⌜ r ≡ hasDevice format ⌝ }
-{
-    format / 16 % 16 != 0
-}
-
-// Whether the kind is pair, and one of the two value formats has such a bit.
-fn pair_device(kind: usize, source: &[u8]) -> bool
-    ensures { λ r. ⌜ r ≡ eqb kind 4 && (hasDevice (word (now (source .entry)) 4) || hasDevice (word (now (source .entry)) 6)) ⌝ }
-{
-    if kind != 4 {
-        return false;
-    }
-    if has_device(word_at(source, 4)) {
-        return true;
-    }
-    has_device(word_at(source, 6))
 }
 
 // The answer for what was laid.

@@ -1,6 +1,7 @@
 -- `checks::enough_sets` meets its contract. Assumes nothing.
 use borrow.Author.Needs.{needs}
-use Rattle.checks.proofs.Laws.{enough-null, enough-faulty, enough-sound, cover-sound, cover-faulty}
+use Rattle.coverage.specs.Sound.{cover-sound, cover-faulty}
+use Rattle.checks.proofs.Laws.{enough-null, enough-faulty, enough-sound}
 use Rattle.checks.proofs.enough_sets.Statement.{statement}
 use Rattle.checks.proofs.enough_sets.Tie as tie
 

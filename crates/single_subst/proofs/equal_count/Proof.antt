@@ -1,5 +1,6 @@
 use borrow.Author.Needs.{needs}
-use Rattle.single_subst.proofs.Checking.{count-null, count-faulty, count-sound, cover-sound, cover-faulty}
+use Rattle.coverage.specs.Sound.{cover-sound, cover-faulty}
+use Rattle.single_subst.proofs.Checking.{count-null, count-faulty, count-sound}
 use Rattle.single_subst.proofs.equal_count.Statement.{statement}
 use Rattle.single_subst.proofs.equal_count.Tie as tie
 

@@ -1,8 +1,9 @@
+-- `pair_pos::pair_device` meets its contract: the tests in order, each made where those before it do not settle it. Assumes nothing.
 use mathlib.Core.Path.{sym, _∙_}
-use borrow.Author.Tests.{eq-eqb, ne-eqb}
 use borrow.Author.Needs.{needs}
-use Rattle.compare.proofs.pair_device.Statement.{statement}
-use Rattle.compare.proofs.pair_device.Tie as tie
+use borrow.Author.Tests.{eq-eqb, ne-eqb}
+use Rattle.pair_pos.proofs.pair_device.Statement.{statement}
+use Rattle.pair_pos.proofs.pair_device.Tie as tie
 
 returns : tie.Need-returns
 returns c = rw (ne-eqb _ _ (c .if1 .taken))
