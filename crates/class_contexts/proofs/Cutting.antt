@@ -26,7 +26,7 @@ use Rattle.class_slots.specs.Slots.{slotBlocks, present-few}
 use Rattle.tried.specs.Tries.{Tries, tries-less}
 use Rattle.tried.specs.declared.Tried.{Tried}
 use Rattle.tried.specs.declared.Tried.the-variants.{FewCells}
-use Rattle.class_layouts.specs.Tail.{tableBlock, tableBlocks, coverOf}
+use Rattle.class_tail.specs.Tail.{tableBlock, tableBlocks, coverOf}
 use Rattle.class_layouts.specs.Written.{enoughBytes, Writes, leftInto}
 use Rattle.glyph_runs.specs.Runs.{form-is, map-good}
 use Rattle.class_maps.specs.Same.{Same, kept-same, part-alike, inside-same, holds-same, present-same}
@@ -34,8 +34,8 @@ use Rattle.class_contexts.specs.Sides.{TableFor, Asks, SideIn, Sided, In
 use Rattle.class_contexts.specs.Meaning.{backAt, inputAt, aheadAt, rulesMaps, tablesOf, blocksOf, cut-words, slots-alike}
 use Rattle.class_contexts.specs.Cutting.{enoughCells, preparedOf, Cuts, CutsInto}
 use Rattle.class_contexts.proofs.Smallness.{left-fits}
-use Rattle.class_layouts.specs.declared.NewTable.{NewTable}
-use Rattle.class_layouts.specs.declared.Noted.{Noted}
+use Rattle.class_tail.specs.declared.NewTable.{NewTable}
+use Rattle.class_tail.specs.declared.Noted.{Noted}
 use Rattle.class_contexts.specs.declared.Begun.{Begun}
 use Rattle.class_contexts.specs.declared.Side.{Side}
 use Rattle.class_contexts.specs.declared.Input.{Input}

@@ -22,8 +22,8 @@ use Rattle.class_maps.specs.Covered.{Coverable, Covered}
 use Rattle.class_maps.specs.declared.ClassMap.{ClassMap}
 use Rattle.class_maps.specs.Same.{Same, kept-same, after-same, part-alike, holds-same, inside-same, present-same}
 use Rattle.class_contexts.specs.Sides.{TableFor, table-is, Asks, Sided, InputLaid}
-use Rattle.class_layouts.specs.declared.NewTable.{NewTable}
-use Rattle.class_layouts.specs.declared.Noted.{Noted}
+use Rattle.class_tail.specs.declared.NewTable.{NewTable}
+use Rattle.class_tail.specs.declared.Noted.{Noted}
 use Rattle.class_contexts.specs.declared.Input.{Input}
 
 -- the entries of the new class table are written in the place of the classes

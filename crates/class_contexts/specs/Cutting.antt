@@ -23,7 +23,7 @@ use Rattle.glyph_runs.specs.Runs.{GlyphMap}
 use Rattle.tried.specs.declared.Tried.{Tried}
 use Rattle.class_layouts.specs.Written.{enoughBytes}
 use Rattle.class_contexts.specs.Meaning.{inputAt, SoundContext}
-use Rattle.class_layouts.specs.declared.Noted.{Noted}
+use Rattle.class_tail.specs.declared.Noted.{Noted}
 use Rattle.class_contexts.specs.declared.BothMaps.{BothMaps}
 use Rattle.class_contexts.specs.declared.Begun.{Begun}
 use Rattle.class_contexts.specs.declared.Side.{Side}

@@ -18,7 +18,7 @@ use Rattle.laws.specs.PackedReading.{sharedOffsets, packed-sets}
 use Rattle.laws.specs.FitsExactly.{shortTables, coverAt, offsets-exactly, by-class-exactly}
 use Rattle.laws.specs.FitsPacked.{packedCoverAt, packedTablesAt, packed-by-class-exactly}
 use Rattle.room.specs.Laid.{laidAs, laid-words}
-use Rattle.class_layouts.specs.Tail.{shortBlocks, tablesFit, tailFit}
+use Rattle.class_tail.specs.Tail.{shortBlocks, tablesFit, tailFit}
 use Rattle.class_layouts.specs.Table.{coverPlace, classTable}
 
 -- class tables that are short, as blocks

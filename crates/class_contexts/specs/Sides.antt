@@ -17,9 +17,9 @@ use Rattle.area.specs.Part.{news, notes}
 use Rattle.glyph_runs.specs.Runs.{GlyphMap}
 use Rattle.class_lists.specs.Tables.{tableAt, classesAt, NullOrSound, null-table, table-there, lists-there}
 use Rattle.class_maps.specs.Present.{present}
-use Rattle.class_layouts.specs.Tail.{tableBlock, block-null, block-there, TableIn}
-use Rattle.class_layouts.specs.declared.NewTable.{NewTable}
-use Rattle.class_layouts.specs.declared.Noted.{Noted}
+use Rattle.class_tail.specs.Tail.{tableBlock, block-null, block-there, TableIn}
+use Rattle.class_tail.specs.declared.NewTable.{NewTable}
+use Rattle.class_tail.specs.declared.Noted.{Noted}
 use Rattle.class_contexts.specs.declared.Side.{Side}
 use Rattle.class_contexts.specs.declared.Input.{Input}
 

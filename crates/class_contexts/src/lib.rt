@@ -1,13 +1,13 @@
 // Format 2 of contexts and chained contexts: a coverage, class tables and sets of rules by class; cut in one walk, from the source into the area.
 use class_layouts::BYTES;
-use class_layouts::NewTable;
-use class_layouts::Noted;
 use class_layouts::Prepared;
-use class_layouts::Tail;
 use class_layouts::write_left;
 use class_maps::class_map;
 use class_maps::mark_covered;
 use class_maps::new_entries;
+use class_tail::NewTable;
+use class_tail::Noted;
+use class_tail::Tail;
 use fold::Map;
 use fold::lay;
 use fold::lay_glyphs;

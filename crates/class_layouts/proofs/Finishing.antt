@@ -1,7 +1,7 @@
 -- The slots are settled, and what follows the sets and the header are written: then the table stands in two parts.
 use Prim.Native.Nat.{ℕ, _+_, _-_, _*_, _≤_, _<_}
 use mathlib.Core.Path.{_≡_, refl, sym, ap, ap₂, _∙_, subst}
-use mathlib.Core.Bool.{Bool, true, false}
+use mathlib.Core.Bool.{Bool}
 use mathlib.Core.Option.{Option}
 use mathlib.Core.List.{List, [], _∷_, _++_, append-assoc, map}
 use native.Mathlib.Omega.{arith}
@@ -21,14 +21,9 @@ use Rattle.class_slots.specs.Slots.{settled, Noted}
 use Rattle.class_slots.proofs.Halves.{offsets-many, halves-small}
 use Rattle.class_slots.specs.declared.Slots.{Slots}
 use Rattle.class_slots.proofs.Offsets.{Placed, noted-settled}
-use Rattle.class_layouts.specs.Tail.{coverOf, tableBlocks, tailOffsets, tailWords, Lays, Places}
+use Rattle.class_tail.specs.Tail.{tail-many, coverOf, tableBlocks, tailOffsets, tailWords, Lays, Places}
 use Rattle.class_layouts.specs.Table.{classTable, Finishes, Finished}
-use Rattle.class_layouts.specs.declared.Tail.{Tail}
-
--- the slots follow the format, what the header says of the coverage and the class tables, and the count
-pub tail-many : (chained : Bool) (t : List ℕ) (tail : Tail) → slotsAt chained ≡ 6 + 2 * length (tableBlocks chained t tail)
-tail-many true t tail = refl
-tail-many false t tail = refl
+use Rattle.class_tail.specs.declared.Tail.{Tail}
 
 -- the words of a table by classes, in order; the blocks of the slots may be said of more slots, of which the last are null
 table-is : (packed : Bool) (cover : List ℕ) (tables bs : List (Option (List ℕ))) (more : List ℕ) {n q f : ℕ} → n ≡ length bs → f ≡ 6 + 2 * length tables + 2 * n → q ≡ f + 2 * length more → blocksIn packed bs ≡ more

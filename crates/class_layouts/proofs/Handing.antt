@@ -27,12 +27,11 @@ use Rattle.tried.specs.Tries.{Tries}
 use Rattle.tried.specs.declared.Tried.{Tried}
 use Rattle.tried.specs.declared.Tried.the-variants.{Short, Became}
 use Rattle.room.specs.declared.Laid.the-variants.{TooBig}
-use Rattle.class_layouts.specs.Tail.{coverOf, tableBlocks, tailWords, tailFit}
+use Rattle.class_tail.specs.Tail.{tail-many, coverOf, tableBlocks, tailWords, tailFit}
 use Rattle.class_layouts.specs.Table.{coverPlace, classTable, tableInto, Finishes, Finished}
 use Rattle.class_layouts.specs.Written.{enoughBytes, BookFor, NoRoom, Writes, leftInto}
 use Rattle.class_layouts.specs.declared.Prepared.{Prepared}
-use Rattle.class_layouts.proofs.Fitting.{tail-fit}
-use Rattle.class_layouts.proofs.Finishing.{tail-many}
+use Rattle.class_tail.proofs.Fitting.{tail-fit}
 
 -- no room
 pub too-short : {n : ℕ} → n < enoughBytes → NoRoom n Short

@@ -1,5 +1,2 @@
-pub mod Fitting
-pub mod Placing
-pub mod Laying
 pub mod Finishing
 pub mod Handing

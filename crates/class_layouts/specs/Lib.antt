@@ -1,3 +1,2 @@
-pub mod Tail
 pub mod Table
 pub mod Written

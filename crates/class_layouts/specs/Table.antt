@@ -13,8 +13,8 @@ use Rattle.repeats.specs.Shared.{offsetsIn, blocksIn}
 use Rattle.class_slots.specs.Sets.{slotsAt}
 use Rattle.class_slots.specs.Slots.{Noted}
 use Rattle.class_slots.specs.declared.Slots.{Slots}
-use Rattle.class_layouts.specs.Tail.{tailOffsets, tailWords, tailFit, tailMost, TailIn}
-use Rattle.class_layouts.specs.declared.Tail.{Tail}
+use Rattle.class_tail.specs.Tail.{tailOffsets, tailWords, tailFit, tailMost, TailIn}
+use Rattle.class_tail.specs.declared.Tail.{Tail}
 
 -- where the coverage stands, behind the header and the sets
 abbrev pub coverPlace : Bool → List (Option (List ℕ)) → List (Option (List ℕ)) → ℕ

@@ -11,7 +11,7 @@ use Rattle.repeats.specs.Book.{packs}
 use Rattle.class_slots.specs.Slots.{bookCells, Ready, slotBlocks}
 use Rattle.tried.specs.Tries.{Tries}
 use Rattle.tried.specs.declared.Tried.{Tried}
-use Rattle.class_layouts.specs.Tail.{coverOf, tableBlocks, TailIn}
+use Rattle.class_tail.specs.Tail.{coverOf, tableBlocks, TailIn}
 use Rattle.class_layouts.specs.Table.{tableInto}
 use Rattle.class_layouts.specs.declared.Prepared.{Prepared}
 

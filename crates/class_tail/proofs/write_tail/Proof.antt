@@ -1,9 +1,9 @@
 use Rattle.repeats.specs.Book.{packs}
-use Rattle.class_layouts.proofs.Laying.{tail-past, cover-over, tables-asked, tail-laid}
+use Rattle.class_tail.proofs.Laying.{tail-past, cover-over, tables-asked, tail-laid}
 use native.Mathlib.Omega.{arith}
 use borrow.Author.Needs.{needs}
-use Rattle.class_layouts.proofs.write_tail.Statement.{statement}
-use Rattle.class_layouts.proofs.write_tail.Tie as tie
+use Rattle.class_tail.proofs.write_tail.Statement.{statement}
+use Rattle.class_tail.proofs.write_tail.Tie as tie
 
 returns : tie.Need-returns
 returns c = tail-past _ (c .before .before .before .before .before .before .args .chained) (c .before .before .before .before .before .before .pre .0) (c .before .before .before .before .before .before .pre .1) (c .before .before .if1 .taken) (c .over .ensures)

@@ -1,7 +1,7 @@
-use Rattle.class_layouts.proofs.Placing.{placed-null, placed-short, placed-long, spot-asked, placed-again, placed-far, placed-new}
+use Rattle.class_tail.proofs.Placing.{placed-null, placed-short, placed-long, spot-asked, placed-again, placed-far, placed-new}
 use borrow.Author.Needs.{needs}
-use Rattle.class_layouts.proofs.write_table.Statement.{statement}
-use Rattle.class_layouts.proofs.write_table.Tie as tie
+use Rattle.class_tail.proofs.write_table.Statement.{statement}
+use Rattle.class_tail.proofs.write_table.Tie as tie
 
 returns : tie.Need-returns
 returns c = placed-null (c .before .before .before .before .before .before .before .before .before .pre) (c .before .before .before .before .if1 .taken) (c .before .before .put .ensures)

@@ -14,14 +14,15 @@ use Rattle.meaning.specs.Layout.{runs, indexed, coverageWords, classWords, word
 use Rattle.laws.specs.Stands.{All, Word, threes-length}
 use Rattle.repeats.specs.Shared.{offsetsIn, blocksIn}
 use Rattle.repeats.specs.Book.{packs}
+use Rattle.class_slots.specs.Sets.{slotsAt}
 use Rattle.class_slots.specs.Slots.{bookCells, Noted}
 use Rattle.class_slots.specs.Placing.{Gathered, TurnIn}
 use Rattle.class_slots.specs.declared.Turn.{Turn}
 use Rattle.laws.specs.Runs.{indexed-length}
 use Rattle.area.specs.Extends.{Keeps, Extends}
 use Rattle.area.specs.Part.{news, notes}
-use Rattle.class_layouts.specs.declared.NewTable.{NewTable}
-use Rattle.class_layouts.specs.declared.Tail.{Tail}
+use Rattle.class_tail.specs.declared.NewTable.{NewTable}
+use Rattle.class_tail.specs.declared.Tail.{Tail}
 
 -- the block of a new class table, whose entries are noted in cells; null if the old one is
 unfoldable pub tableBlock : List ℕ → NewTable → Option (List ℕ)
@@ -161,3 +162,8 @@ pub record TablesAsked (area : List ℕ) (gap p : ℕ) (book : List ℕ) : Type 
   pub places : Places area 4 3 gap p
   pub low : p ≤ 0x1000_0000
   pub enough : packs book ≡ true → bookCells ≤ length book
+
+-- the slots follow the format, what the header says of the coverage and the class tables, and the count
+pub tail-many : (chained : Bool) (t : List ℕ) (tail : Tail) → slotsAt chained ≡ 6 + 2 * length (tableBlocks chained t tail)
+tail-many true t tail = refl
+tail-many false t tail = refl

@@ -21,9 +21,9 @@ use Rattle.class_slots.specs.Placing.{Gathered, TurnIn, SpotAsked, PlacedSpot}
 use Rattle.class_slots.specs.declared.Turn.{Turn}
 use Rattle.class_slots.proofs.Halves.{place-least}
 use Rattle.class_slots.proofs.Gathering.{gathered-null, set-behind, gathered-set}
-use Rattle.class_layouts.specs.Tail.{tableBlock, block-null, block-there, tablesFit, Touches, TableAsked, PlacedTable}
-use Rattle.class_layouts.specs.declared.NewTable.{NewTable}
-use Rattle.class_layouts.proofs.Fitting.{class-two, null-fits, next-fits, next-fit, place-new, known-fits}
+use Rattle.class_tail.specs.Tail.{tableBlock, block-null, block-there, tablesFit, Touches, TableAsked, PlacedTable}
+use Rattle.class_tail.specs.declared.NewTable.{NewTable}
+use Rattle.class_tail.proofs.Fitting.{class-two, null-fits, next-fits, next-fit, place-new, known-fits}
 
 -- Slots before what is kept.
 

@@ -1,8 +1,8 @@
 use borrow.Author.Tests.{not-true, not-false}
-use Rattle.class_layouts.proofs.Laying.{plain-asked, plain-noted, back-asked, back-over, input-asked, input-over, ahead-asked, ahead-noted}
+use Rattle.class_tail.proofs.Laying.{plain-asked, plain-noted, back-asked, back-over, input-asked, input-over, ahead-asked, ahead-noted}
 use borrow.Author.Needs.{needs}
-use Rattle.class_layouts.proofs.note_tables.Statement.{statement}
-use Rattle.class_layouts.proofs.note_tables.Tie as tie
+use Rattle.class_tail.proofs.note_tables.Statement.{statement}
+use Rattle.class_tail.proofs.note_tables.Tie as tie
 
 write-table-requires : tie.Need-write-table-requires
 write-table-requires c κs = plain-asked (c .before .before .before .before .before .before .before .before .before .before .pre .0) (c .before .before .before .before .before .before .before .before .before .before .pre .1) (c .before .before .before .before .before .begin .ensures)

@@ -23,11 +23,11 @@ use Rattle.class_slots.specs.declared.Turn.{Turn}
 use Rattle.class_slots.proofs.Halves.{offsets-many}
 use Rattle.class_slots.proofs.Gathering.{gathered-all, gathered-count}
 use Rattle.class_slots.proofs.Offsets.{offsets-back, noted-settled}
-use Rattle.class_layouts.specs.Tail.{coverOf, tableBlock, tableBlocks, cover-short, tablesFit, tailOffsets, TableIn, TailIn, Touches, TableAsked, PlacedTable, NotedTables, LaidTables, Lays, Places, TablesAsked}
-use Rattle.class_layouts.specs.declared.NewTable.{NewTable}
-use Rattle.class_layouts.specs.declared.Tail.{Tail}
-use Rattle.class_layouts.proofs.Fitting.{none-fits, front-fits, halves-fit, tail-fits, tail-fit}
-use Rattle.class_layouts.proofs.Placing.{keeps-store, touches-none, touches-next, sets-again}
+use Rattle.class_tail.specs.Tail.{coverOf, tableBlock, tableBlocks, cover-short, tablesFit, tailOffsets, TableIn, TailIn, Touches, TableAsked, PlacedTable, NotedTables, LaidTables, Lays, Places, TablesAsked}
+use Rattle.class_tail.specs.declared.NewTable.{NewTable}
+use Rattle.class_tail.specs.declared.Tail.{Tail}
+use Rattle.class_tail.proofs.Fitting.{none-fits, front-fits, halves-fit, tail-fits, tail-fit}
+use Rattle.class_tail.proofs.Placing.{keeps-store, touches-none, touches-next, sets-again}
 
 -- what the class tables are, by the places that stand for them in the book
 abbrev pub leftOf : List (Option (List ℕ)) → ℕ → Option (List ℕ)

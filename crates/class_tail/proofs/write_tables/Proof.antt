@@ -1,10 +1,10 @@
 use Rattle.class_slots.specs.Sets.{slots-near}
-use Rattle.class_layouts.proofs.Finishing.{tail-many}
-use Rattle.class_layouts.proofs.Laying.{tables-laid}
+use Rattle.class_tail.specs.Tail.{tail-many}
+use Rattle.class_tail.proofs.Laying.{tables-laid}
 use native.Mathlib.Omega.{arith}
 use borrow.Author.Needs.{needs}
-use Rattle.class_layouts.proofs.write_tables.Statement.{statement}
-use Rattle.class_layouts.proofs.write_tables.Tie as tie
+use Rattle.class_tail.proofs.write_tables.Statement.{statement}
+use Rattle.class_tail.proofs.write_tables.Tie as tie
 
 sub-n : tie.Need-sub-n
 sub-n c = omega (arith, c .slots-at .ensures, slots-near (c .before .before .before .before .before .before .before .before .before .before .before .args .chained))

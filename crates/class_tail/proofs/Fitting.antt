@@ -20,7 +20,7 @@ use Rattle.laws.specs.PackedReading.{sharedOffset, sharedOffsets}
 use Rattle.repeats.specs.Shared.{offsetsIn, blocksIn, known, placeIn, offsets-null, offsets-next}
 use Rattle.class_slots.specs.Slots.{halvesIn, settled}
 use Rattle.class_slots.proofs.Halves.{settled-offsets}
-use Rattle.class_layouts.specs.Tail.{shortBlocks, tablesFit, tailFit}
+use Rattle.class_tail.specs.Tail.{shortBlocks, tablesFit, tailFit}
 
 -- a class table has a format and a count
 pub class-two : (es : List (ℕ × ℕ)) → 2 ≤ length (classWords es)
