@@ -13,7 +13,7 @@ use native.Mathlib.Nat.{zero-add}
 use Rattle.meaning.specs.Words.{word}
 use Rattle.meaning.specs.Fault.{lowest}
 use Rattle.laws.specs.FaultsLeft.{lowest-assoc}
-use Rattle.checks.proofs.Within.{zeros-read}
+use Rattle.gsubgpos.specs.Marks.{zeros-read}
 use Rattle.wire.specs.Fault.{faultOf, placeOf, place-fault}
 use Rattle.wire.specs.Reached.{Lowest, lowest-part}
 use Rattle.wire.specs.declared.Fault.{Fault}

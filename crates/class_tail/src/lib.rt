@@ -12,7 +12,7 @@ use room::HIGHEST;
 use room::LONGEST;
 ghost use mathlib.Core.Path.{_≡_};
 ghost use mathlib.Core.Bool.{true};
-ghost use Prim.Native.Nat.{_+_, _*_, _≤_, _<_};
+ghost use Prim.Native.Nat.{_+_, _≤_, _<_};
 ghost use lib.ListN.{length};
 ghost use Rattle.repeats.specs.Book.{packs};
 ghost use Rattle.class_slots.specs.Slots.{bookCells};

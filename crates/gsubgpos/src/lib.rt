@@ -25,6 +25,9 @@ ghost use Rattle.wire.specs.Fault.{faultOf};
 ghost use Rattle.gsubgpos.specs.Marks.{Marked};
 ghost use Rattle.gsubgpos.specs.Members.{memberFault, goodRule};
 
+// The places that two offsets lead to, where rules and ligatures start: a mark for each says which were visited.
+pub const RULE_PLACES: usize = 131072;
+
 // The sorts of members that a set has.
 pub enum Member {
     Rule,

@@ -14,7 +14,7 @@ use borrow.Author.Tests.{lt-ltb, le-ltb, eqb-true, eqb-false, eq-eqb, ne-eqb}
 use Rattle.meaning.specs.Words.{word}
 use Rattle.meaning.specs.Tables.{reach, reaches, dropNull, rule, ruleSet}
 use Rattle.replaying.specs.Cost.{larger, largest, ruleSteps, setsSteps}
-use Rattle.checks.proofs.Within.{zeros-read}
+use Rattle.gsubgpos.specs.Marks.{zeros-read}
 use Rattle.rule_steps.specs.Most.{Counted}
 
 pub larger-second : (a b : ℕ) → a < b → b ≡ larger a b

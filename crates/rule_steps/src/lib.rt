@@ -1,9 +1,9 @@
 // The most steps that a rule of a lookup takes, from what the lookups that its records name take. A step is one lookup, asked at one place.
-use checks::RULE_PLACES;
-use checks::crowded;
+use gsubgpos::RULE_PLACES;
 use lookup_list::long_at;
 use lookup_list::part;
 use matching::cover_parts;
+use records::crowded;
 use rules::rule_parts;
 use wire::byte;
 use wire::put_byte;

@@ -1,13 +1,13 @@
 // The call: three marks, a source, a glyph map, a lookup map and a lent buffer, and the first answer that applies, in the written order of documents 01 and 02.
 use checks::check;
 use checks::other_format;
-use checks::records_within;
 use cut::cut_lent;
 use cut::cut_own;
 use maps::good_glyphs;
 use maps::good_lookups;
 use marks::Marks;
 use pair_pos::pair_device;
+use records::records_within;
 use room::LIMIT;
 use room::Laid;
 use wire::Fault;

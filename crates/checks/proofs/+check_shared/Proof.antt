@@ -5,7 +5,7 @@ use borrow.Author.Needs.{needs}
 use borrow.Fn.Kinds.{In}
 use borrow.Fn.PlainCycle.{Measures, is, falls, and}
 use Rattle.checks.proofs.Seen.{none-seen}
-use Rattle.checks.proofs.Within.{none-marked}
+use Rattle.gsubgpos.specs.Marks.{none-marked}
 use Rattle.checks.proofs.check_shared.Reads as check-shared
 use Rattle.checks.proofs.check_shared.Kinds as check-shared-kinds
 use Rattle.checks.proofs.+check_shared.Lts-check_shared as check-shared-lts

@@ -1,7 +1,7 @@
 -- `checks::check_through` meets its contract: no part and no member is marked at first. Assumes nothing.
 use borrow.Author.Needs.{needs}
 use Rattle.checks.proofs.Seen.{none-seen}
-use Rattle.checks.proofs.Within.{none-marked}
+use Rattle.gsubgpos.specs.Marks.{none-marked}
 use Rattle.checks.proofs.check_through.Statement.{statement}
 use Rattle.checks.proofs.check_through.Tie as tie
 

@@ -1,8 +1,8 @@
--- `checks::by_class_within` meets its contract: where the sets stand in format 2. Assumes nothing.
-use Rattle.checks.proofs.Within.{classes-plain, classes-chained}
+-- `records::by_class_within` meets its contract: where the sets stand in format 2. Assumes nothing.
+use Rattle.records.proofs.Within.{classes-plain, classes-chained}
 use borrow.Author.Needs.{needs}
-use Rattle.checks.proofs.by_class_within.Statement.{statement}
-use Rattle.checks.proofs.by_class_within.Tie as tie
+use Rattle.records.proofs.by_class_within.Statement.{statement}
+use Rattle.records.proofs.by_class_within.Tie as tie
 
 returns : tie.Need-returns
 returns c =

@@ -1,8 +1,8 @@
--- `checks::plain_covers_within` meets its contract: the records follow the coverages. Assumes nothing.
-use Rattle.checks.proofs.Within.{covers-plain}
+-- `records::plain_covers_within` meets its contract: the records follow the coverages. Assumes nothing.
+use Rattle.records.proofs.Within.{covers-plain}
 use borrow.Author.Needs.{needs}
-use Rattle.checks.proofs.plain_covers_within.Statement.{statement}
-use Rattle.checks.proofs.plain_covers_within.Tie as tie
+use Rattle.records.proofs.plain_covers_within.Statement.{statement}
+use Rattle.records.proofs.plain_covers_within.Tie as tie
 
 returns : tie.Need-returns
 returns c =

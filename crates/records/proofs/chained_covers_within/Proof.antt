@@ -1,8 +1,8 @@
--- `checks::chained_covers_within` meets its contract: the records follow the coverages. Assumes nothing.
-use Rattle.checks.proofs.Within.{covers-chained}
+-- `records::chained_covers_within` meets its contract: the records follow the coverages. Assumes nothing.
+use Rattle.records.proofs.Within.{covers-chained}
 use borrow.Author.Needs.{needs}
-use Rattle.checks.proofs.chained_covers_within.Statement.{statement}
-use Rattle.checks.proofs.chained_covers_within.Tie as tie
+use Rattle.records.proofs.chained_covers_within.Statement.{statement}
+use Rattle.records.proofs.chained_covers_within.Tie as tie
 
 returns : tie.Need-returns
 returns c =

@@ -1,7 +1,7 @@
--- `checks::covers_within` meets its contract: plain or chained. Assumes nothing.
+-- `records::covers_within` meets its contract: plain or chained. Assumes nothing.
 use borrow.Author.Needs.{needs}
-use Rattle.checks.proofs.covers_within.Statement.{statement}
-use Rattle.checks.proofs.covers_within.Tie as tie
+use Rattle.records.proofs.covers_within.Statement.{statement}
+use Rattle.records.proofs.covers_within.Tie as tie
 
 returns : tie.Need-returns
 returns c = rw (c .before .if1 .taken) (c .chained-covers-within .ensures)

@@ -4,13 +4,13 @@ use native.Mathlib.Omega.{arith}
 use borrow.Author.Needs.{needs}
 use borrow.Fn.Kinds.{In}
 use borrow.Fn.PlainCycle.{Measures, is, falls, and}
-use Rattle.checks.proofs.Within.{none-marked}
-use Rattle.checks.proofs.shared_within.Reads as shared-within
-use Rattle.checks.proofs.shared_within.Kinds as shared-within-kinds
-use Rattle.checks.proofs.+shared_within.Lts-shared_within as shared-within-lts
+use Rattle.gsubgpos.specs.Marks.{none-marked}
+use Rattle.records.proofs.shared_within.Reads as shared-within
+use Rattle.records.proofs.shared_within.Kinds as shared-within-kinds
+use Rattle.records.proofs.+shared_within.Lts-shared_within as shared-within-lts
 use Rattle.gsubgpos.proofs.sets_within.Reads as sets-within-reads
-use Rattle.checks.proofs.+shared_within.{statement}
-use Rattle.checks.proofs.+shared_within.Tie.{close}
+use Rattle.records.proofs.+shared_within.{statement}
+use Rattle.records.proofs.+shared_within.Tie.{close}
 
 abbrev μ-shared-within : Measures 1 shared-within-kinds.ps ℕ
 μ-shared-within κs a = a .1 .1 .1 .1 .0

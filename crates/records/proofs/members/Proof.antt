@@ -1,10 +1,10 @@
--- `checks::members` meets its contract: the members counted so far and those of the sets that are left are all. Assumes nothing.
+-- `records::members` meets its contract: the members counted so far and those of the sets that are left are all. Assumes nothing.
 use Prim.Native.Nat.{_-_}
 use native.Mathlib.Omega.{arith}
 use borrow.Author.Needs.{needs}
-use Rattle.checks.specs.Crowded.{Counting, counting-all, counting-next, counting-end}
-use Rattle.checks.proofs.members.Statement.{statement}
-use Rattle.checks.proofs.members.Tie as tie
+use Rattle.records.specs.Crowded.{Counting, counting-all, counting-next, counting-end}
+use Rattle.records.proofs.members.Statement.{statement}
+use Rattle.records.proofs.members.Tie as tie
 
 abbrev Inv-loop : tie.InvT-loop
 Inv-loop src slot n total₀ i₀ total i = Counting src slot n total i

@@ -1,9 +1,9 @@
--- `checks::records_within` meets its contract: by the kind. Assumes nothing.
+-- `records::records_within` meets its contract: by the kind. Assumes nothing.
 use native.Mathlib.Omega.{arith}
-use Rattle.checks.proofs.Within.{within-plain, within-chain, within-other}
+use Rattle.records.proofs.Within.{within-plain, within-chain, within-other}
 use borrow.Author.Needs.{needs}
-use Rattle.checks.proofs.records_within.Statement.{statement}
-use Rattle.checks.proofs.records_within.Tie as tie
+use Rattle.records.proofs.records_within.Statement.{statement}
+use Rattle.records.proofs.records_within.Tie as tie
 
 returns : tie.Need-returns
 returns c =

@@ -1,8 +1,8 @@
--- `checks::sets_within` meets its contract: no rule is marked at first. Assumes nothing.
-use Rattle.checks.proofs.Within.{none-marked}
+-- `records::sets_within` meets its contract: no rule is marked at first. Assumes nothing.
+use Rattle.gsubgpos.specs.Marks.{none-marked}
 use borrow.Author.Needs.{needs}
-use Rattle.checks.proofs.sets_within.Statement.{statement}
-use Rattle.checks.proofs.sets_within.Tie as tie
+use Rattle.records.proofs.sets_within.Statement.{statement}
+use Rattle.records.proofs.sets_within.Tie as tie
 
 sets-within-requires : tie.Need-sets-within-requires
 sets-within-requires c κs =

@@ -1,9 +1,9 @@
--- `checks::context_within` meets its contract: by the format. Assumes nothing.
+-- `records::context_within` meets its contract: by the format. Assumes nothing.
 use native.Mathlib.Omega.{arith}
-use Rattle.checks.proofs.Within.{within-1, within-2, within-3}
+use Rattle.records.proofs.Within.{within-1, within-2, within-3}
 use borrow.Author.Needs.{needs}
-use Rattle.checks.proofs.context_within.Statement.{statement}
-use Rattle.checks.proofs.context_within.Tie as tie
+use Rattle.records.proofs.context_within.Statement.{statement}
+use Rattle.records.proofs.context_within.Tie as tie
 
 returns : tie.Need-returns
 returns c =

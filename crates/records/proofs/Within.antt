@@ -1,11 +1,8 @@
 -- The ways through the pass for records past their rule, by the kind and the format.
-use Prim.Native.Nat.{ℕ, _+_, _*_, _<_}
+use Prim.Native.Nat.{ℕ, _+_, _*_}
 use mathlib.Core.Path.{_≡_, refl}
 use mathlib.Core.Bool.{Bool, true, false, cond}
 use mathlib.Core.List.{List}
-use native.Mathlib.Decide.{decLt}
-use native.Mathlib.Omega.{arith}
-use lib.ListN.{getD, replicate, length-replicate, getD-replicate, List·getD-eq-default}
 use lib.Dec.{eqb}
 use borrow.Author.Tests.{ne-eqb}
 use Rattle.meaning.specs.Words.{word, entries}
@@ -13,19 +10,6 @@ use Rattle.meaning.specs.Parts.{coverage}
 use Rattle.meaning.specs.Tables.{Table, reaches, ruleSet, pairTable, classContext, coverContext, context, single, table}
 use Rattle.meaning.specs.Records.{indexesBelow, setsWithin, recordsWithin}
 use Rattle.laws.specs.SoundGood.{reaches-length}
-use Rattle.gsubgpos.specs.Marks.{Marked}
-
--- what is read of zeros
-pub zeros-read : (n j : ℕ) → _≡_ {A = ℕ} (getD (replicate n 0) j 0) 0
-zeros-read n j = step (decLt j n)
-  where
-    step : Dec (j < n) → _≡_ {A = ℕ} (getD (replicate n 0) j 0) 0
-    step (yes l) = getD-replicate n j 0 0 l
-    step (no l) = List·getD-eq-default (replicate n 0) 0 (omega (arith, length-replicate {A = ℕ} n 0))
-
--- zeros mark no place
-pub none-marked : {A : Type 0} {f : ℕ → A} {v : A} (n : ℕ) → Marked f v (replicate n 0)
-none-marked n = record { known = λ p m. absurd (m (zeros-read n p)) }
 
 -- format 3: one rule, whose records follow its coverages
 module _ (s : List ℕ) {t : Bool} where

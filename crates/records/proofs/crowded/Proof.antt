@@ -1,9 +1,9 @@
--- `checks::crowded` meets its contract: the source's length and the number of members decide. Assumes nothing.
+-- `records::crowded` meets its contract: the source's length and the number of members decide. Assumes nothing.
 use native.Mathlib.Omega.{arith}
 use borrow.Author.Needs.{needs}
-use Rattle.checks.specs.Crowded.{crowds-short, crowds-long, crowds-by}
-use Rattle.checks.proofs.crowded.Statement.{statement}
-use Rattle.checks.proofs.crowded.Tie as tie
+use Rattle.records.specs.Crowded.{crowds-short, crowds-long, crowds-by}
+use Rattle.records.proofs.crowded.Statement.{statement}
+use Rattle.records.proofs.crowded.Tie as tie
 
 returns : tie.Need-returns
 returns c =
