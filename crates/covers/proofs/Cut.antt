@@ -35,13 +35,13 @@ use Rattle.numbers.specs.Alike.{holds-alike, records-alike}
 use Rattle.repeats.specs.Book.{packs, Begun}
 use Rattle.cover_rows.specs.Rows.{wordsLeft, blockLeft, blocksLeft, enoughBytes, MostRow}
 use Rattle.cover_rows.specs.Parts.{coversAt, recordsAt, IsContext}
-use Rattle.covers.specs.Context.{coversWords, contextLeft, offsetsFit, contextFit, Settles, MostNotes, Asks, Begins, Writes}
+use Rattle.cover_contexts.specs.Context.{coversWords, contextLeft, offsetsFit, contextFit, Settles, MostNotes, Asks, Begins, Writes}
 use Rattle.covers.specs.Cutting.{wordsInto, HandsOver, Cuts, CutsInto, isPacked}
 use Rattle.cover_rows.specs.declared.Row.{Row}
 use Rattle.cover_rows.specs.declared.CoverParts.{CoverParts}
 use Rattle.cover_rows.specs.declared.Held.{Held}
-use Rattle.covers.proofs.Layouts.{words-covers, covers-fit}
-use Rattle.covers.proofs.Context.{few-records}
+use Rattle.cover_contexts.proofs.Layouts.{words-covers, covers-fit}
+use Rattle.cover_contexts.proofs.Context.{few-records}
 
 -- the blocks that are left are those of the coverages that are left
 blocks-are : (g : List (ℕ × ℕ)) (cs : List (Option (List ℕ))) → blocksLeft g cs ≡ bind (coversLeft g cs) (λ ks. some (map (block coverageWords) ks))

@@ -22,7 +22,7 @@ use Rattle.tried.specs.Tries.{Tries}
 use Rattle.tried.specs.declared.Tried.{Tried}
 use Rattle.cover_rows.specs.Rows.{Ready, enoughBytes}
 use Rattle.cover_rows.specs.declared.Held.{Held}
-use Rattle.covers.specs.Context.{Settles}
+use Rattle.cover_contexts.specs.Context.{Settles}
 
 -- what comes of the words of what is left, which fit or not
 abbrev pub wordsInto : Bool → List ℕ → Option (List ℕ) → Outcome

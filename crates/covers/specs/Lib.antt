@@ -1,2 +1,1 @@
-pub mod Context
 pub mod Cutting

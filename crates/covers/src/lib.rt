@@ -1,31 +1,24 @@
 // Format 3 of contexts and chained contexts: coverages for backtrack, input and lookahead, and records; cut in one walk, from the source into the area.
-// The area's header has its parts where the source has them, since each row of coverages stays whole.
 use area::hand_over;
-use area::put;
-use area::put_three;
+use cover_contexts::Cells;
+use cover_contexts::write_context;
 use cover_rows::CoverParts;
 use cover_rows::Held;
-use cover_rows::Places;
 use cover_rows::cover_parts;
 use cover_rows::most_row;
-use cover_rows::write_counted_row;
-use cover_rows::write_row;
-use fold::Map;
 use fold::lay;
 use fold::lay_glyphs;
 use marks::Marks;
-use numbers::write_counted_records;
-use numbers::write_records;
 use repeats::BOOK;
 use repeats::begin;
 use room::LIMIT;
 use room::Laid;
 use tried::Tried;
-ghost use mathlib.Core.Bool.{true, false};
+ghost use mathlib.Core.Bool.{true};
 ghost use Prim.Native.Nat.{_+_, _-_, _*_, _≤_, _<_};
 ghost use lib.ListN.{length};
 ghost use Rattle.meaning.specs.Maps.{mapEntries, glyphEntries};
-ghost use Rattle.covers.specs.Context.{MostNotes, Asks, Begins, Writes};
+ghost use Rattle.cover_contexts.specs.Context.{MostNotes, Asks, Writes};
 ghost use Rattle.cover_rows.specs.Rows.{SoundRow, enoughBytes};
 ghost use Rattle.glyph_runs.specs.Runs.{GlyphMap};
 ghost use Rattle.covers.specs.Cutting.{HandsOver, Cuts, CutsInto, Sound, enoughCells, isPacked, Least};
@@ -33,7 +26,6 @@ ghost use Rattle.meaning.specs.Tables.{coverContext};
 ghost use Rattle.meaning.specs.Cut.{cut};
 ghost use Rattle.meaning.specs.Subset.{writtenIn};
 ghost use Rattle.tried.specs.Tries.{Tries};
-ghost use Rattle.repeats.specs.Book.{packs};
 
 // The number of cells that is enough for any source: two maps of 65,536 cells each, and a note for each glyph and one more.
 pub const CELLS: usize = 196609;
@@ -41,93 +33,7 @@ pub const CELLS: usize = 196609;
 // The bytes of an area that is enough for any source: the header and the coverages that are kept end by the limit, and one coverage more is written.
 pub const BYTES: usize = 5 * LIMIT / 2;
 
-// Both maps in cells, the glyph map with its form.
-pub struct Cells {
-    pub glyphs: Held,
-    pub lookups: Map,
-}
-
-// A plain context: format, both counts, the offsets, the records that stay, and what is left of the coverages; the place after it, and 0 if nothing is left.
-fn write_plain(
-    src: &[u8],
-    parts: CoverParts,
-    glyphs: &[u8],
-    cells: Cells,
-    t: &mut [u32],
-    area: &mut [u8],
-    book: &mut [u32],
-) -> usize
-    requires { ⌜ Asks false (now src) parts (now glyphs) (cells .glyphs) (cells .lookups) (now t) (now area) × Begins (now book) ⌝ }
-    ensures { λ r. ⌜ Writes (packs (now (book .entry))) false (now (src .entry)) parts (now (glyphs .entry)) (cells .glyphs) (cells .lookups) (now (t .entry)) (now (area .entry)) (now (area .exit)) r ⌝ }
-{
-    let at = parts.records.at;
-    let p = write_records(src, at, parts.records.len, t, cells.lookups, area, at);
-    put_three(area, 0, 3, parts.input.len, (p - at) / 4);
-    let places = Places { first: p, pos: p };
-    write_row(
-        src,
-        parts.input,
-        glyphs,
-        cells.glyphs,
-        t,
-        area,
-        places,
-        book,
-    )
-}
-
-// A chained context: format, and each row with its count; the records that stay with theirs, and what is left of the coverages; the place after it, and 0 if nothing is left.
-fn write_chained(
-    src: &[u8],
-    parts: CoverParts,
-    glyphs: &[u8],
-    cells: Cells,
-    t: &mut [u32],
-    area: &mut [u8],
-    book: &mut [u32],
-) -> usize
-    requires { ⌜ Asks true (now src) parts (now glyphs) (cells .glyphs) (cells .lookups) (now t) (now area) × Begins (now book) ⌝ }
-    ensures { λ r. ⌜ Writes (packs (now (book .entry))) true (now (src .entry)) parts (now (glyphs .entry)) (cells .glyphs) (cells .lookups) (now (t .entry)) (now (area .entry)) (now (area .exit)) r ⌝ }
-{
-    let at = parts.records.at;
-    let n = parts.records.len;
-    let first = write_counted_records(src, at, n, t, cells.lookups, area, at - 2);
-    put(area, 0, 3);
-    let p = Places { first, pos: first };
-    let q = write_counted_row(src, parts.back, glyphs, cells.glyphs, t, area, p, book);
-    if q == 0 {
-        return 0;
-    }
-    let p = Places { first, pos: q };
-    let r = write_counted_row(src, parts.input, glyphs, cells.glyphs, t, area, p, book);
-    if r == 0 {
-        return 0;
-    }
-    let p = Places { first, pos: r };
-    write_counted_row(src, parts.ahead, glyphs, cells.glyphs, t, area, p, book)
-}
-
-// What is left of a context by coverages, written from the area's start on; the place after it, and 0 if nothing is left. The book has no coverage yet.
-pub fn write_context(
-    chained: bool,
-    src: &[u8],
-    parts: CoverParts,
-    glyphs: &[u8],
-    cells: Cells,
-    t: &mut [u32],
-    area: &mut [u8],
-    book: &mut [u32],
-) -> usize
-    requires { ⌜ Asks chained (now src) parts (now glyphs) (cells .glyphs) (cells .lookups) (now t) (now area) × Begins (now book) ⌝ }
-    ensures { λ r. ⌜ Writes (packs (now (book .entry))) chained (now (src .entry)) parts (now (glyphs .entry)) (cells .glyphs) (cells .lookups) (now (t .entry)) (now (area .entry)) (now (area .exit)) r ⌝ }
-{
-    if chained {
-        return write_chained(src, parts, glyphs, cells, t, area, book);
-    }
-    write_plain(src, parts, glyphs, cells, t, area, book)
-}
-
-// The same with no coverage written twice, and a book of them.
+// What is left of a context by coverages, written from the area's start on, with no coverage written twice, and a book of them; the place after it, and 0 if nothing is left.
 // It calls itself, so that the compiler keeps the book out of its caller's frame: a call for the plain layout would pay for it. How often it does, `rounds`, is 0 for a map of whole entries.
 fn write_packed(
     chained: bool,

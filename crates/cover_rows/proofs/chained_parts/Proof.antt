@@ -1,4 +1,4 @@
--- `covers::chained_parts` meets its contract: each array stands after the one before it. Assumes nothing.
+-- `cover_rows::chained_parts` meets its contract: each array stands after the one before it. Assumes nothing.
 use borrow.Author.Needs.{needs}
 use Rattle.cover_rows.proofs.Parts.{chained-is}
 use Rattle.cover_rows.proofs.chained_parts.Statement.{statement}

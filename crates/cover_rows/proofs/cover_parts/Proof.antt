@@ -1,4 +1,4 @@
--- `covers::cover_parts` meets its contract: by the kind of context. Assumes nothing.
+-- `cover_rows::cover_parts` meets its contract: by the kind of context. Assumes nothing.
 use Rattle.cover_rows.proofs.cover_parts.Statement.{statement}
 use Rattle.cover_rows.proofs.cover_parts.Tie as tie
 

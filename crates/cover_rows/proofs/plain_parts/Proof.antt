@@ -1,4 +1,4 @@
--- `covers::plain_parts` meets its contract: the records stand after the offsets. Assumes nothing.
+-- `cover_rows::plain_parts` meets its contract: the records stand after the offsets. Assumes nothing.
 use borrow.Author.Needs.{needs}
 use Rattle.cover_rows.proofs.Parts.{plain-is}
 use Rattle.cover_rows.proofs.plain_parts.Statement.{statement}

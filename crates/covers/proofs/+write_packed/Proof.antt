@@ -8,7 +8,7 @@ use borrow.Fn.PlainCycle.{Measures, is, falls, and}
 use Rattle.covers.proofs.write_packed.Reads as write-packed
 use Rattle.covers.proofs.write_packed.Kinds as write-packed-kinds
 use Rattle.covers.proofs.+write_packed.Lts-write_packed as write-packed-lts
-use Rattle.covers.proofs.write_context.Reads as write-context-reads
+use Rattle.cover_contexts.proofs.write_context.Reads as write-context-reads
 use Rattle.repeats.proofs.begin.Reads as begin-reads
 use Rattle.covers.proofs.+write_packed.{statement}
 use Rattle.covers.proofs.+write_packed.Tie.{close}

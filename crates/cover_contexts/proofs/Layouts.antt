@@ -18,7 +18,7 @@ use Rattle.laws.specs.FitsExactly.{covers-exactly, chained-covers-exactly}
 use Rattle.laws.specs.FitsPacked.{rows-offsets, rows-blocks, packed-by-cover-exactly, packed-chained-cover-exactly}
 use Rattle.repeats.specs.Shared.{offsetsIn, blocksIn}
 use Rattle.cover_rows.specs.Behind.{offsetsBehind, blocksBehind, behind-length, offsets-after, offsets-split, split-fit, blocks-after, blocks-split}
-use Rattle.covers.specs.Context.{coversFrom, coversWords, offsetsFit}
+use Rattle.cover_contexts.specs.Context.{coversFrom, coversWords, offsetsFit}
 
 -- with nothing before them
 pub no-offsets : (packed : Bool) (p : ℕ) → offsetsIn packed p [] ≡ []

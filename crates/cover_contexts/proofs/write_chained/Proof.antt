@@ -1,9 +1,9 @@
-use Rattle.covers.proofs.Context.{counted-written, back-asks, back-gone, input-asks, input-gone, ahead-asks, ahead-settles}
+use Rattle.cover_contexts.proofs.Context.{counted-written, back-asks, back-gone, input-asks, input-gone, ahead-asks, ahead-settles}
 use mathlib.Core.Path.{refl}
 use native.Mathlib.Omega.{arith}
 use borrow.Author.Needs.{needs}
-use Rattle.covers.proofs.write_chained.Statement.{statement}
-use Rattle.covers.proofs.write_chained.Tie as tie
+use Rattle.cover_contexts.proofs.write_chained.Statement.{statement}
+use Rattle.cover_contexts.proofs.write_chained.Tie as tie
 
 sub-write-counted-records : tie.Need-sub-write-counted-records
 sub-write-counted-records c = omega (arith, c .before .before .before .before .before .before .before .pre .0 .parts .chain refl .records)

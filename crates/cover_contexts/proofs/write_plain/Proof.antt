@@ -1,9 +1,9 @@
-use Rattle.covers.proofs.Context.{plain-asks, plain-settles}
+use Rattle.cover_contexts.proofs.Context.{plain-asks, plain-settles}
 use mathlib.Core.Path.{refl}
 use native.Mathlib.Omega.{arith}
 use borrow.Author.Needs.{needs}
-use Rattle.covers.proofs.write_plain.Statement.{statement}
-use Rattle.covers.proofs.write_plain.Tie as tie
+use Rattle.cover_contexts.proofs.write_plain.Statement.{statement}
+use Rattle.cover_contexts.proofs.write_plain.Tie as tie
 
 put-three-requires : tie.Need-put-three-requires
 put-three-requires c κs =

@@ -1,6 +1,6 @@
 use borrow.Author.Needs.{needs}
-use Rattle.covers.proofs.write_context.Statement.{statement}
-use Rattle.covers.proofs.write_context.Tie as tie
+use Rattle.cover_contexts.proofs.write_context.Statement.{statement}
+use Rattle.cover_contexts.proofs.write_context.Tie as tie
 
 write-chained-requires : tie.Need-write-chained-requires
 write-chained-requires c κs = (rw (c .before .before .before .if1 .taken) at (c .before .before .before .before .before .before .before .before .before .pre .0), c .before .before .before .before .before .before .before .before .before .pre .1)
