@@ -333,6 +333,6 @@ pub fn check(kind: usize, src: &[u8]) -> Fault
         2 => check_context(true, src),
         3 => check_ligatures(src),
         4 => check_pairs(src),
-        _ => single_subst::check(src),
+        _ => single_checks::check(src),
     }
 }

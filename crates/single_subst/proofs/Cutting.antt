@@ -36,7 +36,7 @@ use Rattle.tried.specs.declared.Tried.{Tried}
 use Rattle.single_subst.specs.Pairs.{covered, substitutes, pairs, pairAt, KeepsPairs, KeptPairs}
 use Rattle.single_subst.specs.Writing.{Writes}
 use Rattle.single_subst.specs.Whole.{Sound, MapLaid, enoughCells}
-use Rattle.single_subst.proofs.Checking.{Good, good-table}
+use Rattle.single_checks.proofs.Checking.{Good, good-table}
 
 -- Indexes of notes lie in the coverage.
 met-indexes : (f : ℕ → Option ℕ) (i n : ℕ) (cov : List ℕ) → i + length cov ≤ n → All (λ e. e .0 < n) (met f i cov)

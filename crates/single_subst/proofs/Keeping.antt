@@ -18,7 +18,7 @@ use Rattle.fold.specs.declared.Map.{Map}
 use Rattle.area.specs.Part.{part, part-append, notes, oldAt}
 use Rattle.area.specs.Stored.{part-same, part-store}
 use Rattle.single_subst.specs.Pairs.{covered, substitutes, Singles, Substitute, pairOf, pairs, pairAt, pairCell, noted, KeepsPair, KeptPair, KeepsPairs, KeptPairs}
-use Rattle.single_subst.proofs.Checking.{Good, good-table}
+use Rattle.single_checks.proofs.Checking.{Good, good-table}
 
 -- Substitutes.
 

@@ -1,4 +1,3 @@
-pub mod Checking
 pub mod Keeping
 pub mod Laying
 pub mod Cutting

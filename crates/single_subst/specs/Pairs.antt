@@ -1,23 +1,19 @@
 -- The pairs of glyph and substitute that stay.
 use Prim.Native.Nat.{ℕ, _+_, _*_, _/_, _%_, _≤_, _<_}
 use mathlib.Core.Path.{_≡_}
-use mathlib.Core.Bool.{Bool, cond, _&&_, _||_}
+use mathlib.Core.Bool.{Bool, cond}
 use mathlib.Core.Option.{Option, none, some}
 use mathlib.Core.List.{List, map}
 use lib.ListN.{length, getD, set}
 use lib.Dec.{eqb}
-use Rattle.meaning.specs.Words.{word, words, inside, bind, mapSome}
+use Rattle.meaning.specs.Words.{word, words, bind, mapSome}
 use Rattle.meaning.specs.Parts.{coverage}
 use Rattle.meaning.specs.Tables.{plusDelta}
-use Rattle.meaning.specs.Fault.{equalCount, singleFault}
+use Rattle.meaning.specs.Fault.{singleFault}
 use Rattle.meaning.specs.Cut.{agree}
 use Rattle.fold.specs.Cells.{cellEntry, folded, Inside, Kept}
 use Rattle.fold.specs.declared.Map.{Map}
 use Rattle.area.specs.Part.{part, notes, oldAt}
-
--- the header is not at fault: a delta, or a count and as many substitutes, lie inside, and their count is not at odds with a sound coverage
-abbrev pub goodHeader : List ℕ → Bool
-goodHeader s = inside s 0 6 && (eqb (word s 0) 1 || (inside s 6 (2 * word s 4) && equalCount s (word s 4)))
 
 -- the covered glyphs of a single substitution
 abbrev pub covered : List ℕ → List ℕ

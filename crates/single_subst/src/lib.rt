@@ -1,4 +1,4 @@
-// GSUB single substitutions: a delta that is added to each covered glyph (format 1), or a substitute for each (format 2). Checked, and cut in one walk:
+// GSUB single substitutions: a delta that is added to each covered glyph (format 1), or a substitute for each (format 2). Cut in one walk:
 // the retained covered glyphs are noted in cells, those whose substitutes are retained too stay there as pairs, and their table is written into the area and handed over to the buffer.
 use area::hand_over;
 use area::put;
@@ -16,9 +16,6 @@ use std::num::wrapping_add_u16;
 use std::num::wrapping_sub_u16;
 use tried::Tried;
 use view::header;
-use view::subtable_place;
-use wire::Fault;
-use wire::inside;
 use wire::word_inside;
 ghost use mathlib.Core.Path.{_≡_};
 ghost use mathlib.Core.Bool.{true};
@@ -29,14 +26,12 @@ ghost use lib.Dec.{ltb};
 ghost use Rattle.meaning.specs.Words.{flat};
 ghost use Rattle.meaning.specs.Maps.{glyphEntries};
 ghost use Rattle.meaning.specs.Tables.{single};
-ghost use Rattle.meaning.specs.Fault.{equalCount, singleFault};
 ghost use Rattle.meaning.specs.Cut.{deltaOf, agree, keptSingles, cut};
 ghost use Rattle.meaning.specs.Subset.{limit, written};
-ghost use Rattle.wire.specs.Fault.{faultOf};
 ghost use Rattle.room.specs.Laid.{laidAs};
 ghost use Rattle.laws.specs.Written.{Wrote};
 ghost use Rattle.tried.specs.Tries.{Tries};
-ghost use Rattle.single_subst.specs.Pairs.{goodHeader, Singles, Substitute, pairOf, pairs, subs, KeepsPair, KeptPair, KeepsPairs, KeptPairs};
+ghost use Rattle.single_subst.specs.Pairs.{Singles, Substitute, pairOf, pairs, subs, KeepsPair, KeptPair, KeepsPairs, KeptPairs};
 ghost use Rattle.single_subst.specs.Writing.{deltaLayout, listLayout, Standing, Stands, Hands, Writes};
 ghost use Rattle.single_subst.specs.Whole.{Sound, MapLaid, enoughCells};
 
@@ -44,48 +39,6 @@ ghost use Rattle.single_subst.specs.Whole.{Sound, MapLaid, enoughCells};
 pub struct Pairs {
     pub count: usize,
     pub same: bool,
-}
-
-// Whether there is a substitute for each covered glyph, and no other, where there are `n`; not judged where the coverage is null or faulty.
-fn equal_count(src: &[u8], n: usize) -> bool
-    ensures { λ r. ⌜ r ≡ equalCount (now (src .entry)) n ⌝ }
-{
-    let at = subtable_place(src, 2);
-    if at == 0 {
-        return true;
-    }
-    let Fault::Sound = coverage::check(src, at) else {
-        return true;
-    };
-    coverage::count(src, at) == n
-}
-
-// Whether the header lies inside, with its delta, or with its substitutes, of which there are as many as covered glyphs.
-fn good_header(src: &[u8]) -> bool
-    ensures { λ r. ⌜ r ≡ goodHeader (now (src .entry)) ⌝ }
-{
-    if !inside(src, 0, 6) {
-        return false;
-    }
-    if header(src, 0) == 1 {
-        return true;
-    }
-    let n = header(src, 4);
-    inside(src, 6, 2 * n) && equal_count(src, n)
-}
-
-// Where the lowest faulty part of a single substitution starts, header or coverage, or that it is sound.
-pub fn check(src: &[u8]) -> Fault
-    ensures { λ r. ⌜ r ≡ faultOf (singleFault (now (src .entry))) ⌝ }
-{
-    if !good_header(src) {
-        return Fault::At(0);
-    }
-    let cover = subtable_place(src, 2);
-    if cover == 0 {
-        return Fault::Sound;
-    }
-    coverage::check(src, cover)
 }
 
 // The substitute of the glyph with the coverage index `i`: the glyph plus the delta, modulo 65,536, or the one that is listed.

@@ -2,7 +2,7 @@ use mathlib.Core.Path.{refl}
 use native.Mathlib.Omega.{arith}
 use borrow.Author.Needs.{needs}
 use Rattle.laws.specs.SoundGood.{bytes-all}
-use Rattle.single_subst.proofs.Checking.{good-table}
+use Rattle.single_checks.proofs.Checking.{good-table}
 use Rattle.single_subst.proofs.Cutting.{met-cover, counts, meets, keeps, writes, cut-tries}
 use Rattle.single_subst.proofs.cut_singles.Statement.{statement}
 use Rattle.single_subst.proofs.cut_singles.Tie as tie

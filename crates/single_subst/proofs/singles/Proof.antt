@@ -8,7 +8,7 @@ use borrow.Author.Needs.{needs}
 use lib.ListN.{length}
 use Rattle.meaning.specs.Maps.{glyphEntries}
 use Rattle.meaning.specs.Subset.{limit, written}
-use Rattle.single_subst.proofs.Checking.{header-inside}
+use Rattle.single_checks.proofs.Checking.{header-inside}
 use Rattle.single_subst.proofs.Cutting.{null-cut, few-cells, map-laid, cells-same}
 use Rattle.single_subst.proofs.singles.Statement.{statement}
 use Rattle.single_subst.proofs.singles.Tie as tie

@@ -15,7 +15,7 @@ use Rattle.meaning.specs.Fault.{partFault, lowest, faultThrough, coverageFault,
 use Rattle.laws.specs.Runs.{both}
 use Rattle.laws.specs.FaultsLeft.{lowest-none}
 use Rattle.laws.specs.SoundGood.{part-sound}
-use Rattle.single_subst.specs.Pairs.{goodHeader}
+use Rattle.single_checks.specs.Header.{goodHeader}
 
 -- a substitute for each covered glyph, and no other
 module _ (s : List ℕ) (n : ℕ) {at : ℕ} (e : at ≡ word s 2) where

@@ -1,8 +1,8 @@
 use borrow.Author.Needs.{needs}
 use Rattle.coverage.specs.Sound.{cover-sound, cover-faulty}
-use Rattle.single_subst.proofs.Checking.{count-null, count-faulty, count-sound}
-use Rattle.single_subst.proofs.equal_count.Statement.{statement}
-use Rattle.single_subst.proofs.equal_count.Tie as tie
+use Rattle.single_checks.proofs.Checking.{count-null, count-faulty, count-sound}
+use Rattle.single_checks.proofs.equal_count.Statement.{statement}
+use Rattle.single_checks.proofs.equal_count.Tie as tie
 
 returns : tie.Need-returns
 returns c =

@@ -1,9 +1,9 @@
-use Rattle.single_subst.proofs.Checking.{header-short, header-delta, header-list}
+use Rattle.single_checks.proofs.Checking.{header-short, header-delta, header-list}
 use borrow.Author.Tests.{not-true, not-false}
 use mathlib.Core.Path.{sym, _∙_}
 use borrow.Author.Needs.{needs}
-use Rattle.single_subst.proofs.good_header.Statement.{statement}
-use Rattle.single_subst.proofs.good_header.Tie as tie
+use Rattle.single_checks.proofs.good_header.Statement.{statement}
+use Rattle.single_checks.proofs.good_header.Tie as tie
 
 returns : tie.Need-returns
 returns c =

@@ -1,10 +1,10 @@
-use Rattle.single_subst.proofs.Checking.{single-short, single-null, single-cover}
+use Rattle.single_checks.proofs.Checking.{single-short, single-null, single-cover}
 use Rattle.wire.specs.Fault.{faultOf}
 use borrow.Author.Tests.{not-true, not-false}
 use mathlib.Core.Path.{sym, ap, _∙_}
 use borrow.Author.Needs.{needs}
-use Rattle.single_subst.proofs.check.Statement.{statement}
-use Rattle.single_subst.proofs.check.Tie as tie
+use Rattle.single_checks.proofs.check.Statement.{statement}
+use Rattle.single_checks.proofs.check.Tie as tie
 
 returns : tie.Need-returns
 returns c =
