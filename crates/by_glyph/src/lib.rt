@@ -9,7 +9,7 @@ use kept_table::write_table;
 use marks::Marks;
 use meet_runs::meet;
 use meet_runs::most;
-use member_sets::PLACES;
+use member_sets::DEAD;
 use member_sets::crowded;
 use pair_formats::new_formats;
 use pair_sets::kept_places;
@@ -60,7 +60,7 @@ fn write_shared(
     if rounds != 0 {
         return write_shared(sort, src, t, notes, maps, rounds - 1, area, out);
     }
-    let mut dead = [0u8; PLACES];
+    let mut dead = [0u32; DEAD];
     write_table(sort, src, &mut dead, t, notes, maps, area, out)
 }
 
@@ -101,7 +101,7 @@ fn cut_sets(
             out,
         );
     }
-    let mut no_marks = [0u8; 1];
+    let mut no_marks = [0u32; 1];
     write_table(sort, src, &mut no_marks, t, found, maps, area, out)
 }
 
@@ -180,7 +180,7 @@ fn write_pair_table(
     ensures { λ r. ⌜ AnsweredPairs (notes .packing) (now (src .entry)) (now (t .entry)) g (notes .at) (notes .count) (now (out .entry)) (length (now (area .entry))) r (now (out .exit)) ⌝ }
 {
     let f = new_formats(src, t, notes.at, notes.count, g);
-    let mut places = [0u8; 8];
+    let mut places = [0u32; 8];
     let k = kept_places(f.f1, f.f2, f.n1, f.n2, &mut places);
     let maps = Maps {
         back: g,

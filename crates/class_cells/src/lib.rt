@@ -169,7 +169,7 @@ pub fn new_formats(src: &[u8], t: &[u32], firsts: Map, seconds: Map) -> Formats
 fn write_cell(
     src: &[u8],
     p: usize,
-    places: &[u8],
+    places: &[u32],
     t: &[u32],
     seconds: Map,
     c: usize,
@@ -193,7 +193,7 @@ fn write_row(
     src: &[u8],
     p: usize,
     size: usize,
-    places: &[u8],
+    places: &[u32],
     t: &[u32],
     seconds: Map,
     area: &mut [u8],
@@ -221,7 +221,7 @@ fn write_row(
 fn write_rows(
     src: &[u8],
     size: usize,
-    places: &[u8],
+    places: &[u32],
     t: &[u32],
     firsts: Map,
     seconds: Map,
@@ -265,7 +265,7 @@ pub fn write_cells(
     requires { ⌜ AsksCells (now src) (now t) firsts seconds × AsksRows (now src) f × (pos ≤ length (now area)) ⌝ }
     ensures { λ r. ⌜ Tried (now (area .entry)) pos (keptCells (entriesIn (now (t .entry)) firsts) (entriesIn (now (t .entry)) seconds) (now (src .entry)) (f .n1) (f .n2)) (now (area .exit)) r ⌝ }
 {
-    let mut places = [0u8; 8];
+    let mut places = [0u32; 8];
     let k = kept_places(f.f1, f.f2, f.n1, f.n2, &mut places);
     write_rows(src, f.size, &places[..k], t, firsts, seconds, area, pos)
 }

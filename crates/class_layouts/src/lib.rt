@@ -9,7 +9,7 @@ use class_slots::write_slots;
 use class_tail::Tail;
 use class_tail::write_tail;
 use fold::Map;
-use member_sets::PLACES;
+use member_sets::DEAD;
 use member_sets::crowded;
 use repeats::BOOK;
 use room::LIMIT;
@@ -81,7 +81,7 @@ fn write_booked(
     src: &[u8],
     t: &[u32],
     prepared: Prepared,
-    dead: &mut [u8],
+    dead: &mut [u32],
     area: &mut [u8],
     book: &mut [u32],
     out: &mut [u8],
@@ -117,7 +117,7 @@ fn write_packed(
     src: &[u8],
     t: &[u32],
     prepared: Prepared,
-    dead: &mut [u8],
+    dead: &mut [u32],
     rounds: usize,
     area: &mut [u8],
     out: &mut [u8],
@@ -138,7 +138,7 @@ fn write_context(
     src: &[u8],
     t: &[u32],
     prepared: Prepared,
-    dead: &mut [u8],
+    dead: &mut [u32],
     rounds: usize,
     area: &mut [u8],
     out: &mut [u8],
@@ -170,7 +170,7 @@ fn write_crowded(
     if rounds != 0 {
         return write_crowded(chained, src, t, prepared, rounds - 1, area, out);
     }
-    let mut dead = [0u8; PLACES];
+    let mut dead = [0u32; DEAD];
     write_context(chained, src, t, prepared, &mut dead, rounds, area, out)
 }
 
@@ -191,6 +191,6 @@ pub fn write_left(
     if crowded(src, slots, word_at(src, slots - 2)) {
         return write_crowded(chained, src, t, prepared, rounds, area, out);
     }
-    let mut dead = [0u8; 1];
+    let mut dead = [0u32; 1];
     write_context(chained, src, t, prepared, &mut dead, rounds, area, out)
 }

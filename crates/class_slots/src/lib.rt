@@ -76,7 +76,7 @@ fn write_set(
     at: usize,
     t: &[u32],
     maps: Maps,
-    dead: &mut [u8],
+    dead: &mut [u32],
     area: &mut [u8],
     pos: usize,
 ) -> usize
@@ -109,7 +109,7 @@ fn place_set(
     src: &[u8],
     t: &[u32],
     maps: Maps,
-    dead: &mut [u8],
+    dead: &mut [u32],
     area: &mut [u8],
     book: &mut [u32],
     turn: Turn,
@@ -145,7 +145,7 @@ pub fn write_slots(
     t: &[u32],
     maps: Maps,
     classes: Classes,
-    dead: &mut [u8],
+    dead: &mut [u32],
     area: &mut [u8],
     book: &mut [u32],
 ) -> Slots

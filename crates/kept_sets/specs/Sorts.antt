@@ -52,7 +52,7 @@ setLeft (Rules chained) m s at = block (setWords (ruleWords chained)) (cutSet ch
 setLeft Ligatures m s at = block (setWords ligatureWords) (cutLigatures (m .input) (ligatureSet s at))
 setLeft (Pairs f) m s at = pairsLeft (m .input) s (pairSize (f .f1) (f .f2)) (placesOf (f .f1) (f .f2) (f .n1) (f .n2)) at
 
--- What the writer of sets is told besides, in bytes: of rules and of ligatures, which are known to go; of pairs the places of the fields that stay, and their formats say how long a record is.
+-- What the writer of sets is told besides, in cells: of rules and of ligatures, which are known to go, a bit each; of pairs the places of the fields that stay, and their formats say how long a record is.
 unfoldable pub toldOf : Sort → RuleMaps → List ℕ → List ℕ → Type 0
 toldOf (Rules chained) m s told = Dead (ruleLeft chained m s) told
 toldOf Ligatures m s told = Dead (ligatureLeft (m .input) s) told

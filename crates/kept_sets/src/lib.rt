@@ -66,7 +66,7 @@ fn write_set(
     sort: Sort,
     src: &[u8],
     at: usize,
-    told: &mut [u8],
+    told: &mut [u32],
     t: &[u32],
     maps: Maps,
     area: &mut [u8],
@@ -102,7 +102,7 @@ fn keep_set(area: &mut [u8], book: &mut [u32], turn: Turn, q: usize) -> usize
 fn place_set(
     sort: Sort,
     src: &[u8],
-    told: &mut [u8],
+    told: &mut [u32],
     t: &[u32],
     maps: Maps,
     area: &mut [u8],
@@ -131,7 +131,7 @@ fn place_set(
 pub fn write_kept(
     sort: Sort,
     src: &[u8],
-    told: &mut [u8],
+    told: &mut [u32],
     t: &mut [u32],
     notes: Notes,
     maps: Maps,

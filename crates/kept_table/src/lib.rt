@@ -90,7 +90,7 @@ fn no_room(area: &[u8]) -> Tried
 fn write_packed(
     sort: Sort,
     src: &[u8],
-    told: &mut [u8],
+    told: &mut [u32],
     t: &mut [u32],
     notes: Notes,
     maps: Maps,
@@ -111,7 +111,7 @@ fn write_packed(
 fn write_sets(
     sort: Sort,
     src: &[u8],
-    told: &mut [u8],
+    told: &mut [u32],
     t: &mut [u32],
     notes: Notes,
     maps: Maps,
@@ -131,7 +131,7 @@ fn write_sets(
 pub fn write_table(
     sort: Sort,
     src: &[u8],
-    told: &mut [u8],
+    told: &mut [u32],
     t: &mut [u32],
     notes: Notes,
     maps: Maps,

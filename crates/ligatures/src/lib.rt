@@ -2,14 +2,14 @@
 use area::over;
 use area::put;
 use area::put_two;
+use bits::has_bit;
+use bits::put_bit;
 use fold::Found;
 use fold::Map;
 use fold::find;
 use member_sets::close_set;
 use numbers::after_first;
 use numbers::renumber;
-use wire::byte;
-use wire::put_byte;
 use wire::word_inside;
 ghost use mathlib.Core.Path.{_≡_};
 ghost use mathlib.Core.Option.{none};
@@ -57,19 +57,19 @@ fn write_once(
     at: usize,
     t: &[u32],
     glyphs: Map,
-    dead: &mut [u8],
+    dead: &mut [u32],
     area: &mut [u8],
     pos: usize,
 ) -> usize
     requires { ⌜ (ligatureFault (now src) at ≡ none) × Inside (now t) glyphs × (0 < pos) × (pos ≤ length (now area)) × Dead (ligatureLeft (entriesIn (now t) glyphs) (now src)) (now dead) ⌝ }
     ensures { λ r. ⌜ Leaves (now (area .entry)) pos (ligatureLeft (entriesIn (now (t .entry)) glyphs) (now (src .entry)) at) (ligatureSize (now (src .entry)) at) (now (area .exit)) r × Dead (ligatureLeft (entriesIn (now (t .entry)) glyphs) (now (src .entry))) (now (dead .exit)) ⌝ }
 {
-    if byte(dead, at) != 0 {
+    if has_bit(dead, 0, at) {
         return 0;
     }
     let q = write_ligature(src, at, t, glyphs, area, pos);
     if q == 0 {
-        put_byte(dead, at, 1);
+        put_bit(dead, 0, at);
     }
     q
 }
@@ -80,7 +80,7 @@ pub fn write_ligatures(
     at: usize,
     t: &[u32],
     glyphs: Map,
-    dead: &mut [u8],
+    dead: &mut [u32],
     area: &mut [u8],
     pos: usize,
 ) -> usize

@@ -7,7 +7,10 @@ ghost use lib.ListN.{length};
 ghost use Rattle.member_sets.specs.Sets.{ClosedSet};
 
 // Members start below this place: two offsets lead to each.
-pub const PLACES: usize = 131072;
+const PLACES: usize = 131072;
+
+// The cells for marks of the members that go: a bit for each place.
+pub const DEAD: usize = PLACES / 32;
 
 // The set of the `k` members that stand from `first` up to `end`, whose offsets stand after the place for the count at `pos`: the count, the offsets and the members, with no gap between them.
 pub fn close_set(area: &mut [u8], pos: usize, k: usize, first: usize, end: usize) -> usize

@@ -74,7 +74,7 @@ pub fn field_used(src: &[u8], at: usize, size: usize, place: usize, t: &[u32], g
 }
 
 // The values at `places` of the pair record at `p`, from `pos` on, where there is room for them; the place after them.
-pub fn write_values(src: &[u8], p: usize, places: &[u8], area: &mut [u8], pos: usize) -> usize
+pub fn write_values(src: &[u8], p: usize, places: &[u32], area: &mut [u8], pos: usize) -> usize
     requires { ⌜ Reads (now src) p (now places) × (pos + 2 * length (now places) ≤ length (now area)) ⌝ }
     ensures { λ r. ⌜ Extends (now (area .entry)) pos (map (valueAt (now (src .entry)) p) (now (places .entry))) (now (area .exit)) r ⌝ }
 {
@@ -94,7 +94,7 @@ fn write_pair(
     p: usize,
     size: usize,
     new: usize,
-    places: &[u8],
+    places: &[u32],
     area: &mut [u8],
     pos: usize,
 ) -> usize
@@ -110,7 +110,7 @@ pub fn write_pairs(
     src: &[u8],
     at: usize,
     size: usize,
-    places: &[u8],
+    places: &[u32],
     t: &[u32],
     glyphs: Map,
     area: &mut [u8],
@@ -166,19 +166,19 @@ pub fn field_place(start: usize, f: usize, k: usize) -> usize
 }
 
 // The place of the field `k` put at `at`, if the new format has the field; the place after it.
-fn put_place(start: usize, f: usize, new: usize, k: usize, places: &mut [u8], at: usize) -> usize
+fn put_place(start: usize, f: usize, new: usize, k: usize, places: &mut [u32], at: usize) -> usize
     requires { ⌜ (start ≤ 18) × (0 < k) × (at < length (now places)) ⌝ }
     ensures { λ r. ⌜ Puts (now (places .entry)) at (keptPlaces start f new (k ∷ [])) (now (places .exit)) r × (r ≤ at + 1) ⌝ }
 {
     if new / k % 2 != 1 {
         return at;
     }
-    places[at] = field_place(start, f, k) as u8;
+    places[at] = field_place(start, f, k) as u32;
     at + 1
 }
 
 // The places of the fields that the new format has, from `at` on; the place after them.
-fn put_places(start: usize, f: usize, new: usize, places: &mut [u8], at: usize) -> usize
+fn put_places(start: usize, f: usize, new: usize, places: &mut [u32], at: usize) -> usize
     requires { ⌜ (start ≤ 18) × (at + 4 ≤ length (now places)) ⌝ }
     ensures { λ r. ⌜ Puts (now (places .entry)) at (keptPlaces start f new fields) (now (places .exit)) r × (r ≤ at + 4) ⌝ }
 {
@@ -189,7 +189,7 @@ fn put_places(start: usize, f: usize, new: usize, places: &mut [u8], at: usize) 
 }
 
 // The places of the fields of the new formats `n1` and `n2` in a pair record of the formats `f1` and `f2`, from the front of `places` on; how many they are.
-pub fn kept_places(f1: usize, f2: usize, n1: usize, n2: usize, places: &mut [u8]) -> usize
+pub fn kept_places(f1: usize, f2: usize, n1: usize, n2: usize, places: &mut [u32]) -> usize
     requires { ⌜ 8 ≤ length (now places) ⌝ }
     ensures { λ r. ⌜ Puts (now (places .entry)) 0 (placesOf f1 f2 n1 n2) (now (places .exit)) r × (r ≤ 8) ⌝ }
 {

@@ -2,6 +2,8 @@
 use area::over;
 use area::put;
 use area::put_two;
+use bits::has_bit;
+use bits::put_bit;
 use fold::Map;
 use member_sets::close_set;
 use numbers::after_first;
@@ -10,8 +12,6 @@ use numbers::renumber;
 use numbers::write_counted;
 use numbers::write_counted_records;
 use numbers::write_records;
-use wire::byte;
-use wire::put_byte;
 use wire::word_inside;
 ghost use mathlib.Core.Path.{_≡_};
 ghost use mathlib.Core.Bool.{true, false};
@@ -127,19 +127,19 @@ fn write_once(
     at: usize,
     t: &[u32],
     maps: Maps,
-    dead: &mut [u8],
+    dead: &mut [u32],
     area: &mut [u8],
     pos: usize,
 ) -> usize
     requires { ⌜ (ruleFault chained (now src) at ≡ none) × AllInside (now t) maps × (0 < pos) × (pos ≤ length (now area)) × Dead (ruleLeft chained (mapsIn (now t) maps) (now src)) (now dead) ⌝ }
     ensures { λ r. ⌜ Leaves (now (area .entry)) pos (ruleLeft chained (mapsIn (now (t .entry)) maps) (now (src .entry)) at) (ruleSize chained (now (src .entry)) at) (now (area .exit)) r × Dead (ruleLeft chained (mapsIn (now (t .entry)) maps) (now (src .entry))) (now (dead .exit)) ⌝ }
 {
-    if byte(dead, at) != 0 {
+    if has_bit(dead, 0, at) {
         return 0;
     }
     let q = write_rule(chained, src, at, t, maps, area, pos);
     if q == 0 {
-        put_byte(dead, at, 1);
+        put_bit(dead, 0, at);
     }
     q
 }
@@ -151,7 +151,7 @@ pub fn write_rules(
     at: usize,
     t: &[u32],
     maps: Maps,
-    dead: &mut [u8],
+    dead: &mut [u32],
     area: &mut [u8],
     pos: usize,
 ) -> usize

@@ -30,7 +30,7 @@ write-shared-requires t c κs =
 write-table-requires : (t : ℕ) → write-shared-lts.Need-write-table-requires (write-shared-below t, write-shared.Post, write-table-reads.Asked, write-table-reads.Learnt) (write-shared-at t) write-shared.Post
 write-table-requires t c κs =
     let a = c .before .before .before .before .before .before .before .before .before in
-    (a .pre .1 .0, a .pre .1 .1, told-none (a .args .sort) 131072 (a .pre .1 .2))
+    (a .pre .1 .0, a .pre .1 .1, told-none (a .args .sort) 4096 (a .pre .1 .2))
 
 pub +write-shared-spec : {M : Type 1} → statement M
 +write-shared-spec =

@@ -29,7 +29,7 @@ write-crowded-requires t c κs =
 
 write-context-requires : (t : ℕ) → write-crowded-lts.Need-write-context-requires (write-crowded-below t, write-crowded.Post, write-context-reads.Asked, write-context-reads.Learnt) (write-crowded-at t) write-crowded.Post
 write-context-requires t c κs =
-    (c .before .before .before .before .before .before .before .before .pre .1, dead-none 131072)
+    (c .before .before .before .before .before .before .before .before .pre .1, dead-none 4096)
 
 pub +write-crowded-spec : {M : Type 1} → statement M
 +write-crowded-spec =

@@ -45,6 +45,7 @@ write-values-spec =
     μ-loop
     loop-holds
     (λ c. search needs)
+    (λ c. search needs)
     cast-place
     value-at-requires
     (λ c. search needs)

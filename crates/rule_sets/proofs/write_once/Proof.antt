@@ -1,4 +1,4 @@
-use mathlib.Core.Path.{_∙_}
+use mathlib.Core.Path.{sym, _∙_}
 use Rattle.area.specs.Extends.{keeps-none}
 use Rattle.numbers.specs.Leaves.{leaves-none, leaves-gone}
 use Rattle.member_sets.specs.Dead.{dead-more}
@@ -9,13 +9,13 @@ use Rattle.rule_sets.proofs.write_once.Tie as tie
 returns : tie.Need-returns
 returns c =
     let a = c .before .before .before .before .before .before .before in
-    (leaves-none (a .pre .4 .gone (a .args .at) (λ z. c .if1 .taken (c .before .byte .ensures .0 ∙ z))) keeps-none, a .pre .4)
+    (leaves-none (a .pre .4 .gone (a .args .at) (sym (c .before .has-bit .ensures) ∙ c .if1 .taken)) keeps-none, a .pre .4)
 
 returns-2 : tie.Need-returns-2
 returns-2 c =
     let w = c .before .before .before .before .before .before .before in
     let a = c .before .before .before .before .before .before .before .before .before .before .before .before .before .before .before .before in
-    (w .write-rule .ensures, dead-more (a .args .at) (a .pre .4) (leaves-gone (w .write-rule .ensures) (a .pre .2) (c .before .before .before .before .if2 .taken) .0) (c .before .before .put-byte .ensures))
+    (w .write-rule .ensures, dead-more (a .args .at) (a .pre .4) (leaves-gone (w .write-rule .ensures) (a .pre .2) (c .before .before .before .before .if2 .taken) .0) (c .before .before .put-bit .ensures))
 
 pub write-once-spec : {M : Type 1} → statement M
 write-once-spec =
