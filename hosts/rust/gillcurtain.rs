@@ -70,13 +70,13 @@ impl<'a> Glyphs<'a> {
 /// The stack, in bytes, that [`subset`] may use at most. The main thread has more on most systems; a
 /// thread that Rust starts has 2 MiB, so ask for more with `std::thread::Builder::stack_size` where
 /// fonts come from anywhere. With too little, the call ends the process at the stack's guard page.
-pub const STACK: usize = 14 << 18;
+pub const STACK: usize = 3 << 20;
 
 /// The stack, in bytes, that a call of [`Subsetter::new`] may use at most: less than any thread has.
 pub const LITTLE_STACK: usize = 5 << 16;
 
 /// The scratch that is enough for any call: so many cells of 32 bits, and so many bytes of area.
-const CELLS: usize = 655_360;
+const CELLS: usize = 526_336;
 const AREA: usize = 655_360;
 
 /// What comes back. Where several refusals apply, the first of them in this order is given.

@@ -32,6 +32,7 @@ use Rattle.member_sets.specs.Sound.{inside-is, through-sound}
 use Rattle.area.specs.Part.{part, notes, oldAt}
 use Rattle.meaning.specs.Maps.{mapEntries, glyphEntries}
 use Rattle.meaning.specs.Subset.{limit, wordsIn, writtenIn}
+use Rattle.room.specs.Laid.{enoughArea}
 use Rattle.fold.specs.Cells.{Holds, holds-kept}
 use Rattle.fold.specs.Laid.{Laid}
 use Rattle.fold.specs.Runs.{LaidGlyphs}
@@ -42,7 +43,7 @@ use Rattle.meet.specs.Met.{met, Met, met-count}
 use Rattle.meet_runs.specs.Either.{Most, MeetsGlyphs}
 use Rattle.meet_runs.proofs.Forms.{met-most}
 use Rattle.kept_sets.specs.Sorts.{headerSize, setFaultOf, leftIn, Told, told-pairs, pairs-sound, left-kept, inside-kept}
-use Rattle.kept_sets.specs.Kept.{areaMost, setAt, keptOf, Ready, keptIn}
+use Rattle.kept_sets.specs.Kept.{setAt, keptOf, Ready, keptIn}
 use Rattle.kept_sets.specs.declared.Sort.{Sort}
 use Rattle.kept_sets.specs.declared.Sort.the-variants.{Rules, Ligatures, Pairs}
 use Rattle.kept_table.specs.Table.{tableOf}
@@ -300,9 +301,9 @@ module _ {form : ℕ} {g t₀ t : List ℕ} {m : Map} (a : LaidGlyphs form g t�
 -- With few cells behind the maps, the lent ones were few; so what is answered behind the maps is answered of all.
 module _ {form : ℕ} {g t₀ t : List ℕ} {m : Map} (a : LaidGlyphs form g t₀ t 0 m)
     {out₀ : List ℕ} {words : Option (List ℕ)} {n : ℕ} {r : Tried} {out : List ℕ} (packing : ℕ) (left : Option Table) (fit : Opt (ByCover packing) left) (e : words ≡ block (wordsIn packing) left) where
-  pub one-answered : Answered (length t ≤ behind (oneMap m) + 65536) out₀ words n r out → Tries (length t₀ < cellsMost) (n < areaMost) r out₀ out (writtenIn packing out₀ left)
+  pub one-answered : Answered (length t ≤ behind (oneMap m) + 65536) out₀ words n r out → Tries (length t₀ < cellsMost) (n < enoughArea) r out₀ out (writtenIn packing out₀ left)
   one-answered = answered-as (λ h. omega (arith, h, a .kept .size, a .place, a .few)) packing left fit e
 
   pub two-answered : {l t₂ : List ℕ} {k : Map} → Laid l t t₂ (m .mask + 1) k → ascends (keys (mapEntries l)) ≡ true → Answered (length t₂ ≤ k .at + k .mask + 1 + 65536) out₀ words n r out
-      → Tries (length t₀ < cellsMost) (n < areaMost) r out₀ out (writtenIn packing out₀ left)
+      → Tries (length t₀ < cellsMost) (n < enoughArea) r out₀ out (writtenIn packing out₀ left)
   two-answered b v = answered-as (λ h. omega (arith, h, a .kept .size, b .kept .size, b .place, a .few, b .few v)) packing left fit e

@@ -11,9 +11,9 @@ use Rattle.meaning.specs.Words.{word}
 use Rattle.meaning.specs.Parts.{coverage}
 use Rattle.meaning.specs.Tables.{Table, reach, reaches, ruleSet, ligatureSet}
 use Rattle.meaning.specs.Subset.{Outcome, refused, writtenIn}
+use Rattle.room.specs.Laid.{enoughArea}
 use Rattle.tried.specs.Tries.{Tries, tries-less}
 use Rattle.tried.specs.declared.Tried.{Tried}
-use Rattle.kept_sets.specs.Kept.{areaMost}
 
 -- how many cells are enough for any source: those of two maps, and a note for each glyph and one more
 abbrev pub cellsMost : ℕ
@@ -26,13 +26,13 @@ pub record Least (a b r : ℕ) : Type 0 where
   pub one : r < b → r ≡ a
 
 -- a front of the area that is enough, or all of it
-module _ {n : ℕ} (area : List ℕ) (h : Least (length area) areaMost n) where
+module _ {n : ℕ} (area : List ℕ) (h : Least (length area) enoughArea n) where
   pub front-length : n ≡ length (take n area)
   front-length = sym (length-take-le n area (h .first))
 
-  pub front-tries : (few : Type 0) (r : Tried) (out after : List ℕ) (made : Outcome) → Tries few (length (take n area) < areaMost) r out after made → Tries few (length area < areaMost) r out after made
+  pub front-tries : (few : Type 0) (r : Tried) (out after : List ℕ) (made : Outcome) → Tries few (length (take n area) < enoughArea) r out after made → Tries few (length area < enoughArea) r out after made
   front-tries few r out after made =
-      tries-less few (length (take n area) < areaMost) few (length area < areaMost) r out after made (λ f. f) (λ l. omega (arith, front-length, h .one (omega (arith, front-length))))
+      tries-less few (length (take n area) < enoughArea) few (length area < enoughArea) r out after made (λ f. f) (λ l. omega (arith, front-length, h .one (omega (arith, front-length))))
 
 -- nothing is left
 pub written-none : (packing : ℕ) (out : List ℕ) {o : Option Table} → o ≡ none → refused out 8 ≡ writtenIn packing out o

@@ -4,7 +4,6 @@ use fold::lay;
 use fold::lay_glyphs;
 use kept_sets::Notes;
 use kept_sets::Sort;
-use kept_table::AREA;
 use kept_table::write_table;
 use marks::Marks;
 use meet_runs::meet;
@@ -13,6 +12,7 @@ use member_sets::DEAD;
 use member_sets::crowded;
 use pair_formats::new_formats;
 use pair_sets::kept_places;
+use room::AREA;
 use room::LIMIT;
 use room::Laid;
 use rule_sets::Maps;
@@ -31,9 +31,10 @@ ghost use Rattle.meaning.specs.Fault.{headerFault, enough};
 ghost use Rattle.meaning.specs.Cut.{cut};
 ghost use Rattle.meaning.specs.Layout.{block};
 ghost use Rattle.meaning.specs.Subset.{limit, wordsIn, writtenIn};
+ghost use Rattle.room.specs.Laid.{enoughArea};
 ghost use Rattle.glyph_runs.specs.Runs.{GlyphMap};
 ghost use Rattle.kept_sets.specs.Sorts.{setFaultOf, isPairs};
-ghost use Rattle.kept_sets.specs.Kept.{areaMost, Ready, keptIn};
+ghost use Rattle.kept_sets.specs.Kept.{Ready, keptIn};
 ghost use Rattle.kept_sets.specs.declared.Sort.the-variants.{Rules, Ligatures};
 ghost use Rattle.tried.specs.Tries.{Tries};
 ghost use Rattle.kept_table.specs.Table.{tableOf};
@@ -54,7 +55,7 @@ fn write_shared(
     area: &mut [u8],
     out: &mut [u8],
 ) -> Tried
-    requires { ⌜ Ready sort (now src) (now t) maps (notes .at) (notes .count) × (length (now area) ≤ areaMost) × (isPairs sort ≡ false) ⌝ }
+    requires { ⌜ Ready sort (now src) (now t) maps (notes .at) (notes .count) × (length (now area) ≤ enoughArea) × (isPairs sort ≡ false) ⌝ }
     ensures { λ r. ⌜ Answered ⊥ (now (out .entry)) (tableOf (eqb (notes .packing) 1) sort (keptIn sort (now (src .entry)) (now (t .entry)) maps (notes .at) (notes .count))) (length (now (area .entry))) r (now (out .exit)) ⌝ }
 {
     if rounds != 0 {
@@ -75,7 +76,7 @@ fn cut_sets(
     area: &mut [u8],
     out: &mut [u8],
 ) -> Tried
-    requires { ⌜ SoundSets sort (now src) × MapsLaid (marks .form) (now glyphs) (now t) maps × (length (now area) ≤ areaMost) × (word (now src) 2 ≡ 0 → ⊥) × (isPairs sort ≡ false) ⌝ }
+    requires { ⌜ SoundSets sort (now src) × MapsLaid (marks .form) (now glyphs) (now t) maps × (length (now area) ≤ enoughArea) × (word (now src) 2 ≡ 0 → ⊥) × (isPairs sort ≡ false) ⌝ }
     ensures { λ r. ⌜ Answered (length (now (t .entry)) ≤ behind maps + 65536) (now (out .entry)) (tableOf (eqb (marks .layout) 1) sort (keptFrom sort (now (src .entry)) (glyphEntries (marks .form) (now (glyphs .entry))) (now (t .entry)) maps)) (length (now (area .entry))) r (now (out .exit)) ⌝ }
 {
     let cover = word_inside(src, 2);
@@ -114,8 +115,8 @@ fn cut_ligatures(
     area: &mut [u8],
     out: &mut [u8],
 ) -> Tried
-    requires { ⌜ (headerFault (enough (now src) (word (now src) 4)) 0 4 (setFaultOf Ligatures (now src)) (now src) ≡ none) × (length (now src) ≤ limit) × GlyphMap (marks .form) (now glyphs) × (length (now area) ≤ areaMost) ⌝ }
-    ensures { λ r. ⌜ Tries (length (now (t .entry)) < cellsMost) (length (now (area .entry)) < areaMost) r (now (out .entry)) (now (out .exit)) (writtenIn (marks .layout) (now (out .entry)) (cut (glyphEntries (marks .form) (now (glyphs .entry))) [] (ligatureTable (now (src .entry))))) ⌝ }
+    requires { ⌜ (headerFault (enough (now src) (word (now src) 4)) 0 4 (setFaultOf Ligatures (now src)) (now src) ≡ none) × (length (now src) ≤ limit) × GlyphMap (marks .form) (now glyphs) × (length (now area) ≤ enoughArea) ⌝ }
+    ensures { λ r. ⌜ Tries (length (now (t .entry)) < cellsMost) (length (now (area .entry)) < enoughArea) r (now (out .entry)) (now (out .exit)) (writtenIn (marks .layout) (now (out .entry)) (cut (glyphEntries (marks .form) (now (glyphs .entry))) [] (ligatureTable (now (src .entry))))) ⌝ }
 {
     if word_inside(src, 2) == 0 {
         return Tried::Became(Laid::Nothing);
@@ -144,8 +145,8 @@ fn cut_contexts(
     area: &mut [u8],
     out: &mut [u8],
 ) -> Tried
-    requires { ⌜ (headerFault (enough (now src) (word (now src) 4)) 0 4 (setFaultOf (Rules chained) (now src)) (now src) ≡ none) × (length (now src) ≤ limit) × GlyphMap (marks .form) (now glyphs) × (ascends (keys (mapEntries (now lookups))) ≡ true) × (length (now area) ≤ areaMost) ⌝ }
-    ensures { λ r. ⌜ Tries (length (now (t .entry)) < cellsMost) (length (now (area .entry)) < areaMost) r (now (out .entry)) (now (out .exit)) (writtenIn (marks .layout) (now (out .entry)) (cut (glyphEntries (marks .form) (now (glyphs .entry))) (mapEntries (now (lookups .entry))) (glyphContext chained (now (src .entry))))) ⌝ }
+    requires { ⌜ (headerFault (enough (now src) (word (now src) 4)) 0 4 (setFaultOf (Rules chained) (now src)) (now src) ≡ none) × (length (now src) ≤ limit) × GlyphMap (marks .form) (now glyphs) × (ascends (keys (mapEntries (now lookups))) ≡ true) × (length (now area) ≤ enoughArea) ⌝ }
+    ensures { λ r. ⌜ Tries (length (now (t .entry)) < cellsMost) (length (now (area .entry)) < enoughArea) r (now (out .entry)) (now (out .exit)) (writtenIn (marks .layout) (now (out .entry)) (cut (glyphEntries (marks .form) (now (glyphs .entry))) (mapEntries (now (lookups .entry))) (glyphContext chained (now (src .entry))))) ⌝ }
 {
     if word_inside(src, 2) == 0 {
         return Tried::Became(Laid::Nothing);
@@ -176,7 +177,7 @@ fn write_pair_table(
     area: &mut [u8],
     out: &mut [u8],
 ) -> Tried
-    requires { ⌜ Ready (pairsOf (now src)) (now src) (now t) (oneMap g) (notes .at) (notes .count) × (length (now area) ≤ areaMost) ⌝ }
+    requires { ⌜ Ready (pairsOf (now src)) (now src) (now t) (oneMap g) (notes .at) (notes .count) × (length (now area) ≤ enoughArea) ⌝ }
     ensures { λ r. ⌜ AnsweredPairs (notes .packing) (now (src .entry)) (now (t .entry)) g (notes .at) (notes .count) (now (out .entry)) (length (now (area .entry))) r (now (out .exit)) ⌝ }
 {
     let f = new_formats(src, t, notes.at, notes.count, g);
@@ -210,7 +211,7 @@ fn cut_pair_sets(
     area: &mut [u8],
     out: &mut [u8],
 ) -> Tried
-    requires { ⌜ SoundSets (pairsOf (now src)) (now src) × MapsLaid (marks .form) (now glyphs) (now t) (oneMap g) × (length (now area) ≤ areaMost) × (word (now src) 2 ≡ 0 → ⊥) ⌝ }
+    requires { ⌜ SoundSets (pairsOf (now src)) (now src) × MapsLaid (marks .form) (now glyphs) (now t) (oneMap g) × (length (now area) ≤ enoughArea) × (word (now src) 2 ≡ 0 → ⊥) ⌝ }
     ensures { λ r. ⌜ Answered (length (now (t .entry)) ≤ behind (oneMap g) + 65536) (now (out .entry)) (block (wordsIn (marks .layout)) (cut (glyphEntries (marks .form) (now (glyphs .entry))) [] (pairTable (now (src .entry))))) (length (now (area .entry))) r (now (out .exit)) ⌝ }
 {
     let cover = word_inside(src, 2);
@@ -236,8 +237,8 @@ fn cut_pairs(
     area: &mut [u8],
     out: &mut [u8],
 ) -> Tried
-    requires { ⌜ (pairFault (now src) ≡ none) × (length (now src) ≤ limit) × GlyphMap (marks .form) (now glyphs) × (length (now area) ≤ areaMost) ⌝ }
-    ensures { λ r. ⌜ Tries (length (now (t .entry)) < cellsMost) (length (now (area .entry)) < areaMost) r (now (out .entry)) (now (out .exit)) (writtenIn (marks .layout) (now (out .entry)) (cut (glyphEntries (marks .form) (now (glyphs .entry))) [] (pairTable (now (src .entry))))) ⌝ }
+    requires { ⌜ (pairFault (now src) ≡ none) × (length (now src) ≤ limit) × GlyphMap (marks .form) (now glyphs) × (length (now area) ≤ enoughArea) ⌝ }
+    ensures { λ r. ⌜ Tries (length (now (t .entry)) < cellsMost) (length (now (area .entry)) < enoughArea) r (now (out .entry)) (now (out .exit)) (writtenIn (marks .layout) (now (out .entry)) (cut (glyphEntries (marks .form) (now (glyphs .entry))) [] (pairTable (now (src .entry))))) ⌝ }
 {
     if word_inside(src, 2) == 0 {
         return Tried::Became(Laid::Nothing);
@@ -270,7 +271,7 @@ pub fn ligatures(
     out: &mut [u8],
 ) -> Tried
     requires { ⌜ (headerFault (enough (now src) (word (now src) 4)) 0 4 (setFaultOf Ligatures (now src)) (now src) ≡ none) × (length (now src) ≤ limit) × GlyphMap (marks .form) (now glyphs) ⌝ }
-    ensures { λ r. ⌜ Tries (length (now (t .entry)) < cellsMost) (length (now (area .entry)) < areaMost) r (now (out .entry)) (now (out .exit)) (writtenIn (marks .layout) (now (out .entry)) (cut (glyphEntries (marks .form) (now (glyphs .entry))) [] (ligatureTable (now (src .entry))))) ⌝ }
+    ensures { λ r. ⌜ Tries (length (now (t .entry)) < cellsMost) (length (now (area .entry)) < enoughArea) r (now (out .entry)) (now (out .exit)) (writtenIn (marks .layout) (now (out .entry)) (cut (glyphEntries (marks .form) (now (glyphs .entry))) [] (ligatureTable (now (src .entry))))) ⌝ }
 {
     let bytes = least(area.len(), AREA);
     cut_ligatures(src, glyphs, marks, t, &mut area[..bytes], out)
@@ -288,7 +289,7 @@ pub fn contexts(
     out: &mut [u8],
 ) -> Tried
     requires { ⌜ (headerFault (enough (now src) (word (now src) 4)) 0 4 (setFaultOf (Rules chained) (now src)) (now src) ≡ none) × (length (now src) ≤ limit) × GlyphMap (marks .form) (now glyphs) × (ascends (keys (mapEntries (now lookups))) ≡ true) ⌝ }
-    ensures { λ r. ⌜ Tries (length (now (t .entry)) < cellsMost) (length (now (area .entry)) < areaMost) r (now (out .entry)) (now (out .exit)) (writtenIn (marks .layout) (now (out .entry)) (cut (glyphEntries (marks .form) (now (glyphs .entry))) (mapEntries (now (lookups .entry))) (glyphContext chained (now (src .entry))))) ⌝ }
+    ensures { λ r. ⌜ Tries (length (now (t .entry)) < cellsMost) (length (now (area .entry)) < enoughArea) r (now (out .entry)) (now (out .exit)) (writtenIn (marks .layout) (now (out .entry)) (cut (glyphEntries (marks .form) (now (glyphs .entry))) (mapEntries (now (lookups .entry))) (glyphContext chained (now (src .entry))))) ⌝ }
 {
     let bytes = least(area.len(), AREA);
     cut_contexts(
@@ -313,7 +314,7 @@ pub fn pairs(
     out: &mut [u8],
 ) -> Tried
     requires { ⌜ (pairFault (now src) ≡ none) × (length (now src) ≤ limit) × GlyphMap (marks .form) (now glyphs) ⌝ }
-    ensures { λ r. ⌜ Tries (length (now (t .entry)) < cellsMost) (length (now (area .entry)) < areaMost) r (now (out .entry)) (now (out .exit)) (writtenIn (marks .layout) (now (out .entry)) (cut (glyphEntries (marks .form) (now (glyphs .entry))) [] (pairTable (now (src .entry))))) ⌝ }
+    ensures { λ r. ⌜ Tries (length (now (t .entry)) < cellsMost) (length (now (area .entry)) < enoughArea) r (now (out .entry)) (now (out .exit)) (writtenIn (marks .layout) (now (out .entry)) (cut (glyphEntries (marks .form) (now (glyphs .entry))) [] (pairTable (now (src .entry))))) ⌝ }
 {
     let bytes = least(area.len(), AREA);
     cut_pairs(src, glyphs, marks, t, &mut area[..bytes], out)

@@ -17,20 +17,22 @@ use Rattle.meaning.specs.Layout.{block, coverageWords, classWords, ruleWords, s
 use Rattle.meaning.specs.Subset.{Outcome, limit, writtenIn}
 use Rattle.laws.specs.CutGood.{Values}
 use Rattle.laws.specs.SoundGood.{coverage-up}
+use Rattle.room.specs.Laid.{enoughArea}
+use Rattle.bits.specs.Reading.{same-cell}
 use Rattle.fold.specs.Cells.{Holds, kept-more}
 use Rattle.fold.specs.declared.Map.{Map}
 use Rattle.area.specs.Part.{news, notes}
 use Rattle.numbers.specs.Alike.{holds-alike, set-alike}
 use Rattle.rule_sets.specs.Left.{mapsIn}
-use Rattle.class_slots.specs.Slots.{slotBlocks, present-few}
+use Rattle.class_slots.specs.Slots.{slotBlocks, present-few, slots-marked}
 use Rattle.tried.specs.Tries.{Tries, tries-less}
 use Rattle.tried.specs.declared.Tried.{Tried}
 use Rattle.tried.specs.declared.Tried.the-variants.{FewCells}
 use Rattle.class_tail.specs.Tail.{tableBlock, tableBlocks, coverOf}
-use Rattle.class_layouts.specs.Written.{enoughBytes, Writes, leftInto}
+use Rattle.class_layouts.specs.Written.{Writes, leftInto}
 use Rattle.glyph_runs.specs.Runs.{form-is, map-good}
 use Rattle.class_maps.specs.Same.{Same, kept-same, part-alike, inside-same, holds-same, present-same}
-use Rattle.class_contexts.specs.Sides.{TableFor, Asks, SideIn, Sided, InputIn, InputLaid}
+use Rattle.class_contexts.specs.Sides.{TableFor, markCells, Asks, SideIn, Sided, InputIn, InputLaid}
 use Rattle.class_contexts.specs.Meaning.{backAt, inputAt, aheadAt, rulesMaps, tablesOf, blocksOf, cut-words, slots-alike}
 use Rattle.class_contexts.specs.Cutting.{enoughCells, preparedOf, Cuts, CutsInto}
 use Rattle.class_contexts.proofs.Smallness.{left-fits}
@@ -55,25 +57,24 @@ module _ {g : List (ℕ × ℕ)} {s : List ℕ} {at : ℕ} {t u : List ℕ} {end
   side-stays : {r : Side} → r .map .at + r .map .mask < end → r .table .list + r .table .len ≤ r .map .at → SideIn g s at t r → SideIn g s at u r
   side-stays {r} h l a = record { holds = holds-same k (r .map) (omega arith) h (a .holds); table = table-stays (omega arith) (a .table) }
 
-  input-stays : {cov : List ℕ} {r : Input} → r .map .at + r .map .mask < end → r .marks .at + r .marks .mask < end → r .table .list + r .table .len ≤ r .map .at → InputIn g s at cov t r → InputIn g s at cov u r
+  input-stays : {cov : List ℕ} {r : Input} → r .map .at + r .map .mask < end → r .marks + markCells (r .map) ≤ end → r .table .list + r .table .len ≤ r .map .at → InputIn g s at cov t r → InputIn g s at cov u r
   input-stays {r = r} h m l a = record {
     holds = holds-same k (r .map) (omega arith) h (a .holds);
     held = present-same k (r .map) (omega arith) h ∙ a .held;
     count = a .count;
-    inside = inside-same k (r .marks) (omega arith) m (a .inside);
-    marked = present-same k (r .marks) (omega arith) m ∙ a .marked;
+    covered = λ c b. same-cell t u (r .marks) c (k .each (r .marks + c / 32) (omega arith) (omega (arith, m))) ∙ a .covered c b;
     table = table-stays (omega arith) (a .table);
   }
 
 -- too few cells
-too-few : {n m : ℕ} → (m ≤ n → ⊥) → m ≤ 655360 → n < 655360
+too-few : {n m : ℕ} → (m ≤ n → ⊥) → m ≤ enoughCells → n < enoughCells
 too-few {n} {m} h l = step (decLt n m)
   where
-    step : Dec (n < m) → n < 655360
+    step : Dec (n < m) → n < enoughCells
     step (yes d) = omega arith
     step (no d) = absurd (h (omega arith))
 
-pub few-cells : {chained : Bool} {s : List ℕ} {g : List (ℕ × ℕ)} {l : Map} {t area out : List ℕ} {packing : ℕ} → length t < 655360 → CutsInto packing chained s g l t area FewCells out out
+pub few-cells : {chained : Bool} {s : List ℕ} {g : List (ℕ × ℕ)} {l : Map} {t area out : List ℕ} {packing : ℕ} → length t < enoughCells → CutsInto packing chained s g l t area FewCells out out
 few-cells h = record { cuts = λ {es = es} o v. (h, refl) }
 
 module _ {chained : Bool} {s : List ℕ} {form : ℕ} {glyphs : List ℕ} {begun : Begun} {t₀ area : List ℕ} (a : Cuts chained s form glyphs begun t₀ area) where
@@ -98,25 +99,25 @@ module _ {chained : Bool} {s : List ℕ} {form : ℕ} {glyphs : List ℕ} {begun
   input-asks e = record { sound = rw e (a .sound .input); map = a .map; near = omega (arith, a .near) }
 
   module _ {ia : ℕ} (ei : ia ≡ inputAt chained s) {t₁ : List ℕ} {i : Input} (u : InputLaid s ia g noted t₀ t₁ i) where
-    pub input-few : i .map .mask ≡ 0 → length t₀ < 655360
+    pub input-few : i .map .mask ≡ 0 → length t₀ < enoughCells
     input-few z = too-few (λ h. u .room h z) (omega (arith, a .near))
 
-    module _ (zi : i .map .mask ≡ 0 → ⊥) where
-      first-end : i .marks .at + i .marks .mask + 1 ≤ 393216
-      first-end = omega (arith, u .behind zi, u .near zi, u .alike, u .few, a .near)
+    module _ (zi : i .map .mask ≡ 0 → ⊥) {cells : ℕ} (em : cells ≡ markCells (i .map)) where
+      first-end : i .marks + cells ≤ 264192
+      first-end = omega (arith, u .behind zi, u .near zi, u .few, a .near)
 
-      pub marks-near : i .marks .at + i .marks .mask + 1 ≤ 0x1_0000_0000
+      pub marks-near : i .marks + cells ≤ 0x1_0000_0000
       marks-near = omega (arith, first-end)
 
-      pub back-asks : {at : ℕ} → at ≡ backAt chained s → Asks s at form glyphs (i .marks .at + i .marks .mask + 1)
+      pub back-asks : {at : ℕ} → at ≡ backAt chained s → Asks s at form glyphs (i .marks + cells)
       back-asks e = record { sound = rw e (a .sound .back); map = a .map; near = marks-near }
 
-      module _ {ba : ℕ} (eb : ba ≡ backAt chained s) {t₂ : List ℕ} {b : Side} (v : Sided s ba g t₁ t₂ (i .marks .at + i .marks .mask + 1) b) where
-        pub back-few : b .map .mask ≡ 0 → length t₀ < 655360
+      module _ {ba : ℕ} (eb : ba ≡ backAt chained s) {t₂ : List ℕ} {b : Side} (v : Sided s ba g t₁ t₂ (i .marks + cells) b) where
+        pub back-few : b .map .mask ≡ 0 → length t₀ < enoughCells
         back-few z = omega (arith, too-few (λ h. v .room h z) (omega (arith, first-end)), u .kept .size)
 
         module _ (zb : b .map .mask ≡ 0 → ⊥) where
-          second-end : b .map .at + b .map .mask + 1 ≤ 524288
+          second-end : b .map .at + b .map .mask + 1 ≤ 395264
           second-end = omega (arith, v .near zb, v .few, first-end)
 
           pub back-near : b .map .at + b .map .mask + 1 ≤ 0x1_0000_0000
@@ -126,7 +127,7 @@ module _ {chained : Bool} {s : List ℕ} {form : ℕ} {glyphs : List ℕ} {begun
           ahead-asks e = record { sound = rw e (a .sound .ahead); map = a .map; near = back-near }
 
           module _ {aa : ℕ} (ea : aa ≡ aheadAt chained s) {t₃ : List ℕ} {d : Side} (w : Sided s aa g t₂ t₃ (b .map .at + b .map .mask + 1) d) where
-            pub ahead-few : d .map .mask ≡ 0 → length t₀ < 655360
+            pub ahead-few : d .map .mask ≡ 0 → length t₀ < enoughCells
             ahead-few z = omega (arith, too-few (λ h. w .room h z) (omega (arith, second-end)), u .kept .size, v .kept .size)
 
             module _ (zd : d .map .mask ≡ 0 → ⊥) (packing : ℕ) where
@@ -137,7 +138,7 @@ module _ {chained : Bool} {s : List ℕ} {form : ℕ} {glyphs : List ℕ} {begun
               cov = coverage s (word s 2)
 
               -- the cells up to the marks, and up to the map of backtrack
-              low : Same 0 (i .marks .at + i .marks .mask + 1) t₁ t₃
+              low : Same 0 (i .marks + cells) t₁ t₃
               low = kept-same (kept-more (v .kept) (record { size = w .kept .size; same = λ j h. w .kept .same j (omega (arith, v .low zb)) }))
 
               high : Same 0 (b .map .at + b .map .mask + 1) t₂ t₃
@@ -168,8 +169,7 @@ module _ {chained : Bool} {s : List ℕ} {form : ℕ} {glyphs : List ℕ} {begun
                   header = a .sound .header;
                   sets = a .sound .sets;
                   inside = record { back = back-in .holds .inside; input = input-in .holds .inside; ahead = ahead-in .holds .inside; lookups = inside-same all l (omega arith) (omega (arith, a .before)) (a .lookups) };
-                  marked = input-in .inside;
-                  alike = u .alike;
+                  near = omega (arith, first-end);
                   few = u .few;
                   number = input-in .count ∙ sym (ap length (input-in .held));
                   words = λ at k {ws} e h. left-fits chained s (a .bytes) t₃ (prepared .maps) at e h;
@@ -195,7 +195,7 @@ module _ {chained : Bool} {s : List ℕ} {form : ℕ} {glyphs : List ℕ} {begun
                   let m = rulesMaps chained s g es in
                   let F = block (setWords (ruleWords chained)) in
                   let same = set-alike {m = mapsIn t₃ (prepared .maps)} {n = m} (holds-alike (rw eb at (back-in .holds))) (holds-alike (rw ei at (input-in .holds))) (holds-alike (rw ea at (ahead-in .holds))) (holds-alike (holds-same all l (omega arith) (omega (arith, a .before)) h)) chained in
-                  rw (input-in .held, input-in .marked, ei) (ap (map F) (slots-alike (cutSet chained (mapsIn t₃ (prepared .maps))) (cutSet chained m) same _ _ _))
+                  rw (slots-marked (cutSet chained (mapsIn t₃ (prepared .maps))) t₃ (i .marks) (i .map) _ _ (input-in .covered), input-in .held, ei) (ap (map F) (slots-alike (cutSet chained (mapsIn t₃ (prepared .maps))) (cutSet chained m) same _ _ _))
 
               cover-is : coverOf t₃ (prepared .tail) ≡ coverageWords (newCoverage g cov)
               cover-is = ap coverageWords news-same
@@ -208,8 +208,8 @@ module _ {chained : Bool} {s : List ℕ} {form : ℕ} {glyphs : List ℕ} {begun
                   step true x y z p q r = rw (p, q, r)
                   step false x y z p q r = rw q
 
-              pub cut-into : {p : Prepared} (r : Tried) (out after : List ℕ) → p ≡ preparedOf l noted i b d packing → Tries ⊥ (length area < enoughBytes) r out after (leftInto out chained s t₃ p) → CutsInto packing chained s g l t₀ area r out after
-              cut-into r out after e h = record { cuts = λ {es = es} o v. tries-less ⊥ (length area < enoughBytes) (length t₀ < enoughCells) (length area < enoughBytes) r out after (writtenIn packing out (cut g es (classContext chained s))) (λ f. absurd f) (λ f. f) (subst (λ (x : Outcome). Tries ⊥ (length area < enoughBytes) r out after x) (ap (λ (q : Prepared). leftInto out chained s t₃ q) e ∙ said es o v) h) }
+              pub cut-into : {p : Prepared} (r : Tried) (out after : List ℕ) → p ≡ preparedOf l noted i b d packing → Tries ⊥ (length area < enoughArea) r out after (leftInto out chained s t₃ p) → CutsInto packing chained s g l t₀ area r out after
+              cut-into r out after e h = record { cuts = λ {es = es} o v. tries-less ⊥ (length area < enoughArea) (length t₀ < enoughCells) (length area < enoughArea) r out after (writtenIn packing out (cut g es (classContext chained s))) (λ f. absurd f) (λ f. f) (subst (λ (x : Outcome). Tries ⊥ (length area < enoughArea) r out after x) (ap (λ (q : Prepared). leftInto out chained s t₃ q) e ∙ said es o v) h) }
                 where
                   said : (es : List (ℕ × ℕ)) → Holds t₀ l es → Values es → leftInto out chained s t₃ prepared ≡ writtenIn packing out (cut g es (classContext chained s))
                   said es o v = rw (cover-is, tables-are, blocks-are o) (sym (cut-words chained s g es (a .good) (map-good (a .map)) v (a .covers) (a .classed) packing out))

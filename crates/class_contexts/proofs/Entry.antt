@@ -1,15 +1,15 @@
 -- From the check and the maps' lists to the cells of both maps, and how many cells are enough.
-use Prim.Native.Nat.{ℕ, suc, _+_, _*_, _≤_, _<_}
+use Prim.Native.Nat.{ℕ, suc, _+_, _-_, _*_, _%_, _≤_, _<_}
 use mathlib.Core.Path.{_≡_, refl, sym, ap, _∙_}
 use mathlib.Core.Bool.{Bool, true, false, cond, _&&_}
 use mathlib.Core.Option.{Option, none, some}
-use mathlib.Core.List.{List, [], _∷_, map}
+use mathlib.Core.List.{List, [], _∷_, _++_, map}
 use native.Mathlib.Decide.{decLt}
 use native.Mathlib.Nat.{zero-add}
 use native.Mathlib.Numerals.{add-one}
 use native.Mathlib.Omega.{arith}
-use lib.ListN.{length, take}
-use lib.Seq.{length-take-le}
+use lib.ListN.{length, getD, take, drop, length-append, length-drop, List·getD-append}
+use lib.Seq.{length-take-le, getD-append-add, getD-drop}
 use lib.Dec.{eqb}
 use borrow.Author.Tests.{ne-eqb}
 use Rattle.meaning.specs.Words.{word, inside, find, push, mapSome, isSome, keys, member}
@@ -25,11 +25,13 @@ use Rattle.laws.specs.Through.{Opt}
 use Rattle.laws.specs.ReadsBack.{Good}
 use Rattle.laws.specs.CallBack.{map-values}
 use Rattle.laws.specs.SoundGood.{Bytes, part-sound, one-good, header-good, coverage-up, class-context-good}
-use Rattle.fold.specs.Cells.{Holds, holds-kept}
+use Rattle.room.specs.Laid.{enoughArea}
+use Rattle.fold.specs.Cells.{answerIn, Holds, entry-same}
 use Rattle.fold.specs.Laid.{Laid}
 use Rattle.fold.specs.Runs.{LaidGlyphs}
 use Rattle.fold.specs.declared.Map.{Map}
 use Rattle.area.specs.Part.{part, news}
+use Rattle.area.specs.Stored.{part-same}
 use Rattle.member_sets.specs.Sound.{inside-is, through-sound}
 use Rattle.meet.specs.Met.{Met, met-news, met-count, met-few}
 use Rattle.meet_runs.specs.Either.{Most, MeetsGlyphs}
@@ -42,10 +44,9 @@ use Rattle.tried.specs.declared.Tried.{Tried}
 use Rattle.tried.specs.declared.Tried.the-variants.{Became}
 use Rattle.room.specs.declared.Laid.the-variants.{Nothing}
 use Rattle.class_layouts.specs.Table.{tableInto}
-use Rattle.class_layouts.specs.Written.{enoughBytes}
 use Rattle.class_contexts.specs.Meaning.{inputAt, setsOf, SoundContext, rulesMaps, tablesOf, cut-words}
-use Rattle.class_contexts.specs.Cutting.{enoughCells, Sound, Begins, Cuts, CutsInto, Least}
-use Rattle.class_contexts.specs.declared.BothMaps.{BothMaps}
+use Rattle.class_contexts.specs.Cutting.{enoughCells, Sound, Behind, Covers, Covered, NotesCovered, Cuts, CutsInto, Least}
+use Rattle.class_tail.specs.declared.Noted.{Noted}
 
 -- the part that an offset leads to is sound, if the offset is not null
 slot-sound : (P : ℕ → Type 0) (s : List ℕ) (slot : ℕ) → Opt P (reach (λ (at : ℕ). at) s 0 slot) → (word s slot ≡ 0 → ⊥) → P (word s slot)
@@ -125,112 +126,156 @@ unfolding slots trim keepSlot member
 no-slots f sets [] = refl
 no-slots f sets (c ∷ cs) = rw (no-slots f sets cs) refl
 
-module _ {chained : Bool} {s : List ℕ} {form : ℕ} {glyphs : List ℕ} {maps : BothMaps} {t area : List ℕ} (a : Begins chained s form glyphs maps t area) where
-  abbrev m : Map
-  m = maps .glyphs
-
+-- The notes of the covered glyphs, behind the cells of the glyph map.
+module _ {s : List ℕ} {form : ℕ} {glyphs : List ℕ} (a : Covers s form glyphs) {t₀ t₁ : List ℕ} {m : Map} (b : LaidGlyphs form glyphs t₀ t₁ 0 m) where
   abbrev g : List (ℕ × ℕ)
   g = glyphEntries form glyphs
 
-  pub may-bound : {cover : ℕ} → cover ≡ word s 2 → (coverageSound s cover ≡ true) × GlyphMap form glyphs
-  may-bound f = (rw f (a .sound .cover (a .covers)), a .map)
+  -- too few cells
+  no-notes : length t₀ < enoughCells → NotesCovered s g t₀ t₁ (record { at = 0; len = 0 })
+  no-notes h = record { size = b .kept .size; room = λ z. h; covered = λ z. absurd (z refl) }
 
-  module _ {at cover n : ℕ} (e : at ≡ m .at + m .mask + 1) (f : cover ≡ word s 2) (k : Most form glyphs s cover n) where
-    -- too few cells for the notes
-    pub notes-few : length t ≤ at + n → length t < 655360
-    notes-few h = omega (arith, a .near, k .small)
+  pub few-glyphs : m .mask ≡ 0 → NotesCovered s g t₀ t₁ (record { at = 0; len = 0 })
+  few-glyphs z = no-notes (step (decLt (length t₀) 65536))
+    where
+      step : Dec (length t₀ < 65536) → length t₀ < enoughCells
+      step (yes h) = omega arith
+      step (no h) = absurd (b .room (omega arith) z)
 
-    pub may-meet : at + n < length t → MeetsGlyphs form s cover glyphs m t at
-    may-meet h = record { sound = may-bound f .0; map = a .map; holds = a .holds; behind = omega arith; room = omega (arith, k .number) }
+  pub mask-few : m .mask < 65536
+  mask-few = b .few
 
-  module _ {at cover : ℕ} (e : at ≡ m .at + m .mask + 1) (f : cover ≡ word s 2) {t₁ : List ℕ} {k : ℕ} (h : Met (find g) (coverage s cover) t at t₁ k) where
-    noted-is : news t₁ at k ≡ newCoverage g (coverage s (word s 2))
-    noted-is = met-news g h ∙ ap (λ (c : ℕ). newCoverage g (coverage s c)) f
+  module _ {at cover : ℕ} (e : Behind (m .mask) (length t₁) at) (f : cover ≡ word s 2) where
+    pub may-bound : (coverageSound s cover ≡ true) × GlyphMap form glyphs
+    may-bound = (rw f (a .sound), a .map)
 
-    -- no covered glyph is retained
-    pub none-noted : {packing : ℕ} {out : List ℕ} → k ≡ 0 → CutsInto packing chained s g (maps .lookups) t area (Became Nothing) out out
-    unfolding part tableInto heldBy
-    none-noted {packing} {out} z = record { cuts = λ {es = es} o v. sym (cut-words chained s g es (a .good) (map-good (a .map)) v (a .covers) (a .classed) packing out ∙ gone es) }
-      where
-        empty : newCoverage g (coverage s (word s 2)) ≡ []
-        empty = sym noted-is ∙ ap (λ (n : ℕ). news t₁ at n) z
+    module _ {n : ℕ} (k : Most form glyphs s cover n) where
+      pub notes-few : length t₁ ≤ at + n → NotesCovered s g t₀ t₁ (record { at = 0; len = 0 })
+      notes-few h = no-notes (omega (arith, e .near, k .small, b .kept .size))
 
-        gone : (es : List (ℕ × ℕ)) → tableInto (eqb packing 1) out (coverageWords (newCoverage g (coverage s (word s 2)))) (tablesOf chained s g) (trim (map (block (setWords (ruleWords chained))) (slots (cutSet chained (rulesMaps chained s g es)) (heldBy (classesAt s (inputAt chained s)) (retained g (coverage s (word s 2)))) (setsOf chained s) (heldBy (classesAt s (inputAt chained s)) (keys g))))) ≡ refused out 8
-        gone es = rw (retained-none g (coverage s (word s 2)) empty, ← (trim-blocks (setWords (ruleWords chained)) (slots (cutSet chained (rulesMaps chained s g es)) [] (setsOf chained s) (heldBy (classesAt s (inputAt chained s)) (keys g)))), no-slots (cutSet chained (rulesMaps chained s g es)) (setsOf chained s) (heldBy (classesAt s (inputAt chained s)) (keys g))) refl
+      pub may-meet : (m .mask ≡ 0 → ⊥) → at + n < length t₁ → MeetsGlyphs form s cover glyphs m t₁ at
+      may-meet z h = record { sound = may-bound .0; map = a .map; holds = b .holds z; behind = omega (arith, b .place, e .behind); room = omega (arith, k .number) }
 
-    -- there are no more than entries
-    few-noted : k ≤ 65536
-    few-noted = omega (arith, met-count h, met-few g (coverage s cover) (rw f (coverage-up s (word s 2) (a .sound .cover (a .covers)))), entries-few (a .map))
-
-    pub may-cut : (k ≡ 0 → ⊥) → Cuts chained s form glyphs (record { lookups = maps .lookups; cover = record { at = at; len = k } }) t₁ area
-    may-cut z = record {
-      sound = a .sound;
-      bytes = a .bytes;
-      good = a .good;
-      map = a .map;
-      lookups = record { within = omega (arith, a .lookups .within, h .kept .size) };
-      before = omega (arith, a .before);
-      near = omega (arith, a .near, few-noted);
-      inside = omega (arith, h .fits, h .kept .size);
-      covered = omega arith;
-      few = few-noted;
-      covers = a .covers;
-      classed = a .classed;
-      glyphs-noted = noted-is;
-      short = a .short;
-      cells = omega (arith, a .cells, h .kept .size);
+    pub notes-covered : {t₂ : List ℕ} {k : ℕ} → Met (find g) (coverage s cover) t₁ at t₂ k → NotesCovered s g t₀ t₂ (record { at = at; len = k })
+    notes-covered {t₂} {k} h = record {
+      size = h .kept .size ∙ b .kept .size;
+      room = λ z. absurd (omega (arith, e .behind));
+      covered = λ z. record {
+        near = e .near;
+        enough = λ l. e .enough (omega (arith, h .kept .size));
+        inside = omega (arith, h .fits, h .kept .size);
+        few = omega (arith, met-count h, met-few g (coverage s cover) (rw f (coverage-up s (word s 2) (a .sound))), entries-few (a .map));
+        noted = met-news g h ∙ ap (λ (c : ℕ). newCoverage g (coverage s c)) f;
+      };
     }
 
-    pub cut-after : {packing : ℕ} {r : Tried} {out after : List ℕ} → CutsInto packing chained s g (maps .lookups) t₁ area r out after → CutsInto packing chained s g (maps .lookups) t area r out after
-    cut-after c = record { cuts = λ {es = es} o v. rw (h .kept .size) at (c .cuts (holds-kept (h .kept) (omega (arith, a .before)) o) v) }
+-- Cells of a front that changes, and those behind it.
+module _ (at : ℕ) (t front : List ℕ) (h : at ≤ length t) (k : length front ≡ length (take at t)) where
+  pub front-size : length front ≡ at
+  front-size = k ∙ length-take-le at t h
 
-module _ {chained : Bool} {s : List ℕ} {form : ℕ} {glyphs lookups : List ℕ} (o : Sound chained s form glyphs lookups) {t₀ t₁ : List ℕ} {l : Map} (a : Laid lookups t₀ t₁ 0 l) where
-  -- too few cells for the lookups
-  pub few-lookups : l .mask ≡ 0 → length t₀ < 655360
-  few-lookups z = step (decLt (length t₀) 65536)
-    where
-      step : Dec (length t₀ < 65536) → length t₀ < 655360
-      step (yes h) = omega arith
-      step (no h) = absurd (a .room (omega arith) (o .lookups-ascend) z)
+  pub joined-size : length (front ++ drop at t) ≡ length t
+  joined-size = omega (arith, length-append front (drop at t), front-size, length-drop at t)
 
-  -- where the glyph map begins
-  pub glyphs-near : l .mask + 1 ≤ 65536
-  glyphs-near = omega (arith, a .few (o .lookups-ascend))
+  pub joined-after : (i : ℕ) → at ≤ i → getD (front ++ drop at t) i 0 ≡ getD t i 0
+  joined-after i l =
+      let e : length front + (i - at) ≡ i = omega (arith, front-size) in
+      let f : at + (i - at) ≡ i = omega arith in
+      sym (ap (λ (j : ℕ). getD (front ++ drop at t) j 0) e) ∙ getD-append-add front (drop at t) (i - at) 0 ∙ getD-drop at t (i - at) 0 ∙ ap (λ (j : ℕ). getD t j 0) f
 
-  module _ {t₂ : List ℕ} {m : Map} (b : LaidGlyphs form glyphs t₁ t₂ (l .mask + 1) m) where
-    -- too few for the glyphs
-    pub few-glyphs : m .mask ≡ 0 → length t₀ < 655360
-    few-glyphs z = step (decLt (length t₁) (l .mask + 1 + 65536))
+-- a map in the front holds the same in all cells
+joined-holds : (front rest : List ℕ) {m : Map} {es : List (ℕ × ℕ)} → Holds front m es → Holds (front ++ rest) m es
+joined-holds front rest {m} o = record {
+  inside = record { within = omega (arith, o .inside .within, length-append front rest) };
+  answers = λ x. ap (λ (e : ℕ). answerIn e x) (entry-same front (front ++ rest) m (λ i a b. List·getD-append front rest 0 i (omega (arith, o .inside .within))) x) ∙ o .answers x;
+}
+
+module _ {chained : Bool} {s : List ℕ} {form : ℕ} {glyphs lookups : List ℕ} (o : Sound chained s form glyphs lookups) where
+  good-map : Bytes glyphs → GlyphMap form glyphs
+  good-map b = record { form-good = o .form-good; good = o .glyphs-good; bytes = b }
+
+  sound : SoundContext chained s
+  sound = context-sound chained s (o .sound) (o .format) (o .source)
+
+  pub may-note : {cover : ℕ} → Bytes glyphs → cover ≡ word s 2 → (cover ≡ 0 → ⊥) → Covers s form glyphs
+  may-note b e z = record { sound = sound .cover (λ w. z (e ∙ w)); map = good-map b }
+
+  module _ {t₀ t₁ : List ℕ} {cover : Noted} (n : NotesCovered s (glyphEntries form glyphs) t₀ t₁ cover) where
+    -- no covered glyph is retained
+    pub none-noted : {w ia : ℕ} (packing : ℕ) (out : List ℕ) → Bytes s → Bytes glyphs → Bytes lookups → w ≡ word s 2 → (w ≡ 0 → ⊥) → ia ≡ inputAt chained s → (ia ≡ 0 → ⊥) → (cover .at ≡ 0 → ⊥) → cover .len ≡ 0
+        → refused out 8 ≡ writtenIn packing out (cut (glyphEntries form glyphs) (mapEntries lookups) (classContext chained s))
+    unfolding part tableInto heldBy
+    none-noted packing out bs bg bl e z f y u v =
+        sym (cut-words chained s g es (context-good chained s bs (o .sound) (o .format)) (map-good (good-map bg)) (map-values lookups bl) (λ w. z (e ∙ w)) (λ w. y (f ∙ w)) packing out ∙ gone)
       where
-        step : Dec (length t₁ < l .mask + 1 + 65536) → length t₀ < 655360
-        step (yes h) = omega (arith, glyphs-near, a .kept .size)
-        step (no h) = absurd (b .room (omega arith) z)
+        g : List (ℕ × ℕ)
+        g = glyphEntries form glyphs
 
-    module _ (zl : l .mask ≡ 0 → ⊥) (zm : m .mask ≡ 0 → ⊥) where
-      lookups-held : Holds t₂ l (mapEntries lookups)
-      lookups-held = holds-kept (b .kept) (omega (arith, a .place)) (a .holds zl)
+        es : List (ℕ × ℕ)
+        es = mapEntries lookups
 
-      pub may-begin : {area : List ℕ} {cover ia : ℕ} → Bytes s → Bytes glyphs → cover ≡ word s 2 → (cover ≡ 0 → ⊥) → ia ≡ inputAt chained s → (ia ≡ 0 → ⊥) → length t₀ ≤ 0x1_0000_0000 → length area ≤ 0x1_0000_0000
-          → Begins chained s form glyphs (record { lookups = l; glyphs = m }) t₂ area
-      may-begin bs bg e z f y k h = record {
-        sound = context-sound chained s (o .sound) (o .format) (o .source);
-        bytes = bs;
-        good = context-good chained s bs (o .sound) (o .format);
-        map = record { form-good = o .form-good; good = o .glyphs-good; bytes = bg };
-        lookups = lookups-held .inside;
-        before = omega (arith, a .place, b .place);
-        holds = b .holds zm;
-        near = omega (arith, glyphs-near, b .place, b .few);
-        covers = λ w. z (e ∙ w);
-        classed = λ w. y (f ∙ w);
-        short = h;
-        cells = omega (arith, a .kept .size, b .kept .size);
-      }
+        empty : newCoverage g (coverage s (word s 2)) ≡ []
+        empty = sym (n .covered u .noted) ∙ ap (λ (n : ℕ). news t₁ (cover .at) n) v
 
-      pub maps-cut : {area : List ℕ} {packing : ℕ} (r : Tried) (out after : List ℕ) → Bytes lookups → CutsInto packing chained s (glyphEntries form glyphs) l t₂ area r out after
-          → Tries (length t₀ < 655360) (length area < enoughBytes) r out after (writtenIn packing out (cut (glyphEntries form glyphs) (mapEntries lookups) (classContext chained s)))
-      maps-cut {area} {packing} r out after bl c =
-          tries-less (length t₂ < 655360) (length area < enoughBytes) (length t₀ < 655360) (length area < enoughBytes) r out after (writtenIn packing out (cut (glyphEntries form glyphs) (mapEntries lookups) (classContext chained s))) (λ f. omega (arith, f, a .kept .size, b .kept .size)) (λ f. f) (c .cuts lookups-held (map-values lookups bl))
+        gone : tableInto (eqb packing 1) out (coverageWords (newCoverage g (coverage s (word s 2)))) (tablesOf chained s g) (trim (map (block (setWords (ruleWords chained))) (slots (cutSet chained (rulesMaps chained s g es)) (heldBy (classesAt s (inputAt chained s)) (retained g (coverage s (word s 2)))) (setsOf chained s) (heldBy (classesAt s (inputAt chained s)) (keys g))))) ≡ refused out 8
+        gone = rw (retained-none g (coverage s (word s 2)) empty, ← (trim-blocks (setWords (ruleWords chained)) (slots (cutSet chained (rulesMaps chained s g es)) [] (setsOf chained s) (heldBy (classesAt s (inputAt chained s)) (keys g)))), no-slots (cutSet chained (rulesMaps chained s g es)) (setsOf chained s) (heldBy (classesAt s (inputAt chained s)) (keys g))) refl
+
+    module _ (z : cover .at ≡ 0 → ⊥) where
+      covered : Covered s (glyphEntries form glyphs) t₁ cover
+      covered = n .covered z
+
+      pub before-end : cover .at ≤ length t₁
+      before-end = omega (arith, covered .inside)
+
+      module _ {front : List ℕ} {l : Map} (a : Laid lookups (take (cover .at) t₁) front 0 l) where
+        size : length front ≡ cover .at
+        size = front-size (cover .at) t₁ front before-end (a .kept .size)
+
+        -- too few cells for the lookups
+        pub few-lookups : l .mask ≡ 0 → length t₀ < enoughCells
+        few-lookups w = step (decLt (length t₀) enoughCells)
+          where
+            step : Dec (length t₀ < enoughCells) → length t₀ < enoughCells
+            step (yes h) = h
+            step (no h) = absurd (a .room (omega (arith, size, a .kept .size, covered .enough (omega (arith, n .size)))) (o .lookups-ascend) w)
+
+        module _ (w : l .mask ≡ 0 → ⊥) where
+          abbrev t₂ : List ℕ
+          t₂ = front ++ drop (cover .at) t₁
+
+          whole : length t₂ ≡ length t₁
+          whole = joined-size (cover .at) t₁ front before-end (a .kept .size)
+
+          lookups-held : Holds t₂ l (mapEntries lookups)
+          lookups-held = joined-holds front (drop (cover .at) t₁) (a .holds w)
+
+          notes-stay : news t₂ (cover .at) (cover .len) ≡ news t₁ (cover .at) (cover .len)
+          notes-stay = ap (map (λ c. c % 65536)) (part-same t₂ t₁ (cover .at) (cover .len) (λ j b d. joined-after (cover .at) t₁ front before-end (a .kept .size) j b))
+
+          pub may-cut : {area : List ℕ} {x ia : ℕ} → Bytes s → Bytes glyphs → x ≡ word s 2 → (x ≡ 0 → ⊥) → ia ≡ inputAt chained s → (ia ≡ 0 → ⊥) → (cover .len ≡ 0 → ⊥) → length t₀ ≤ 0x1_0000_0000 → length area ≤ 0x1_0000_0000
+              → Cuts chained s form glyphs (record { lookups = l; cover = cover }) t₂ area
+          may-cut bs bg e y f v c k h = record {
+            sound = sound;
+            bytes = bs;
+            good = context-good chained s bs (o .sound) (o .format);
+            map = good-map bg;
+            lookups = lookups-held .inside;
+            before = omega (arith, a .holds w .inside .within, size);
+            near = omega (arith, covered .near, covered .few);
+            inside = omega (arith, covered .inside, whole);
+            covered = omega arith;
+            few = covered .few;
+            covers = λ q. y (e ∙ q);
+            classed = λ q. v (f ∙ q);
+            glyphs-noted = notes-stay ∙ covered .noted;
+            short = h;
+            cells = omega (arith, whole, n .size);
+          }
+
+          pub lookups-cut : {area : List ℕ} {packing : ℕ} (r : Tried) (out after : List ℕ) → Bytes lookups → CutsInto packing chained s (glyphEntries form glyphs) l t₂ area r out after
+              → Tries (length t₀ < enoughCells) (length area < enoughArea) r out after (writtenIn packing out (cut (glyphEntries form glyphs) (mapEntries lookups) (classContext chained s)))
+          lookups-cut {area} {packing} r out after bl c =
+              tries-less (length t₂ < enoughCells) (length area < enoughArea) (length t₀ < enoughCells) (length area < enoughArea) r out after (writtenIn packing out (cut (glyphEntries form glyphs) (mapEntries lookups) (classContext chained s))) (λ f. omega (arith, f, whole, n .size)) (λ f. f) (c .cuts lookups-held (map-values lookups bl))
 
 -- A front of the scratch that is long enough, or all of it.
 pub front-length : {n c : ℕ} (t : List ℕ) → Least (length t) c n → n ≡ length (take n t)
@@ -239,7 +284,7 @@ front-length {n} t h = sym (length-take-le n t (h .first))
 front-short : {n c : ℕ} (t : List ℕ) → Least (length t) c n → length (take n t) < c → length t < c
 front-short {n} {c} t h l = omega (arith, front-length t h, h .one (omega (arith, front-length t h)))
 
-pub front-tries : {n k : ℕ} (t area : List ℕ) (r : Tried) (out after : List ℕ) (made : Outcome) → Least (length t) 655360 n → Least (length area) enoughBytes k
-    → Tries (length (take n t) < enoughCells) (length (take k area) < enoughBytes) r out after made → Tries (length t < enoughCells) (length area < enoughBytes) r out after made
+pub front-tries : {n k : ℕ} (t area : List ℕ) (r : Tried) (out after : List ℕ) (made : Outcome) → Least (length t) enoughCells n → Least (length area) enoughArea k
+    → Tries (length (take n t) < enoughCells) (length (take k area) < enoughArea) r out after made → Tries (length t < enoughCells) (length area < enoughArea) r out after made
 front-tries {n} {k} t area r out after made h g =
-    tries-less (length (take n t) < enoughCells) (length (take k area) < enoughBytes) (length t < enoughCells) (length area < enoughBytes) r out after made (front-short t h) (front-short area g)
+    tries-less (length (take n t) < enoughCells) (length (take k area) < enoughArea) (length t < enoughCells) (length area < enoughArea) r out after made (front-short t h) (front-short area g)

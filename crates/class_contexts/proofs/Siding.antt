@@ -1,6 +1,6 @@
 -- A class table that is laid into cells: its class map, and the entries of the new one.
-use Prim.Native.Nat.{ℕ, _+_, _-_, _%_, _≤_, _<_}
-use mathlib.Core.Path.{_≡_, refl, sym, ap, _∙_}
+use Prim.Native.Nat.{ℕ, _+_, _-_, _/_, _%_, _≤_, _<_}
+use mathlib.Core.Path.{_≡_, refl, ap, _∙_}
 use mathlib.Core.List.{List, map}
 use native.Mathlib.Omega.{arith}
 use lib.ListN.{length}
@@ -10,8 +10,8 @@ use Rattle.meaning.specs.Cut.{classMap, newClasses}
 use Rattle.laws.specs.Runs.{up-ascends}
 use Rattle.laws.specs.CutGood.{GoodMap, new-classes}
 use Rattle.laws.specs.Fits.{classes-fit}
+use Rattle.bits.specs.Reading.{same-cell}
 use Rattle.fold.specs.Cells.{Inside, Kept, kept-more}
-use Rattle.fold.specs.declared.Map.{Map}
 use Rattle.area.specs.Part.{notes}
 use Rattle.glyph_runs.specs.Runs.{map-good}
 use Rattle.class_lists.specs.Tables.{classesAt}
@@ -20,8 +20,8 @@ use Rattle.class_maps.specs.Present.{present-held}
 use Rattle.class_maps.specs.Mapped.{Classes, Mapped, Entries, zero-first, holds-null, classes-kept, entries-ascend}
 use Rattle.class_maps.specs.Covered.{Coverable, Covered}
 use Rattle.class_maps.specs.declared.ClassMap.{ClassMap}
-use Rattle.class_maps.specs.Same.{Same, kept-same, after-same, part-alike, holds-same, inside-same, present-same}
-use Rattle.class_contexts.specs.Sides.{TableFor, table-is, Asks, Sided, InputLaid}
+use Rattle.class_maps.specs.Same.{Same, kept-same, after-same, part-alike, holds-same, present-same}
+use Rattle.class_contexts.specs.Sides.{TableFor, table-is, markCells, Asks, Sided, InputLaid}
 use Rattle.class_tail.specs.declared.NewTable.{NewTable}
 use Rattle.class_tail.specs.declared.Noted.{Noted}
 use Rattle.class_contexts.specs.declared.Input.{Input}
@@ -69,12 +69,11 @@ module _ (noted : Noted) {s : List ℕ} {at form : ℕ} {glyphs : List ℕ} {lis
   g = glyphEntries form glyphs
 
   -- too few cells for the class map
-  pub input-few : (r : Input) → c .map .mask ≡ 0 → r .map .mask ≡ 0 → r .marks .mask ≡ 0 → InputLaid s at g noted t₀ t₁ r
-  input-few r z y x = record {
+  pub input-few : (r : Input) → c .map .mask ≡ 0 → r .map .mask ≡ 0 → InputLaid s at g noted t₀ t₁ r
+  input-few r z y = record {
     kept = rw l at (w .kept);
     few = omega arith;
     room = λ h n. w .room (omega arith) z;
-    alike = x ∙ sym y;
     low = λ n. absurd (n y);
     near = λ n. absurd (n y);
     behind = λ n. absurd (n y);
@@ -87,12 +86,11 @@ module _ (noted : Noted) {s : List ℕ} {at form : ℕ} {glyphs : List ℕ} {lis
     classes = w .mapped z
 
     -- or for the marks
-    pub marks-few : (r : Input) {at′ : ℕ} → at′ ≡ c .map .at + c .map .mask + 1 → length t₁ ≤ at′ + c .map .mask → r .map .mask ≡ 0 → r .marks .mask ≡ 0 → InputLaid s at g noted t₀ t₁ r
-    marks-few r e h y x = record {
+    pub marks-few : (r : Input) {marks cells : ℕ} → marks ≡ c .map .at + c .map .mask + 1 → cells ≡ markCells (c .map) → length t₁ < marks + cells → r .map .mask ≡ 0 → InputLaid s at g noted t₀ t₁ r
+    marks-few r p m h y = record {
       kept = rw l at (w .kept);
       few = omega arith;
       room = λ f n. omega (arith, classes .near, w .few, w .kept .size);
-      alike = x ∙ sym y;
       low = λ n. absurd (n y);
       near = λ n. absurd (n y);
       behind = λ n. absurd (n y);
@@ -104,17 +102,12 @@ module _ (noted : Noted) {s : List ℕ} {at form : ℕ} {glyphs : List ℕ} {lis
     pub list-before : list ≤ c .map .at
     list-before = classes .place
 
-    module _ {marks : Map} (p : marks .at ≡ c .map .at + c .map .mask + 1) (m : marks .mask ≡ c .map .mask) where
+    module _ {marks cells : ℕ} (p : marks ≡ c .map .at + c .map .mask + 1) (m : cells ≡ markCells (c .map)) where
       -- the marks may be made
-      pub may-mark : marks .at + marks .mask < length t₁ → Coverable t₁ marks (noted .at) (noted .len) list (c .map .at - list)
-      may-mark h = record {
-        power = rw m (classes .direct .power);
-        few = omega (arith, w .few);
-        inside = record { within = h };
-        before = record { notes = omega (arith, classes .place); classes = omega (arith, classes .place); low = λ j f. omega (arith, classes .low j f) };
-      }
+      pub may-mark : length t₀ ≤ 0x1_0000_0000 → marks + cells ≤ length t₁ → Coverable t₁ (noted .at) (noted .len) list (c .map .at - list) marks × (marks + cells ≤ length t₁)
+      may-mark few h = (record { notes = omega (arith, classes .place); classes = omega (arith, classes .place); inside = omega arith; near = omega (arith, w .kept .size) }, h)
 
-      module _ {t₂ : List ℕ} (v : Covered t₁ t₂ marks (noted .at) (noted .len) list (c .map .at - list)) where
+      module _ {t₂ : List ℕ} (v : Covered t₁ t₂ (noted .at) (noted .len) list (c .map .at - list) marks cells) where
         classes₂ : Classes (classesAt s at) g t₂ list c
         classes₂ = classes-kept classes (v .kept) (omega arith)
 
@@ -126,14 +119,13 @@ module _ (noted : Noted) {s : List ℕ} {at form : ℕ} {glyphs : List ℕ} {lis
             → InputLaid s at g noted t₀ t₃ (record { map = c .map; classes = c .count; marks = marks; table = record { old = at; list = list; len = n } })
         input-laid {t₃} {n} e =
             let good = map-good (a .map) in
-            let far : Same (c .map .at) (marks .at + marks .mask + 1) t₂ t₃ = after-same (marks .at + marks .mask + 1) (e .elsewhere) in
+            let far : Same (c .map .at) (marks + cells) t₂ t₃ = after-same (marks + cells) (e .elsewhere) in
             let first : Kept list t₀ t₁ = w .kept in
             let second : Kept list t₁ t₂ = record { size = v .kept .size; same = λ i h. v .kept .same i (omega (arith, classes .place)) } in
             record {
               kept = rw l at (kept-more (kept-more first second) (elsewhere-kept (e .elsewhere)));
               few = w .few;
               room = λ h y. z y;
-              alike = m;
               low = λ y. omega (arith, classes .place);
               near = λ y. omega (arith, classes .near);
               behind = λ y. p;
@@ -142,9 +134,8 @@ module _ (noted : Noted) {s : List ℕ} {at form : ℕ} {glyphs : List ℕ} {lis
                 holds = holds-same far (c .map) (omega arith) (omega arith) (classes₂ .holds);
                 held = present-same far (c .map) (omega arith) (omega arith) ∙ present-held g (classesAt s at) (classes₂ .direct) (classes₂ .holds);
                 count = classes .count;
-                inside = inside-same far marks (omega arith) (omega arith) (v .direct .inside);
-                marked = present-same far marks (omega arith) (omega arith)
-                    ∙ v .classes (classesAt s at) g cov good (classes .lists) up (ap (map (λ x. x % 65536)) (part-alike (kept-same first) (noted .at) (noted .len) (omega arith) (omega arith)) ∙ told);
+                covered = λ x h. same-cell t₂ t₃ marks x (far .each (marks + x / 32) (omega arith) (omega arith))
+                    ∙ v .classes (classesAt s at) g cov good (classes .lists) up (ap (map (λ x. x % 65536)) (part-alike (kept-same first) (noted .at) (noted .len) (omega arith) (omega arith)) ∙ told) x (omega arith);
                 table = entered good classes₂ e;
               };
             }

@@ -1,5 +1,5 @@
 -- Class tables in cells: the class map of one, and the entries of the new one; for the input, also the marks of the classes that covered glyphs hold.
-use Prim.Native.Nat.{ℕ, _+_, _≤_, _<_}
+use Prim.Native.Nat.{ℕ, _+_, _/_, _≤_, _<_}
 use mathlib.Core.Path.{_≡_, refl, sym, ap, _∙_}
 use mathlib.Core.Bool.{Bool, true, false}
 use mathlib.Core.Option.{Option, some}
@@ -7,12 +7,14 @@ use mathlib.Core.List.{List}
 use lib.ListN.{length}
 use lib.Dec.{eqb}
 use borrow.Author.Tests.{eqb-true, eqb-false}
-use Rattle.meaning.specs.Words.{keys}
+use Rattle.meaning.specs.Words.{keys, member}
 use Rattle.meaning.specs.Parts.{classes}
 use Rattle.meaning.specs.Cut.{heldBy, classMap, classMap?, newClasses, newClasses?, newCoverage, retained}
 use Rattle.meaning.specs.Layout.{block, classWords}
 use Rattle.laws.specs.Runs.{Up}
-use Rattle.fold.specs.Cells.{Inside, Holds, Kept}
+use Rattle.bits.specs.Bits.{marked}
+use Rattle.fold.specs.Cells.{Holds, Kept}
+use Rattle.fold.specs.declared.Map.{Map}
 use Rattle.area.specs.Part.{news, notes}
 use Rattle.glyph_runs.specs.Runs.{GlyphMap}
 use Rattle.class_lists.specs.Tables.{tableAt, classesAt, NullOrSound, null-table, table-there, lists-there}
@@ -66,23 +68,25 @@ pub record Sided (s : List ℕ) (at : ℕ) (g : List (ℕ × ℕ)) (t₀ t : Lis
   pub before : (r .map .mask ≡ 0 → ⊥) → r .table .list + r .table .len ≤ r .map .at
   pub side : (r .map .mask ≡ 0 → ⊥) → SideIn g s at t r
 
+-- how many cells marks take, one bit for each class that the map has a cell for
+abbrev pub markCells : Map → ℕ
+markCells m = m .mask / 32 + 1
+
 -- the same for the input, with marks of the classes that the retained glyphs of a coverage hold
 pub record InputIn (g : List (ℕ × ℕ)) (s : List ℕ) (at : ℕ) (cov t : List ℕ) (r : Input) : Type 0 where
   pub holds : Holds t (r .map) (classMap g (classesAt s at))
   pub held : present t (r .map) ≡ heldBy (classesAt s at) (keys g)
   pub count : r .classes ≡ length (heldBy (classesAt s at) (keys g))
-  pub inside : Inside t (r .marks)
-  pub marked : present t (r .marks) ≡ heldBy (classesAt s at) (retained g cov)
+  pub covered : (c : ℕ) → c ≤ r .map .mask → marked t (r .marks) c ≡ member c (heldBy (classesAt s at) (retained g cov))
   pub table : TableFor g s at t (r .table)
 
 -- The cells up to the notes of the coverage's glyphs are as before; the mask is 0 where there are too few cells.
 pub record InputLaid (s : List ℕ) (at : ℕ) (g : List (ℕ × ℕ)) (noted : Noted) (t₀ t : List ℕ) (r : Input) : Type 0 where
   pub kept : Kept (noted .at + noted .len) t₀ t
   pub few : r .map .mask < 65536
-  pub room : noted .at + noted .len + 196608 ≤ length t₀ → r .map .mask ≡ 0 → ⊥
-  pub alike : r .marks .mask ≡ r .map .mask
+  pub room : noted .at + noted .len + 133120 ≤ length t₀ → r .map .mask ≡ 0 → ⊥
   pub low : (r .map .mask ≡ 0 → ⊥) → noted .at + noted .len ≤ r .map .at
   pub near : (r .map .mask ≡ 0 → ⊥) → r .map .at ≤ noted .at + noted .len + 65536
-  pub behind : (r .map .mask ≡ 0 → ⊥) → r .marks .at ≡ r .map .at + r .map .mask + 1
+  pub behind : (r .map .mask ≡ 0 → ⊥) → r .marks ≡ r .map .at + r .map .mask + 1
   pub before : (r .map .mask ≡ 0 → ⊥) → r .table .list + r .table .len ≤ r .map .at
   pub side : (r .map .mask ≡ 0 → ⊥) → (cov : List ℕ) → Up 0 cov → news t₀ (noted .at) (noted .len) ≡ newCoverage g cov → InputIn g s at cov t r

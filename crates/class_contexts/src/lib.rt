@@ -1,5 +1,4 @@
 // Format 2 of contexts and chained contexts: a coverage, class tables and sets of rules by class; cut in one walk, from the source into the area.
-use class_layouts::BYTES;
 use class_layouts::Prepared;
 use class_layouts::write_left;
 use class_maps::class_map;
@@ -9,11 +8,13 @@ use class_tail::NewTable;
 use class_tail::Noted;
 use class_tail::Tail;
 use fold::Map;
+use fold::cells;
 use fold::lay;
 use fold::lay_glyphs;
 use marks::Marks;
 use meet_runs::meet;
 use meet_runs::most;
+use room::AREA;
 use room::Laid;
 use rule_sets::Maps;
 use tried::Tried;
@@ -25,21 +26,15 @@ ghost use Rattle.meaning.specs.Maps.{mapEntries, glyphEntries};
 ghost use Rattle.meaning.specs.Tables.{classContext};
 ghost use Rattle.meaning.specs.Cut.{cut};
 ghost use Rattle.meaning.specs.Subset.{writtenIn};
+ghost use Rattle.room.specs.Laid.{enoughArea};
 ghost use Rattle.tried.specs.Tries.{Tries};
-ghost use Rattle.class_layouts.specs.Written.{enoughBytes};
-ghost use Rattle.class_contexts.specs.Sides.{Asks, Sided, InputLaid};
+ghost use Rattle.class_contexts.specs.Sides.{markCells, Asks, Sided, InputLaid};
 ghost use Rattle.class_contexts.specs.Meaning.{backAt, inputAt, aheadAt};
-ghost use Rattle.class_contexts.specs.Cutting.{enoughCells, preparedOf, Sound, Begins, Cuts, CutsInto, Least};
+ghost use Rattle.class_contexts.specs.Cutting.{enoughCells, preparedOf, Sound, Behind, Covers, NotesCovered, Cuts, CutsInto, Least};
 
-// The number of cells that is enough for any source: 65,536 for each of both maps, for the notes of the covered glyphs and for the marks; and for each of three class tables as many for the classes of the glyphs, and for the class map.
-// 4 * 65,536 + 3 * 131,072.
-pub const CELLS: usize = 655360;
-
-// Both maps in cells, that of the glyphs behind that of the lookups.
-pub struct BothMaps {
-    pub lookups: Map,
-    pub glyphs: Map,
-}
+// The number of cells that is enough for any source: 65,536 that the glyph map takes and then the lookup map, and as many for the notes of the covered glyphs; for each of three class tables as many for the classes of the glyphs, and for the class map; and 2,048 for the marks, 32 in each.
+// 2 * 65,536 + 3 * 131,072 + 2,048.
+pub const CELLS: usize = 526336;
 
 // The lookup map in cells, and behind it the notes of the covered glyphs.
 pub struct Begun {
@@ -53,11 +48,11 @@ pub struct Side {
     pub table: NewTable,
 }
 
-// The same for the input, with the number of surviving classes, and marks of the classes that covered glyphs hold.
+// The same for the input, with the number of surviving classes, and where the marks of the classes that covered glyphs hold begin, one bit for each class that the map has a cell for.
 pub struct Input {
     pub map: Map,
     pub classes: usize,
-    pub marks: Map,
+    pub marks: usize,
     pub table: NewTable,
 }
 
@@ -85,14 +80,21 @@ fn class_side(src: &[u8], at: usize, form: usize, glyphs: &[u8], t: &mut [u32], 
     }
 }
 
+// How many cells the marks take, one bit for each class that the map has a cell for.
+fn mark_cells(map: Map) -> usize
+    ensures { λ r. ⌜ r ≡ markCells map ⌝ }
+{
+    map.mask / 32 + 1
+}
+
 // What is answered where there are too few cells for the input.
 fn no_input() -> Input
-    ensures { λ r. ⌜ (r .map .mask ≡ 0) × (r .marks .mask ≡ 0) ⌝ }
+    ensures { λ r. ⌜ r .map .mask ≡ 0 ⌝ }
 {
     Input {
         map: Map { at: 0, mask: 0 },
         classes: 0,
-        marks: Map { at: 0, mask: 0 },
+        marks: 0,
         table: NewTable {
             old: 0,
             list: 0,
@@ -119,14 +121,12 @@ fn class_input(
     if map.mask == 0 {
         return no_input();
     }
-    let marks = Map {
-        at: map.at + map.mask + 1,
-        mask: map.mask,
-    };
-    if t.len() <= marks.at + marks.mask {
+    let marks = map.at + map.mask + 1;
+    let cells = mark_cells(map);
+    if t.len() < marks + cells {
         return no_input();
     }
-    mark_covered(t, noted.at, noted.len, list, map.at - list, marks);
+    mark_covered(t, noted.at, noted.len, list, map.at - list, marks, cells);
     let len = new_entries(t, list, map);
     Input {
         map,
@@ -223,7 +223,7 @@ fn cut_noted(
     if input.map.mask == 0 {
         return Tried::FewCells;
     }
-    let behind = input.marks.at + input.marks.mask + 1;
+    let behind = input.marks + mark_cells(input.map);
     let back = class_side(src, back_at(chained, src), form, glyphs, t, behind);
     if back.map.mask == 0 {
         return Tried::FewCells;
@@ -237,40 +237,40 @@ fn cut_noted(
     write_left(chained, src, t, prepared, glyphs.len() % form, area, out)
 }
 
-// What is left of a sound context, with both maps in cells, handed over if there is room.
-fn cut_maps(
-    chained: bool,
-    src: &[u8],
-    marks: Marks,
-    glyphs: &[u8],
-    maps: BothMaps,
-    t: &mut [u32],
-    area: &mut [u8],
-    out: &mut [u8],
-) -> Tried
-    requires { ⌜ Begins chained (now src) (marks .form) (now glyphs) maps (now t) (now area) ⌝ }
-    ensures { λ r. ⌜ CutsInto (marks .layout) chained (now (src .entry)) (glyphEntries (marks .form) (now (glyphs .entry))) (maps .lookups) (now (t .entry)) (now (area .entry)) r (now (out .entry)) (now (out .exit)) ⌝ }
+// Where the notes of the covered glyphs begin: behind the cells of the glyph map, of this mask, and behind those that the lookup map takes in their place. That is the same for any map where the cells are enough for any source; else it is likely to be enough.
+fn notes_at(mask: usize, lookups: &[u8], all: usize) -> usize
+    requires { ⌜ mask < 65536 ⌝ }
+    ensures { λ r. ⌜ Behind mask all r ⌝ }
 {
-    let form = marks.form;
-    let m = maps.glyphs;
-    let at = m.at + m.mask + 1;
-    let cover = word_at(src, 2);
-    if t.len() <= at + most(src, cover, glyphs, form) {
-        return Tried::FewCells;
+    if CELLS <= all {
+        return 65536;
     }
-    let len = meet(src, cover, glyphs, form, m, t, at);
-    if len == 0 {
-        return Tried::Became(Laid::Nothing);
+    let n = cells(lookups);
+    if mask < n {
+        return n;
     }
-    let lookups = maps.lookups;
-    let begun = Begun {
-        lookups,
-        cover: Noted { at, len },
-    };
-    cut_noted(chained, src, marks, glyphs, begun, t, area, out)
+    mask + 1
 }
 
-// The same from the maps' lists, with lent scratch whose content is arbitrary.
+// The retained covered glyphs, noted in cells behind those that first the glyph map and then the lookup map takes. The place is 0 where there are too few cells.
+fn note_covered(src: &[u8], glyphs: &[u8], form: usize, lookups: &[u8], t: &mut [u32]) -> Noted
+    requires { ⌜ Covers (now src) form (now glyphs) ⌝ }
+    ensures { λ r. ⌜ NotesCovered (now (src .entry)) (glyphEntries form (now (glyphs .entry))) (now (t .entry)) (now (t .exit)) r ⌝ }
+{
+    let m = lay_glyphs(glyphs, form, t, 0);
+    if m.mask == 0 {
+        return Noted { at: 0, len: 0 };
+    }
+    let at = notes_at(m.mask, lookups, t.len());
+    let cover = word_at(src, 2);
+    if t.len() <= at + most(src, cover, glyphs, form) {
+        return Noted { at: 0, len: 0 };
+    }
+    let len = meet(src, cover, glyphs, form, m, t, at);
+    Noted { at, len }
+}
+
+// What is left of a sound context, from the maps' lists, handed over if there is room, with lent scratch whose content is arbitrary.
 fn cut_in(
     chained: bool,
     src: &[u8],
@@ -282,7 +282,7 @@ fn cut_in(
     out: &mut [u8],
 ) -> Tried
     requires { ⌜ Sound chained (now src) (marks .form) (now glyphs) (now lookups) × (length (now t) ≤ 0x1_0000_0000) × (length (now area) ≤ 0x1_0000_0000) ⌝ }
-    ensures { λ r. ⌜ Tries (length (now (t .entry)) < enoughCells) (length (now (area .entry)) < enoughBytes) r (now (out .entry)) (now (out .exit)) (writtenIn (marks .layout) (now (out .entry)) (cut (glyphEntries (marks .form) (now (glyphs .entry))) (mapEntries (now (lookups .entry))) (classContext chained (now (src .entry))))) ⌝ }
+    ensures { λ r. ⌜ Tries (length (now (t .entry)) < enoughCells) (length (now (area .entry)) < enoughArea) r (now (out .entry)) (now (out .exit)) (writtenIn (marks .layout) (now (out .entry)) (cut (glyphEntries (marks .form) (now (glyphs .entry))) (mapEntries (now (lookups .entry))) (classContext chained (now (src .entry))))) ⌝ }
 {
     if word_at(src, 2) == 0 {
         return Tried::Became(Laid::Nothing);
@@ -290,19 +290,19 @@ fn cut_in(
     if input_at(chained, src) == 0 {
         return Tried::Became(Laid::Nothing);
     }
-    let l = lay(lookups, t, 0);
+    let cover = note_covered(src, glyphs, marks.form, lookups, t);
+    if cover.at == 0 {
+        return Tried::FewCells;
+    }
+    if cover.len == 0 {
+        return Tried::Became(Laid::Nothing);
+    }
+    let l = lay(lookups, &mut t[..cover.at], 0);
     if l.mask == 0 {
         return Tried::FewCells;
     }
-    let m = lay_glyphs(glyphs, marks.form, t, l.mask + 1);
-    if m.mask == 0 {
-        return Tried::FewCells;
-    }
-    let maps = BothMaps {
-        lookups: l,
-        glyphs: m,
-    };
-    cut_maps(chained, src, marks, glyphs, maps, t, area, out)
+    let begun = Begun { lookups: l, cover };
+    cut_noted(chained, src, marks, glyphs, begun, t, area, out)
 }
 
 // The lesser of two numbers.
@@ -327,10 +327,10 @@ pub fn by_class(
     out: &mut [u8],
 ) -> Tried
     requires { ⌜ Sound chained (now src) (marks .form) (now glyphs) (now lookups) ⌝ }
-    ensures { λ r. ⌜ Tries (length (now (t .entry)) < enoughCells) (length (now (area .entry)) < enoughBytes) r (now (out .entry)) (now (out .exit)) (writtenIn (marks .layout) (now (out .entry)) (cut (glyphEntries (marks .form) (now (glyphs .entry))) (mapEntries (now (lookups .entry))) (classContext chained (now (src .entry))))) ⌝ }
+    ensures { λ r. ⌜ Tries (length (now (t .entry)) < enoughCells) (length (now (area .entry)) < enoughArea) r (now (out .entry)) (now (out .exit)) (writtenIn (marks .layout) (now (out .entry)) (cut (glyphEntries (marks .form) (now (glyphs .entry))) (mapEntries (now (lookups .entry))) (classContext chained (now (src .entry))))) ⌝ }
 {
     let cells = least(t.len(), CELLS);
-    let bytes = least(area.len(), BYTES);
+    let bytes = least(area.len(), AREA);
     cut_in(
         chained,
         src,

@@ -17,7 +17,7 @@ use Rattle.meaning.specs.Packed.{firstOfEach, together}
 use Rattle.laws.specs.PackedReading.{sharedBlocks}
 use Rattle.repeats.specs.Shared.{blocksIn}
 use Rattle.meaning.specs.Subset.{Outcome, refused}
-use Rattle.room.specs.Laid.{laidAs, laid-unfit}
+use Rattle.room.specs.Laid.{enoughArea, laidAs, laid-unfit}
 use Rattle.area.specs.Part.{part}
 use Rattle.class_maps.specs.SlotWalk.{trim-words}
 use Rattle.class_slots.specs.Sets.{slotsAt, slots-near}
@@ -29,19 +29,19 @@ use Rattle.tried.specs.declared.Tried.the-variants.{Short, Became}
 use Rattle.room.specs.declared.Laid.the-variants.{TooBig}
 use Rattle.class_tail.specs.Tail.{tail-many, coverOf, tableBlocks, tailWords, tailFit}
 use Rattle.class_layouts.specs.Table.{coverPlace, classTable, tableInto, Finishes, Finished}
-use Rattle.class_layouts.specs.Written.{enoughBytes, BookFor, NoRoom, Writes, leftInto}
+use Rattle.class_layouts.specs.Written.{BookFor, NoRoom, Writes, leftInto}
 use Rattle.class_layouts.specs.declared.Prepared.{Prepared}
 use Rattle.class_tail.proofs.Fitting.{tail-fit}
 
 -- no room
-pub too-short : {n : ℕ} → n < enoughBytes → NoRoom n Short
+pub too-short : {n : ℕ} → n < enoughArea → NoRoom n Short
 too-short h = record { told = λ out made k. (h, refl) }
 
-pub too-big : {n : ℕ} → enoughBytes ≤ n → NoRoom n (Became TooBig)
+pub too-big : {n : ℕ} → enoughArea ≤ n → NoRoom n (Became TooBig)
 too-big h = record { told = λ out made k. k h }
 
-pub room-told : {n m : ℕ} {r : Tried} {out : List ℕ} {made : Outcome} → NoRoom n r → n ≡ m → (enoughBytes ≤ n → refused out 9 ≡ made) → Tries ⊥ (m < enoughBytes) r out out made
-room-told {n} {m} {r} {out} {made} h e k = subst (λ (i : ℕ). Tries ⊥ (i < enoughBytes) r out out made) e (h .told out made k)
+pub room-told : {n m : ℕ} {r : Tried} {out : List ℕ} {made : Outcome} → NoRoom n r → n ≡ m → (enoughArea ≤ n → refused out 9 ≡ made) → Tries ⊥ (m < enoughArea) r out out made
+room-told {n} {m} {r} {out} {made} h e k = subst (λ (i : ℕ). Tries ⊥ (i < enoughArea) r out out made) e (h .told out made k)
 
 -- Books.
 
@@ -144,7 +144,7 @@ module _ {chained : Bool} {s t : List ℕ} {p : Prepared} {area₀ : List ℕ} (
   many = blocks-many chained s t (p .maps) (p .marks) ∙ sym (a .ready .number)
 
   -- there is no room for the sets
-  pub short-slots : length area < r .end → enoughBytes ≤ length area → refused out 9 ≡ leftInto out chained s t p
+  pub short-slots : length area < r .end → enoughArea ≤ length area → refused out 9 ≡ leftInto out chained s t p
   short-slots l b =
       let u : 65526 ≤ 2 * length (blocksIn packed bs) = w .full (omega (arith, w .same)) (omega (arith, w .same)) in
       let some-left = trim-some packed cover tables bs (omega (arith, u)) in
@@ -182,7 +182,7 @@ module _ {chained : Bool} {s t : List ℕ} {p : Prepared} {area₀ : List ℕ} (
         cover-is = omega (arith, ends, long, filled .few, many, ap length (trim-blocks packed bs), tail-many chained t (p .tail))
 
         -- there is no room for what follows the sets
-        pub short-table : length after < end → enoughBytes ≤ length after → refused out 9 ≡ leftInto out chained s t p
+        pub short-table : length after < end → enoughArea ≤ length after → refused out 9 ≡ leftInto out chained s t p
         short-table k b =
             left-unfit packed cover tables bs out (omega (arith, long)) (λ q. omega (arith, f .full (omega (arith, f .same)) (rw cover-is at q), a .few, f .same))
 

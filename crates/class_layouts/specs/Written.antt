@@ -7,6 +7,7 @@ use lib.ListN.{length}
 use lib.Dec.{eqb}
 use Rattle.meaning.specs.Cut.{trim}
 use Rattle.meaning.specs.Subset.{Outcome, refused}
+use Rattle.room.specs.Laid.{enoughArea}
 use Rattle.repeats.specs.Book.{packs}
 use Rattle.class_slots.specs.Slots.{bookCells, Ready, slotBlocks}
 use Rattle.tried.specs.Tries.{Tries}
@@ -14,10 +15,6 @@ use Rattle.tried.specs.declared.Tried.{Tried}
 use Rattle.class_tail.specs.Tail.{coverOf, tableBlocks, TailIn}
 use Rattle.class_layouts.specs.Table.{tableInto}
 use Rattle.class_layouts.specs.declared.Prepared.{Prepared}
-
--- bytes that are enough for any source: where they are too few, an offset or a count of the layout doesn't fit a word
-abbrev pub enoughBytes : ℕ
-enoughBytes = 655360
 
 -- the most surviving classes
 abbrev pub mostClasses : ℕ
@@ -30,7 +27,7 @@ pub record BookFor (packing : ℕ) (book : List ℕ) : Type 0 where
 
 -- What is answered where an area of n bytes has no room: it is too short, or the layout is too big, if an area that is long enough says so.
 pub record NoRoom (n : ℕ) (r : Tried) : Type 0 where
-  pub told : (out : List ℕ) (made : Outcome) → (enoughBytes ≤ n → refused out 9 ≡ made) → Tries ⊥ (n < enoughBytes) r out out made
+  pub told : (out : List ℕ) (made : Outcome) → (enoughArea ≤ n → refused out 9 ≡ made) → Tries ⊥ (n < enoughArea) r out out made
 
 -- what the writer asks: the cells have all that is needed for the sets and for what follows them, and there are not too many classes
 pub record Writes (chained : Bool) (s t : List ℕ) (p : Prepared) (area : List ℕ) : Type 0 where

@@ -8,11 +8,10 @@ use class_slots::slots_at;
 use class_slots::write_slots;
 use class_tail::Tail;
 use class_tail::write_tail;
-use fold::Map;
 use member_sets::DEAD;
 use member_sets::crowded;
 use repeats::BOOK;
-use room::LIMIT;
+use room::AREA;
 use room::Laid;
 use rule_sets::Maps;
 use tried::Tried;
@@ -21,6 +20,7 @@ ghost use mathlib.Core.Path.{_≡_};
 ghost use mathlib.Core.Bool.{true};
 ghost use Prim.Native.Nat.{_+_, _*_, _≤_, _<_};
 ghost use lib.ListN.{length};
+ghost use Rattle.room.specs.Laid.{enoughArea};
 ghost use Rattle.member_sets.specs.Dead.{Dead};
 ghost use Rattle.rule_sets.specs.Left.{mapsIn, ruleLeft};
 ghost use Rattle.tried.specs.Tries.{Tries};
@@ -28,15 +28,12 @@ ghost use Rattle.repeats.specs.Book.{packs};
 ghost use Rattle.class_slots.specs.Slots.{bookCells};
 ghost use Rattle.class_tail.specs.Tail.{coverOf, tableBlocks};
 ghost use Rattle.class_layouts.specs.Table.{Finishes, Finished};
-ghost use Rattle.class_layouts.specs.Written.{enoughBytes, BookFor, NoRoom, Writes, leftInto};
+ghost use Rattle.class_layouts.specs.Written.{BookFor, NoRoom, Writes, leftInto};
 
-// The number of bytes of an area that is enough for any source: where they are too few, an offset or a count of the layout doesn't fit a word.
-pub const BYTES: usize = 5 * LIMIT / 2;
-
-// What the cells hold for the cut: the maps of the rules, the marks of the classes that covered glyphs hold, the number of surviving classes, and what follows the sets. And the mark of the layout that is asked for.
+// What the cells hold for the cut: the maps of the rules, the marks of the classes that covered glyphs hold, by where they begin, the number of surviving classes, and what follows the sets. And the mark of the layout that is asked for.
 pub struct Prepared {
     pub maps: Maps,
-    pub marks: Map,
+    pub marks: usize,
     pub classes: usize,
     pub tail: Tail,
     pub packing: usize,
@@ -69,7 +66,7 @@ fn finish(
 fn no_room(area: &[u8]) -> Tried
     ensures { λ r. ⌜ NoRoom (length (now (area .entry))) r ⌝ }
 {
-    if area.len() < BYTES {
+    if area.len() < AREA {
         return Tried::Short;
     }
     Tried::Became(Laid::TooBig)
@@ -87,7 +84,7 @@ fn write_booked(
     out: &mut [u8],
 ) -> Tried
     requires { ⌜ Writes chained (now src) (now t) prepared (now area) × Dead (ruleLeft chained (mapsIn (now t) (prepared .maps)) (now src)) (now dead) × BookFor (prepared .packing) (now book) ⌝ }
-    ensures { λ r. ⌜ Tries ⊥ (length (now (area .entry)) < enoughBytes) r (now (out .entry)) (now (out .exit)) (leftInto (now (out .entry)) chained (now (src .entry)) (now (t .entry)) prepared) ⌝ }
+    ensures { λ r. ⌜ Tries ⊥ (length (now (area .entry)) < enoughArea) r (now (out .entry)) (now (out .exit)) (leftInto (now (out .entry)) chained (now (src .entry)) (now (t .entry)) prepared) ⌝ }
 {
     let marks = prepared.marks;
     let classes = prepared.classes;
@@ -123,7 +120,7 @@ fn write_packed(
     out: &mut [u8],
 ) -> Tried
     requires { ⌜ Writes chained (now src) (now t) prepared (now area) × Dead (ruleLeft chained (mapsIn (now t) (prepared .maps)) (now src)) (now dead) × (prepared .packing ≡ 1) ⌝ }
-    ensures { λ r. ⌜ Tries ⊥ (length (now (area .entry)) < enoughBytes) r (now (out .entry)) (now (out .exit)) (leftInto (now (out .entry)) chained (now (src .entry)) (now (t .entry)) prepared) ⌝ }
+    ensures { λ r. ⌜ Tries ⊥ (length (now (area .entry)) < enoughArea) r (now (out .entry)) (now (out .exit)) (leftInto (now (out .entry)) chained (now (src .entry)) (now (t .entry)) prepared) ⌝ }
 {
     if rounds != 0 {
         return write_packed(chained, src, t, prepared, dead, rounds - 1, area, out);
@@ -144,7 +141,7 @@ fn write_context(
     out: &mut [u8],
 ) -> Tried
     requires { ⌜ Writes chained (now src) (now t) prepared (now area) × Dead (ruleLeft chained (mapsIn (now t) (prepared .maps)) (now src)) (now dead) ⌝ }
-    ensures { λ r. ⌜ Tries ⊥ (length (now (area .entry)) < enoughBytes) r (now (out .entry)) (now (out .exit)) (leftInto (now (out .entry)) chained (now (src .entry)) (now (t .entry)) prepared) ⌝ }
+    ensures { λ r. ⌜ Tries ⊥ (length (now (area .entry)) < enoughArea) r (now (out .entry)) (now (out .exit)) (leftInto (now (out .entry)) chained (now (src .entry)) (now (t .entry)) prepared) ⌝ }
 {
     if prepared.packing == 1 {
         return write_packed(chained, src, t, prepared, dead, rounds, area, out);
@@ -165,7 +162,7 @@ fn write_crowded(
     out: &mut [u8],
 ) -> Tried
     requires { ⌜ Writes chained (now src) (now t) prepared (now area) ⌝ }
-    ensures { λ r. ⌜ Tries ⊥ (length (now (area .entry)) < enoughBytes) r (now (out .entry)) (now (out .exit)) (leftInto (now (out .entry)) chained (now (src .entry)) (now (t .entry)) prepared) ⌝ }
+    ensures { λ r. ⌜ Tries ⊥ (length (now (area .entry)) < enoughArea) r (now (out .entry)) (now (out .exit)) (leftInto (now (out .entry)) chained (now (src .entry)) (now (t .entry)) prepared) ⌝ }
 {
     if rounds != 0 {
         return write_crowded(chained, src, t, prepared, rounds - 1, area, out);
@@ -185,7 +182,7 @@ pub fn write_left(
     out: &mut [u8],
 ) -> Tried
     requires { ⌜ Writes chained (now src) (now t) prepared (now area) ⌝ }
-    ensures { λ r. ⌜ Tries ⊥ (length (now (area .entry)) < enoughBytes) r (now (out .entry)) (now (out .exit)) (leftInto (now (out .entry)) chained (now (src .entry)) (now (t .entry)) prepared) ⌝ }
+    ensures { λ r. ⌜ Tries ⊥ (length (now (area .entry)) < enoughArea) r (now (out .entry)) (now (out .exit)) (leftInto (now (out .entry)) chained (now (src .entry)) (now (t .entry)) prepared) ⌝ }
 {
     let slots = slots_at(chained);
     if crowded(src, slots, word_at(src, slots - 2)) {

@@ -1,32 +1,29 @@
 -- The way through the marks of the classes that covered glyphs hold.
-use Prim.Native.Nat.{ℕ, _+_, _-_, _*_, _/_, _%_, _≤_, _<_}
+use Prim.Native.Nat.{ℕ, _+_, _-_, _/_, _%_, _≤_, _<_}
 use mathlib.Core.Path.{_≡_, refl, sym, ap, subst, _∙_}
 use mathlib.Core.Bool.{Bool, true, false, cond, _||_}
 use mathlib.Core.Option.{Option, none, some}
 use mathlib.Core.List.{List, [], _∷_, map}
+use mathlib.Core.Logic.{inl}
 use native.Mathlib.Decide.{decLt}
 use native.Mathlib.Omega.{arith}
-use lib.ListN.{length, getD, set}
+use lib.ListN.{length, getD}
 use lib.Dec.{ltb, eqb}
 use borrow.Author.Tests.{lt-ltb, le-ltb, eq-eqb, ne-eqb, eqb-true, eqb-false}
 use Rattle.meaning.specs.Words.{keys, values, find, isSome, push, mapSome, member}
 use Rattle.meaning.specs.Parts.{classOf}
-use Rattle.meaning.specs.Cut.{insertUp, heldBy, newCoverage, retained}
+use Rattle.meaning.specs.Cut.{heldBy, newCoverage, retained}
 use Rattle.laws.specs.Runs.{Up}
 use Rattle.laws.specs.CutGood.{GoodMap, rises, mapSome-up₀, itself, map-same}
-use Rattle.laws.specs.CutCells.{held-up}
-use Rattle.fold.specs.Cells.{Inside, Odd, Holds, Kept, kept-all, kept-more, kept-set}
-use Rattle.fold.specs.Laid.{power-even}
-use Rattle.fold.specs.declared.Map.{Map}
+use Rattle.bits.specs.Bits.{marked, Put, Cleared}
+use Rattle.fold.specs.Cells.{Kept, kept-all, kept-more}
 use Rattle.area.specs.Part.{news, notes, part-all, part-left, part-none}
 use Rattle.area.specs.Stored.{part-same}
 use Rattle.class_lists.specs.From.{fromOld}
 use Rattle.class_lists.specs.Listed.{classed}
-use Rattle.class_maps.specs.Once.{same-members, insert-member}
-use Rattle.class_maps.specs.Present.{present, Direct, present-up, direct-set, present-set}
+use Rattle.class_maps.specs.Once.{insert-member}
 use Rattle.class_maps.specs.Mapped.{lists-kept}
-use Rattle.class_maps.specs.Covered.{firstClass, Passes, Before, ToCover, Coverable, Met, Covered}
-use Rattle.class_maps.proofs.Marking.{cleared-direct, cleared-free}
+use Rattle.class_maps.specs.Covered.{firstClass, Passes, Coverable, Met, Covered}
 
 -- Listed cells from the front.
 module _ (t : List ℕ) (at n : ℕ) where
@@ -99,18 +96,6 @@ module _ (t : List ℕ) (list n k new : ℕ) where
   unfolding firstClass
   class-own h o = rw (notes-left t list n k h, eq-eqb (getD t (list + k) 0 / 65536) new o)
 
--- a class that is listed, or 0
-first-low : (b v : ℕ) (t : List ℕ) (list n k : ℕ) → ((j : ℕ) → j < n → getD t (list + j) 0 % 65536 ≤ b) → firstClass v (notesFrom t list n k) ≤ b
-first-low b v t list n k h = step (decLt k n)
-  where
-    step : Dec (k < n) → firstClass v (notesFrom t list n k) ≤ b
-    step (no d) = omega (arith, class-none t list n k v (omega arith))
-    step (yes d) = pick (eqb (getD t (list + k) 0 / 65536) v) refl
-      where
-        pick : (c : Bool) → eqb (getD t (list + k) 0 / 65536) v ≡ c → firstClass v (notesFrom t list n k) ≤ b
-        pick true e = omega (arith, class-own t list n k v d (eqb-true (getD t (list + k) 0 / 65536) v e), h k d)
-        pick false e = omega (arith, class-other t list n k v d (eqb-false (getD t (list + k) 0 / 65536) v e))
-
 -- Classes of new numbers in a list that ascends.
 class-miss : (a b v : ℕ) (es : List (ℕ × ℕ)) → (a ≡ v → ⊥) → classOf ((a, b) ∷ es) v ≡ classOf es v
 unfolding classOf find
@@ -156,10 +141,6 @@ held-none : (cs : List (ℕ × ℕ)) (x : ℕ) → member x (heldBy cs []) ≡ f
 unfolding heldBy member
 held-none cs x = refl
 
-no-member : (x : ℕ) → member x [] ≡ false
-unfolding member
-no-member x = refl
-
 or-none : (a : Bool) → a || false ≡ a
 or-none true = refl
 or-none false = refl
@@ -172,60 +153,64 @@ or-move false b c = refl
 first-up : (low v : ℕ) (vs l : List ℕ) → Up low l → l ≡ v ∷ vs → Up (v + 1) vs
 first-up low v vs l u e = subst (Up low) e u .1
 
+-- One bit more, where there is a cell for it.
+put-one : {at c : ℕ} {t u : List ℕ} → Put at c t u → (x : ℕ) → at + x / 32 < length t → marked u at x ≡ eqb c x || marked t at x
+put-one {at} {c} {t} {u} p x h = step (eqb c x) refl
+  where
+    step : (b : Bool) → eqb c x ≡ b → marked u at x ≡ b || marked t at x
+    step true e =
+        let f : c ≡ x = eqb-true c x e in
+        ap (marked u at) (sym f) ∙ p .own (rw f h)
+    step false e = p .others x (λ q. eqb-false c x e (sym q))
+
+put-kept : {at c : ℕ} {t u : List ℕ} → Put at c t u → Kept at t u
+put-kept p = record { size = p .size; same = λ i h. p .cells i (λ e. omega arith) }
+
 -- What the loop of `mark_met` keeps: the marked classes, and those of the notes from the j-th on, are all; the listed cells up to k are below these notes.
-pub record Covering (t₀ t : List ℕ) (m : Map) (noted n list len k j : ℕ) : Type 0 where
-  pub before : Before t₀ m noted n list len
+pub record Covering (t₀ t : List ℕ) (noted n list len marks k j : ℕ) : Type 0 where
+  pub able : Coverable t₀ noted n list len marks
   pub within : j ≤ n
   pub near : k ≤ len
-  pub direct : Direct t m
-  pub kept : Kept (m .at) t₀ t
+  pub kept : Kept marks t₀ t
   pub rises : Up 0 (news t₀ noted n) → (low : ℕ) × ((Up low (newsFrom t₀ noted n j)) × ((v : ℕ) → low ≤ v → fromOld v (notesFrom t₀ list len k) ≡ fromOld v (notes t₀ list len)))
-  pub left : Up 0 (news t₀ noted n) → Up 0 (keys (notes t₀ list len)) → (x : ℕ)
-      → member x (present t m) || member x (heldBy (notes t₀ list len) (newsFrom t₀ noted n j)) ≡ member x (heldBy (notes t₀ list len) (news t₀ noted n))
+  pub left : Up 0 (news t₀ noted n) → Up 0 (keys (notes t₀ list len)) → (x : ℕ) → marks + x / 32 < length t₀
+      → marked t marks x || member x (heldBy (notes t₀ list len) (newsFrom t₀ noted n j)) ≡ marked t₀ marks x || member x (heldBy (notes t₀ list len) (news t₀ noted n))
 
-module _ {t₀ : List ℕ} {m : Map} {noted n list len : ℕ} where
-  pub covering-all : ToCover t₀ m noted n list len → Covering t₀ t₀ m noted n list len 0 0
+module _ {t₀ : List ℕ} {noted n list len marks : ℕ} where
+  pub covering-all : Coverable t₀ noted n list len marks → Covering t₀ t₀ noted n list len marks 0 0
   covering-all k = record {
-    before = k .before;
+    able = k;
     within = omega arith;
     near = omega arith;
-    direct = k .direct;
-    kept = kept-all (m .at) t₀;
+    kept = kept-all marks t₀;
     rises = λ u. (0, (rw (part-all t₀ noted n) u, λ v h. rw (part-all t₀ list len)));
-    left = λ u w x. rw (k .free, no-member x, part-all t₀ noted n);
+    left = λ u w x i. rw (part-all t₀ noted n);
   }
 
-  module _ {t : List ℕ} {k j : ℕ} (w : Covering t₀ t m noted n list len k j) where
+  module _ {t : List ℕ} {k j : ℕ} (w : Covering t₀ t noted n list len marks k j) where
     pub covering-list : list + len ≤ length t
-    covering-list = omega (arith, w .before .classes, w .direct .inside .within)
+    covering-list = omega (arith, w .able .classes, w .able .inside, w .kept .size)
 
-    pub covering-end : n ≤ j → Met t₀ t m noted n list len
-    covering-end h = record {
-      direct = w .direct;
-      kept = w .kept;
-      classes = λ u v. same-members 0 0 (present t m) (heldBy (notes t₀ list len) (news t₀ noted n)) (present-up t (m .at) 0 (m .mask + 1)) (held-up (notes t₀ list len) (news t₀ noted n)) (λ x. sym (last x) ∙ w .left u v x);
-    }
+    pub covering-end : n ≤ j → Met t₀ t noted n list len marks
+    covering-end h = record { kept = w .kept; classes = λ u v x i. sym (last x) ∙ w .left u v x i }
       where
-        last : (x : ℕ) → member x (present t m) || member x (heldBy (notes t₀ list len) (newsFrom t₀ noted n j)) ≡ member x (present t m)
-        last x = rw (news-none t₀ noted n j h, held-none (notes t₀ list len) x) (or-none (member x (present t m)))
+        last : (x : ℕ) → marked t marks x || member x (heldBy (notes t₀ list len) (newsFrom t₀ noted n j)) ≡ marked t marks x
+        last x = rw (news-none t₀ noted n j h, held-none (notes t₀ list len) x) (or-none (marked t marks x))
 
     module _ (h : j < n) where
       pub covering-inside : noted + j < length t
-      covering-inside = omega (arith, w .before .notes, w .direct .inside .within)
+      covering-inside = omega (arith, w .able .notes, w .able .inside, w .kept .size)
 
       same : getD t (noted + j) 0 ≡ getD t₀ (noted + j) 0
-      same = w .kept .same (noted + j) (omega (arith, w .before .notes))
+      same = w .kept .same (noted + j) (omega (arith, w .able .notes))
 
       alike : (i : ℕ) → i ≤ len → notesFrom t list len i ≡ notesFrom t₀ list len i
-      alike i l = ap (map (λ c. (c / 65536, c % 65536))) (part-same t t₀ (list + i) (len - i) (λ q a b. w .kept .same q (omega (arith, w .before .classes))))
+      alike i l = ap (map (λ c. (c / 65536, c % 65536))) (part-same t t₀ (list + i) (len - i) (λ q a b. w .kept .same q (omega (arith, w .able .classes))))
 
       abbrev v : ℕ
       v = getD t (noted + j) 0 % 65536
 
       module _ {r : ℕ} (p : Passes t list len k v r) {class : ℕ} (c : class ≡ firstClass v (notesFrom t list len r)) where
-        pub covering-low : class ≤ m .mask
-        covering-low = omega (arith, c, first-low (m .mask) v t list len r (λ i l. rw (w .kept .same (list + i) (omega (arith, w .before .classes))) (w .before .low i l)))
-
         -- the cells that are left are those that are not below the note
         rest : notesFrom t₀ list len r ≡ fromOld v (notesFrom t₀ list len k)
         rest = sym (alike r (p .within)) ∙ p .rest ∙ ap (fromOld v) (alike k (w .near))
@@ -241,36 +226,28 @@ module _ {t₀ : List ℕ} {m : Map} {noted n list len : ℕ} where
             let q = w .rises u in
             rest ∙ q .1 .1 v (low-first (q .1 .0))
 
-        pub covering-next : Covering t₀ (set t (m .at + class) (class * 65536)) m noted n list len r (j + 1)
-        covering-next = record {
-          before = w .before;
+        pub covering-next : {after : List ℕ} → Put marks class t after → Covering t₀ after noted n list len marks r (j + 1)
+        covering-next {after} put = record {
+          able = w .able;
           within = omega arith;
           near = p .within;
-          direct = rw plain at (direct-set (w .direct) class 0 covering-low (omega arith));
-          kept = kept-more (w .kept) (kept-set (m .at) t (m .at + class) (class * 65536) (omega arith));
+          kept = kept-more (w .kept) (put-kept put);
           rises = λ u. (v + 1, (first-up (w .rises u .0) v (newsFrom t₀ noted n (j + 1)) (newsFrom t₀ noted n j) (w .rises u .1 .0) note, λ y a. ap (fromOld y) (all-rest u) ∙ from-later v y (notes t₀ list len) (omega arith)));
           left = one;
         }
           where
-            plain : class * 65536 + 0 ≡ class * 65536
-            plain = omega arith
-
-            marks : present (set t (m .at + class) (class * 65536)) m ≡ insertUp class (present t m)
-            marks = rw plain at (present-set (w .direct) class 0 covering-low (omega arith))
-
-            one : Up 0 (news t₀ noted n) → Up 0 (keys (notes t₀ list len)) → (x : ℕ)
-                → member x (present (set t (m .at + class) (class * 65536)) m) || member x (heldBy (notes t₀ list len) (newsFrom t₀ noted n (j + 1))) ≡ member x (heldBy (notes t₀ list len) (news t₀ noted n))
-            one u z x =
+            one : Up 0 (news t₀ noted n) → Up 0 (keys (notes t₀ list len)) → (x : ℕ) → marks + x / 32 < length t₀
+                → marked after marks x || member x (heldBy (notes t₀ list len) (newsFrom t₀ noted n (j + 1))) ≡ marked t₀ marks x || member x (heldBy (notes t₀ list len) (news t₀ noted n))
+            one u z x i =
                 let es = notes t₀ list len in
                 let vs = newsFrom t₀ noted n (j + 1) in
                 let is : class ≡ classOf es v = c ∙ ap (firstClass v) (alike r (p .within) ∙ all-rest u) ∙ class-first 0 v es z in
-                ap (λ (l : List ℕ). member x l || member x (heldBy es vs)) marks
-                ∙ ap (λ (b : Bool). b || member x (heldBy es vs)) (insert-member x class (present t m))
-                ∙ or-move (eqb class x) (member x (present t m)) (member x (heldBy es vs))
-                ∙ ap (λ (b : ℕ). member x (present t m) || (eqb b x || member x (heldBy es vs))) is
-                ∙ ap (λ (b : Bool). member x (present t m) || b) (sym (held-one es v x vs))
-                ∙ ap (λ (l : List ℕ). member x (present t m) || member x (heldBy es l)) (sym note)
-                ∙ w .left u z x
+                ap (λ (b : Bool). b || member x (heldBy es vs)) (put-one put x (omega (arith, w .kept .size)))
+                ∙ or-move (eqb class x) (marked t marks x) (member x (heldBy es vs))
+                ∙ ap (λ (b : ℕ). marked t marks x || (eqb b x || member x (heldBy es vs))) is
+                ∙ ap (λ (b : Bool). marked t marks x || b) (sym (held-one es v x vs))
+                ∙ ap (λ (l : List ℕ). marked t marks x || member x (heldBy es l)) (sym note)
+                ∙ w .left u z x i
 
 -- The classes of retained glyphs, by their new numbers.
 classed-up : (cs : List (ℕ × ℕ)) (low high : ℕ) (g : List (ℕ × ℕ)) → low ≤ high → Up high (values g) → Up low (keys (classed cs g))
@@ -318,35 +295,23 @@ new-up : (g : List (ℕ × ℕ)) → GoodMap g → (cov : List ℕ) → Up 0 cov
 unfolding newCoverage
 new-up g good cov u = subst (Up 0) (map-same (mapSome (find g) cov)) (mapSome-up₀ (λ (x : ℕ). x) (λ (x : ℕ). x) (find g) (find g) (rises g good) (λ a. itself (find g a)) cov (subst (Up 0) (sym (map-same cov)) u))
 
--- The cells are cleared, and what stands before them stays.
-module _ {t : List ℕ} {m : Map} {noted n list len : ℕ} (k : Coverable t m noted n list len) where
-  pub covering-clear : Inside t m × Odd m
-  covering-clear = (k .inside, record { odd = omega (arith, power-even (k .power) .0) })
+-- The cells of the marks are cleared, and what stands before them stays.
+module _ {t : List ℕ} {noted n list len marks cells : ℕ} (k : Coverable t noted n list len marks) (room : marks + cells ≤ length t) {u : List ℕ} (c : Cleared marks cells t u) where
+  pub covering-ready : Coverable u noted n list len marks
+  covering-ready = record { notes = k .notes; classes = k .classes; inside = omega (arith, k .inside, c .size); near = k .near }
 
-  module _ {u : List ℕ} (c : Holds u m [] × Kept (m .at) t u) where
-    pub covering-ready : ToCover u m noted n list len
-    covering-ready =
-        let d = cleared-direct (c .0) (k .power) (k .few) in
-        record {
-          direct = d;
-          free = cleared-free (c .0) d;
-          before = record {
-            notes = k .before .notes;
-            classes = k .before .classes;
-            low = λ j h. rw (c .1 .same (list + j) (omega (arith, k .before .classes))) (k .before .low j h);
-          };
-        }
+  stands : Kept marks t u
+  stands = record { size = c .size; same = λ i h. c .cells i (inl h) }
 
-    pub covering-done : {v : List ℕ} → Met u v m noted n list len → Covered t v m noted n list len
-    covering-done {v} w = record {
-      direct = w .direct;
-      kept = kept-more (c .1) (w .kept);
-      classes = λ cs g cov good l up e.
-          let es : notes u list len ≡ classed cs g = lists-kept l (c .1) (k .before .classes) .each in
-          let vs : news u noted n ≡ newCoverage g cov = stay ∙ e in
-          w .classes (rw vs (new-up g good cov up)) (rw es (classed-up cs 0 0 g (omega arith) (good .new)))
-          ∙ rw (es, vs) (held-retained cs g good cov);
-    }
-      where
-        stay : news u noted n ≡ news t noted n
-        stay = ap (map (λ c. c % 65536)) (part-same u t noted n (λ i a b. c .1 .same i (omega (arith, k .before .notes))))
+  pub covering-done : {v : List ℕ} → Met u v noted n list len marks → Covered t v noted n list len marks cells
+  covering-done {v} w = record {
+    kept = kept-more stands (w .kept);
+    classes = λ cs g cov good l up e x h.
+        let es : notes u list len ≡ classed cs g = lists-kept l stands (k .classes) .each in
+        let vs : news u noted n ≡ newCoverage g cov = stay ∙ e in
+        w .classes (rw vs (new-up g good cov up)) (rw es (classed-up cs 0 0 g (omega arith) (good .new))) x (omega (arith, c .size, room))
+        ∙ rw (c .none x h, es, vs) (ap (member x) (held-retained cs g good cov));
+  }
+    where
+      stay : news u noted n ≡ news t noted n
+      stay = ap (map (λ c. c % 65536)) (part-same u t noted n (λ i a b. stands .same i (omega (arith, k .notes))))

@@ -1,13 +1,13 @@
 -- What the functions of class maps ask and answer.
 use Prim.Native.Nat.{ℕ, _+_, _-_, _/_, _%_, _≤_, _<_}
-use mathlib.Core.Path.{_≡_, refl, sym, ap, _∙_}
+use mathlib.Core.Path.{_≡_, refl, ap, _∙_}
 use mathlib.Core.Bool.{Bool, true, false, cond}
 use mathlib.Core.Option.{some, Option·getD}
 use mathlib.Core.List.{List, [], _∷_, map}
 use native.Mathlib.Omega.{arith}
 use lib.ListN.{length, getD}
 use lib.Dec.{eqb}
-use Rattle.meaning.specs.Words.{ascends, keys, values, find, member}
+use Rattle.meaning.specs.Words.{ascends, keys, values, find}
 use Rattle.meaning.specs.Cut.{insertUp, heldBy, numbered, classMap, classMap?, classesUnder, newClasses, secondMap}
 use Rattle.laws.specs.Runs.{Up}
 use Rattle.laws.specs.CutCells.{insert-up, held-up}
@@ -20,7 +20,7 @@ use Rattle.class_lists.specs.Tables.{tableAt, classesAt}
 use Rattle.class_lists.specs.Elsewhere.{Elsewhere}
 use Rattle.class_lists.specs.Listed.{classed, holdsZero}
 use Rattle.class_maps.specs.Once.{eachOnce}
-use Rattle.class_maps.specs.Present.{present, Direct, named, present-in, direct-kept, numbered-low}
+use Rattle.class_maps.specs.Present.{present, Direct, direct-kept, numbered-low}
 use Rattle.class_maps.specs.declared.ClassMap.{ClassMap}
 use Rattle.class_maps.specs.declared.HeldMap.{HeldMap}
 
@@ -125,10 +125,6 @@ zero-second g cs = zero-rank (insertUp 0 (heldBy cs (keys g))) (insert-up 0 0 (h
 pub holds-null : (g : List (ℕ × ℕ)) (src : List ℕ) (at : ℕ) {t : List ℕ} {m : Map} → Holds t m (classMap g (classesAt src at)) → Holds t m (classMap? g (tableAt src at))
 unfolding classMap?
 holds-null g src at h = h
-
--- one reading tells whether a class is marked
-pub marked-asked : (t : List ℕ) (m : Map) (held : List ℕ) (c : ℕ) → present t m ≡ held → c ≤ m .mask → eqb (named t m c) c ≡ member c held
-marked-asked t m held c e h = sym (present-in t (m .at) 0 (m .mask + 1) c (omega arith) (omega arith)) ∙ ap (member c) e
 
 -- the list stands where its cells do
 pub lists-kept : {cs g : List (ℕ × ℕ)} {t u : List ℕ} {list n at : ℕ} → Lists cs g t list n → Kept at t u → list + n ≤ at → Lists cs g u list n

@@ -1,4 +1,6 @@
 // Class maps: which classes survive and their new numbers, laid into cells with one for each class; the entries of the new class table; and the classes that covered glyphs hold.
+use bits::clear_bits;
+use bits::put_bit;
 use class_lists::list_classes;
 use fold::Map;
 use fold::clear;
@@ -16,7 +18,7 @@ ghost use Rattle.glyph_runs.specs.Runs.{GlyphMap};
 ghost use Rattle.class_lists.specs.Tables.{classesAt, NullOrSound};
 ghost use Rattle.class_maps.specs.Present.{Direct};
 ghost use Rattle.class_maps.specs.Mapped.{ToMark, Marked, Ranked, Held, Mapped, Pinned, Entries};
-ghost use Rattle.class_maps.specs.Covered.{firstClass, Passes, ToCover, Coverable, Met, Covered};
+ghost use Rattle.class_maps.specs.Covered.{firstClass, Passes, Coverable, Met, Covered};
 
 // The cells of a class map, and how many classes survive.
 pub struct ClassMap {
@@ -217,10 +219,10 @@ fn class_at(t: &[u32], list: usize, n: usize, k: usize, new: usize) -> usize
     cell % 65536
 }
 
-// An entry for the class of each retained glyph whose new number is noted in the `n` cells from `noted` on: notes and the `len` listed cells from `list` on ascend, so that one walk over both finds them.
-fn mark_met(t: &mut [u32], noted: usize, n: usize, list: usize, len: usize, m: Map)
-    requires { ⌜ ToCover (now t) m noted n list len ⌝ }
-    ensures { λ _. ⌜ Met (now (t .entry)) (now (t .exit)) m noted n list len ⌝ }
+// A mark, in the cells from `marks` on, for the class of each retained glyph whose new number is noted in the `n` cells from `noted` on: notes and the `len` listed cells from `list` on ascend, so that one walk over both finds them.
+fn mark_met(t: &mut [u32], noted: usize, n: usize, list: usize, len: usize, marks: usize)
+    requires { ⌜ Coverable (now t) noted n list len marks ⌝ }
+    ensures { λ _. ⌜ Met (now (t .entry)) (now (t .exit)) noted n list len marks ⌝ }
 {
     let mut k = 0;
     let mut j = 0;
@@ -228,17 +230,25 @@ fn mark_met(t: &mut [u32], noted: usize, n: usize, list: usize, len: usize, m: M
         let new = t[noted + j] as usize % 65536;
         k = pass_below(t, list, len, k, new);
         let class = class_at(t, list, len, k, new);
-        t[m.at + class] = (class * 65536) as u32;
+        put_bit(t, marks, class);
         j += 1;
     }
 }
 
-// Marks, in the cells of `m`, of the classes that a coverage's retained glyphs hold, and of no others: one reading tells whether one of them holds a class.
+// Marks, one bit each from the cell `marks` on, of the classes that a coverage's retained glyphs hold; the first `cells` cells are cleared before, so that no other class that has a bit there is marked.
 // The new numbers of these glyphs are noted in the `n` cells from `noted` on; the classes of all retained glyphs, if not 0, are listed in the `len` cells from `list` on.
-pub fn mark_covered(t: &mut [u32], noted: usize, n: usize, list: usize, len: usize, m: Map)
-    requires { ⌜ Coverable (now t) m noted n list len ⌝ }
-    ensures { λ _. ⌜ Covered (now (t .entry)) (now (t .exit)) m noted n list len ⌝ }
+pub fn mark_covered(
+    t: &mut [u32],
+    noted: usize,
+    n: usize,
+    list: usize,
+    len: usize,
+    marks: usize,
+    cells: usize,
+)
+    requires { ⌜ Coverable (now t) noted n list len marks × (marks + cells ≤ length (now t)) ⌝ }
+    ensures { λ _. ⌜ Covered (now (t .entry)) (now (t .exit)) noted n list len marks cells ⌝ }
 {
-    clear(t, m);
-    mark_met(t, noted, n, list, len, m);
+    clear_bits(t, marks, cells);
+    mark_met(t, noted, n, list, len, marks);
 }

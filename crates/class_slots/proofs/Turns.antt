@@ -6,21 +6,22 @@ use mathlib.Core.Option.{Option, none}
 use mathlib.Core.List.{List, _∷_, map}
 use native.Mathlib.Omega.{arith}
 use lib.ListN.{length, getD}
-use lib.Dec.{eqb, leb, ltb}
-use borrow.Author.Tests.{leb-false}
-use Rattle.meaning.specs.Words.{word}
+use lib.Dec.{leb, ltb}
+use borrow.Author.Tests.{eq-eqb, leb-false}
+use Rattle.meaning.specs.Words.{word, member}
 use Rattle.meaning.specs.Fault.{ruleFault, setFault}
 use Rattle.meaning.specs.Cut.{cutSet}
 use Rattle.meaning.specs.Layout.{block, ruleWords, setWords}
+use Rattle.room.specs.Laid.{enoughArea}
 use Rattle.repeats.specs.Shared.{blocksIn}
 use Rattle.repeats.specs.Book.{packs, Begun}
-use Rattle.fold.specs.declared.Map.{Map}
+use Rattle.bits.specs.Bits.{marked}
 use Rattle.rule_sets.specs.Left.{mapsIn}
 use Rattle.rule_sets.specs.declared.Maps.{Maps}
-use Rattle.class_maps.specs.Present.{present, named}
+use Rattle.class_maps.specs.Present.{present, present-in}
 use Rattle.class_maps.specs.SlotWalk.{slotsFrom, walk-one, walk-none, walk-end}
 use Rattle.class_slots.specs.Sets.{slotsAt, slots-near, countAt, setPlace, setLeft, SetSound, Asked, place-slot}
-use Rattle.class_slots.specs.Slots.{bookCells, enoughArea, setsFull, setsIn, slotBlocks, Ready, WroteSlots, blocks-many, present-few}
+use Rattle.class_slots.specs.Slots.{bookCells, setsFull, markedOf, setsIn, slotBlocks, Ready, WroteSlots, blocks-many, present-few, marked-member}
 use Rattle.class_slots.specs.Placing.{SetAsked}
 use Rattle.class_slots.specs.declared.Classes.{Classes}
 use Rattle.class_slots.specs.declared.Slots.{Slots}
@@ -29,17 +30,17 @@ use Rattle.class_slots.proofs.Gathering.{gathered-count}
 use Rattle.class_slots.proofs.Filling.{Filling, filling-all, filling-said, filling-few, filling-end}
 
 -- the blocks of the slots of the classes from c on
-abbrev pub blocksFrom : Bool → List ℕ → List ℕ → Maps → Map → ℕ → List (Option (List ℕ))
-blocksFrom chained s t maps marks c = map (block (setWords (ruleWords chained))) (slotsFrom (cutSet chained (mapsIn t maps)) (present t marks) (setsIn chained s t maps marks) t (maps .input .at) (maps .input .mask + 1) c)
+abbrev pub blocksFrom : Bool → List ℕ → List ℕ → Maps → ℕ → ℕ → List (Option (List ℕ))
+blocksFrom chained s t maps marks c = map (block (setWords (ruleWords chained))) (slotsFrom (cutSet chained (mapsIn t maps)) (markedOf t marks (present t (maps .input))) (setsIn chained s t maps marks) t (maps .input .at) (maps .input .mask + 1) c)
 
 -- what the loop keeps
-pub record Turning (packed chained : Bool) (s t : List ℕ) (maps : Maps) (marks : Map) (slots first : ℕ) (area₀ area : List ℕ) (h k p c : ℕ) (book : List ℕ) : Type 0 where
+pub record Turning (packed chained : Bool) (s t : List ℕ) (maps : Maps) (marks slots first : ℕ) (area₀ area : List ℕ) (h k p c : ℕ) (book : List ℕ) : Type 0 where
   pub within : c ≤ maps .input .mask + 1
   pub few : k ≤ 65536
   pub filling : Filling packed chained s t maps (slotBlocks chained s t maps marks) slots first (blocksFrom chained s t maps marks c) area₀ area h k p book
 
 module _ {chained : Bool} {s t : List ℕ} {maps : Maps} {classes : Classes} (a : Ready chained s t maps classes) {slots first : ℕ} (e : slots ≡ slotsAt chained) (f : first ≡ slots + 2 * classes .count) where
-  abbrev marks : Map
+  abbrev marks : ℕ
   marks = classes .marks
 
   abbrev all : List (Option (List ℕ))
@@ -53,18 +54,18 @@ module _ {chained : Bool} {s t : List ℕ} {maps : Maps} {classes : Classes} (a 
   few-classes = omega (arith, a .number, a .few, present-few t (maps .input .at) 0 (maps .input .mask + 1))
 
   -- what is asked to find the set of a class, and that the set is sound
-  pub asked : {c : ℕ} → c ≤ maps .input .mask → Asked s slots t marks c
+  pub asked : {c : ℕ} → c ≤ maps .input .mask → Asked s slots marks c
   asked h = record {
     header = rw e (a .header);
     count = omega (arith, e, slots-near chained);
     low = omega (arith, e, slots-near chained);
-    inside = a .marked;
-    cell = omega (arith, a .alike);
+    near = a .near;
+    small = omega (arith, a .few);
   }
 
   set-sound : (c : ℕ) {at : ℕ} → at ≡ setPlace s slots t marks c → SetSound chained s at
   unfolding setPlace
-  set-sound c {at} g = record { sound = λ z. step (leb (countAt s slots) c) refl (eqb (named t marks c) c) g z }
+  set-sound c {at} g = record { sound = λ z. step (leb (countAt s slots) c) refl (marked t marks c) g z }
     where
       step : (b : Bool) → leb (countAt s slots) c ≡ b → (d : Bool) → at ≡ cond b 0 (cond d (word s (slots + 2 * c)) 0) → (at ≡ 0 → ⊥) → setFault (ruleFault chained s) s at ≡ none
       step true l d g z = absurd (z g)
@@ -103,7 +104,7 @@ module _ {chained : Bool} {s t : List ℕ} {maps : Maps} {classes : Classes} (a 
         within = omega arith;
         few = i .few;
         filling = filling-said packed chained s t maps all slots first (i .filling)
-            (ap (map (block (setWords (ruleWords chained)))) (walk-none (cutSet chained (mapsIn t maps)) (present t marks) (setsIn chained s t maps marks) t (maps .input .at) (maps .input .mask + 1) c (omega arith) n));
+            (ap (map (block (setWords (ruleWords chained)))) (walk-none (cutSet chained (mapsIn t maps)) (markedOf t marks (present t (maps .input))) (setsIn chained s t maps marks) t (maps .input .at) (maps .input .mask + 1) c (omega arith) n));
       }
 
       module _ (l : c ≤ maps .input .mask) (n : getD t (maps .input .at + c) 0 / 65536 ≡ c) {at : ℕ} (g : (at ≡ setPlace s slots t marks c) × (at < 65536)) where
@@ -111,9 +112,10 @@ module _ {chained : Bool} {s t : List ℕ} {maps : Maps} {classes : Classes} (a 
         pub turning-here : Filling packed chained s t maps all slots first (setLeft chained (mapsIn t maps) s at ∷ blocksFrom chained s t maps marks (c + 1)) area₀ area h k p book
         turning-here =
             let w : at ≡ setPlace s (slotsAt chained) t marks c = rw e at (g .0) in
+            let has : member c (present t (maps .input)) ≡ true = present-in t (maps .input .at) 0 (maps .input .mask + 1) c (omega arith) (omega arith) ∙ eq-eqb _ _ n in
             filling-said packed chained s t maps all slots first (i .filling)
-            (ap (map (block (setWords (ruleWords chained)))) (walk-one (cutSet chained (mapsIn t maps)) (present t marks) (setsIn chained s t maps marks) t (maps .input .at) (maps .input .mask + 1) c (omega arith) n)
-            ∙ ap (λ (o : Option (List ℕ)). o ∷ blocksFrom chained s t maps marks (c + 1)) (sym (ap (setLeft chained (mapsIn t maps) s) w ∙ place-slot chained (mapsIn t maps) s (slotsAt chained) t marks c (omega (arith, a .alike)))))
+            (ap (map (block (setWords (ruleWords chained)))) (walk-one (cutSet chained (mapsIn t maps)) (markedOf t marks (present t (maps .input))) (setsIn chained s t maps marks) t (maps .input .at) (maps .input .mask + 1) c (omega arith) n)
+            ∙ ap (λ (o : Option (List ℕ)). o ∷ blocksFrom chained s t maps marks (c + 1)) (sym (ap (setLeft chained (mapsIn t maps) s) w ∙ place-slot chained (mapsIn t maps) s (slotsAt chained) t marks c (markedOf t marks (present t (maps .input))) (marked-member t marks c (present t (maps .input)) has))))
 
         -- what is asked to place its set
         pub turn-asked : SetAsked chained s t maps (record { at = at; slot = slots + 2 * k; first = first; pos = p }) area book
@@ -153,7 +155,7 @@ module _ {chained : Bool} {s t : List ℕ} {maps : Maps} {classes : Classes} (a 
       -- all are written
       pub wrote-all : maps .input .mask < c → WroteSlots packed chained s t maps marks area₀ area (record { count = h; end = p })
       wrote-all l =
-          let none-left = ap (map (block (setWords (ruleWords chained)))) (walk-end (cutSet chained (mapsIn t maps)) (present t marks) (setsIn chained s t maps marks) t (maps .input .at) (maps .input .mask + 1) c (omega arith)) in
+          let none-left = ap (map (block (setWords (ruleWords chained)))) (walk-end (cutSet chained (mapsIn t maps)) (markedOf t marks (present t (maps .input))) (setsIn chained s t maps marks) t (maps .input .at) (maps .input .mask + 1) c (omega arith)) in
           let w = filling-end packed chained s t maps all slots first (i .filling) none-left in
           let g : first ≡ slotsAt chained + 2 * length all = omega (arith, as-many, e, f) in
           record {
@@ -163,5 +165,5 @@ module _ {chained : Bool} {s t : List ℕ} {maps : Maps} {classes : Classes} (a 
           }
 
 -- the same layout, said otherwise
-pub wrote-said : {packed other chained : Bool} {s t : List ℕ} {maps : Maps} {marks : Map} {area₀ area : List ℕ} {r : Slots} → packed ≡ other → WroteSlots packed chained s t maps marks area₀ area r → WroteSlots other chained s t maps marks area₀ area r
+pub wrote-said : {packed other chained : Bool} {s t : List ℕ} {maps : Maps} {marks : ℕ} {area₀ area : List ℕ} {r : Slots} → packed ≡ other → WroteSlots packed chained s t maps marks area₀ area r → WroteSlots other chained s t maps marks area₀ area r
 wrote-said e w = rw e at w

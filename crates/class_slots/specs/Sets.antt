@@ -15,13 +15,10 @@ use Rattle.meaning.specs.Fault.{ruleFault, setFault}
 use Rattle.meaning.specs.Cut.{RuleMaps, cutSet}
 use Rattle.meaning.specs.Layout.{block, ruleWords, setWords}
 use Rattle.laws.specs.Members.{wordsLeft}
-use Rattle.fold.specs.Cells.{Inside}
-use Rattle.fold.specs.declared.Map.{Map}
+use Rattle.bits.specs.Bits.{marked}
 use Rattle.numbers.specs.Leaves.{Leaves, leaves-none, leaves-said}
 use Rattle.area.specs.Extends.{keeps-none}
 use Rattle.member_sets.specs.Sets as member
-use Rattle.class_maps.specs.Present.{present, named}
-use Rattle.class_maps.specs.Mapped.{marked-asked}
 use Rattle.class_maps.specs.SlotWalk.{slotOf}
 
 -- where the slots stand, in the source and in the small table
@@ -38,8 +35,8 @@ abbrev pub countAt : List ℕ → ℕ → ℕ
 countAt s slots = word s (slots - 2)
 
 -- the place of the set of a class that has one and that is marked; else 0
-unfoldable pub setPlace : List ℕ → ℕ → List ℕ → Map → ℕ → ℕ
-setPlace s slots t marks c = cond (leb (countAt s slots) c) 0 (cond (eqb (named t marks c) c) (word s (slots + 2 * c)) 0)
+unfoldable pub setPlace : List ℕ → ℕ → List ℕ → ℕ → ℕ → ℕ
+setPlace s slots t marks c = cond (leb (countAt s slots) c) 0 (cond (marked t marks c) (word s (slots + 2 * c)) 0)
 
 -- the words of what is left of the set at a place; 0 is none
 unfoldable pub setLeft : Bool → RuleMaps → List ℕ → ℕ → Option (List ℕ)
@@ -62,27 +59,27 @@ setMost o s = 2 * length (wordsIn o) + setSpare s
 pub record SetSound (chained : Bool) (s : List ℕ) (at : ℕ) : Type 0 where
   pub sound : (at ≡ 0 → ⊥) → setFault (ruleFault chained s) s at ≡ none
 
--- what is asked to find the set of a class: the offsets lie inside the source, and the class has a cell
-pub record Asked (s : List ℕ) (slots : ℕ) (t : List ℕ) (marks : Map) (c : ℕ) : Type 0 where
+-- what is asked to find the set of a class: the offsets lie inside the source, and the marks do not begin too far
+pub record Asked (s : List ℕ) (slots marks c : ℕ) : Type 0 where
   pub header : slots + 2 * countAt s slots ≤ length s
   pub count : 2 ≤ slots
   pub low : slots ≤ 12
-  pub inside : Inside t marks
-  pub cell : c ≤ marks .mask
+  pub near : marks < 0x1_0000_0000_0000
+  pub small : c < 65536
 
 -- the ways to the place
-module _ (s : List ℕ) (slots : ℕ) (t : List ℕ) (marks : Map) (c : ℕ) where
+module _ (s : List ℕ) (slots : ℕ) (t : List ℕ) (marks c : ℕ) where
   pub place-past : countAt s slots ≤ c → 0 ≡ setPlace s slots t marks c
   unfolding setPlace
   place-past h = rw (le-leb _ _ h) refl
 
-  pub place-unmarked : c < countAt s slots → (named t marks c ≡ c → ⊥) → 0 ≡ setPlace s slots t marks c
+  pub place-unmarked : c < countAt s slots → marked t marks c ≡ false → 0 ≡ setPlace s slots t marks c
   unfolding setPlace
-  place-unmarked h n = rw (lt-leb _ _ h, ne-eqb _ _ n) refl
+  place-unmarked h n = rw (lt-leb _ _ h, n) refl
 
-  pub place-there : {p : ℕ} → c < countAt s slots → named t marks c ≡ c → p ≡ word s (slots + 2 * c) → p ≡ setPlace s slots t marks c
+  pub place-there : {p : ℕ} → c < countAt s slots → marked t marks c ≡ true → p ≡ word s (slots + 2 * c) → p ≡ setPlace s slots t marks c
   unfolding setPlace
-  place-there h n e = rw (lt-leb _ _ h, eq-eqb _ _ n) e
+  place-there h n e = rw (lt-leb _ _ h, n) e
 
 words-block : (chained : Bool) (o : Option (List Rule)) → length (wordsLeft (setWords (ruleWords chained)) o) ≡ length (wordsIn (block (setWords (ruleWords chained)) o))
 unfolding wordsLeft wordsIn block
@@ -125,7 +122,7 @@ reaches-length read s slot zero = refl
 reaches-length read s slot (suc n) = ap suc (reaches-length read s (slot + 2) n)
 
 -- What is left at the place of a class is the slot of the definitions.
-module _ (chained : Bool) (m : RuleMaps) (s : List ℕ) (slots : ℕ) (t : List ℕ) (marks : Map) (c : ℕ) where
+module _ (chained : Bool) (m : RuleMaps) (s : List ℕ) (slots : ℕ) (t : List ℕ) (marks c : ℕ) where
   abbrev F : List Rule → List ℕ
   F = setWords (ruleWords chained)
 
@@ -151,15 +148,12 @@ module _ (chained : Bool) (m : RuleMaps) (s : List ℕ) (slots : ℕ) (t : List 
   unfolding block
   none-block = refl
 
-  pub place-slot : c ≤ marks .mask → setLeft chained m s (setPlace s slots t marks c) ≡ block F (slotOf (cutSet chained m) (present t marks) sets t 0 0 c)
+  pub place-slot : (covered : List ℕ) → member c covered ≡ marked t marks c → setLeft chained m s (setPlace s slots t marks c) ≡ block F (slotOf (cutSet chained m) covered sets t 0 0 c)
   unfolding setPlace bind
-  place-slot h = step (leb (countAt s slots) c) refl (eqb (named t marks c) c) refl
+  place-slot covered asked = step (leb (countAt s slots) c) refl (marked t marks c) refl
     where
-      asked : member c (present t marks) ≡ eqb (named t marks c) c
-      asked = sym (marked-asked t marks (present t marks) c refl h)
-
-      step : (b : Bool) → leb (countAt s slots) c ≡ b → (d : Bool) → eqb (named t marks c) c ≡ d
-          → setLeft chained m s (cond b 0 (cond d (word s (slots + 2 * c)) 0)) ≡ block F (slotOf (cutSet chained m) (present t marks) sets t 0 0 c)
+      step : (b : Bool) → leb (countAt s slots) c ≡ b → (d : Bool) → marked t marks c ≡ d
+          → setLeft chained m s (cond b 0 (cond d (word s (slots + 2 * c)) 0)) ≡ block F (slotOf (cutSet chained m) covered sets t 0 0 c)
       step true e true f = null-left ∙ sym (rw (asked, f, past (leb-true _ _ e)) none-block)
       step true e false f = null-left ∙ sym (rw (asked, f) none-block)
       step false e true f = reached (leb-false _ _ e) ∙ sym (rw (asked, f))

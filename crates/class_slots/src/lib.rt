@@ -1,7 +1,7 @@
 // Format 2 of contexts: the sets of the surviving classes, written one after the other into the area, behind a place for the header and for a slot each.
 use area::over;
 use area::put;
-use fold::Map;
+use bits::has_bit;
 use repeats::again;
 use repeats::begin;
 use repeats::settle;
@@ -31,9 +31,9 @@ pub struct Slots {
     pub end: usize,
 }
 
-// The surviving classes: the marks of those that covered glyphs hold, and how many there are.
+// The surviving classes: where the marks of those that covered glyphs hold begin, one bit each, and how many classes there are.
 pub struct Classes {
-    pub marks: Map,
+    pub marks: usize,
     pub count: usize,
 }
 
@@ -55,15 +55,15 @@ pub fn slots_at(chained: bool) -> usize
     8
 }
 
-// The place of the set of a class; 0 if it has none, or if no retained covered glyph holds the class, which the cells of `marks` tell.
-fn set_place(src: &[u8], slots: usize, t: &[u32], marks: Map, class: usize) -> usize
-    requires { ⌜ Asked (now src) slots (now t) marks class ⌝ }
+// The place of the set of a class; 0 if it has none, or if no retained covered glyph holds the class, which its bit in the cells from `marks` on tells.
+fn set_place(src: &[u8], slots: usize, t: &[u32], marks: usize, class: usize) -> usize
+    requires { ⌜ Asked (now src) slots marks class ⌝ }
     ensures { λ r. ⌜ (r ≡ setPlace (now (src .entry)) slots (now (t .entry)) marks class) × (r < 65536) ⌝ }
 {
     if word_inside(src, slots - 2) <= class {
         return 0;
     }
-    if t[marks.at + class] as usize / 65536 != class {
+    if !has_bit(t, marks, class) {
         return 0;
     }
     word_inside(src, slots + 2 * class)

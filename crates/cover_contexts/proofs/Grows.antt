@@ -16,10 +16,11 @@ use Rattle.laws.specs.Runs.{both}
 use Rattle.laws.specs.Stands.{flat-length}
 use Rattle.laws.specs.SoundGood.{reaches-length}
 use Rattle.laws.specs.Written.{Wrote, sets-flat, flat-one}
+use Rattle.room.specs.Laid.{enoughArea}
 use Rattle.area.specs.Extends.{Extends, extends-more, wrote-extends}
 use Rattle.area.specs.Stored.{extends-store}
 use Rattle.cover_rows.specs.Behind.{offsetsBehind, blocksBehind, behind-length}
-use Rattle.cover_rows.specs.Rows.{blockLeft, blocksLeft, rowLeft, enoughBytes, Lays}
+use Rattle.cover_rows.specs.Rows.{blockLeft, blocksLeft, rowLeft, Lays}
 use Rattle.cover_rows.specs.declared.Row.{Row}
 use Rattle.cover_rows.proofs.Lays.{some-none, some-same, and-true}
 
@@ -28,11 +29,11 @@ pub record Grows (before : List ℕ) (first : ℕ) (head parts : List ℕ) (fit 
   pub same : length after ≡ length before
   pub fits : r ≤ length before → Extends (sets before 0 (flat head)) first parts after r
   pub near : r ≤ length before → fit ≡ true
-  pub full : length before < r → fit ≡ true → length before < enoughBytes
+  pub full : length before < r → fit ≡ true → length before < enoughArea
 
 -- the same, where the header and what follows it are one row of words from the start on
 abbrev pub Ends : List ℕ → List ℕ → Bool → List ℕ → ℕ → Type 0
-Ends before ws fit after r = (r ≤ length before → Extends before 0 ws after r) × (r ≤ length before → fit ≡ true) × (length before < r → fit ≡ true → length before < enoughBytes)
+Ends before ws fit after r = (r ≤ length before → Extends before 0 ws after r) × (r ≤ length before → fit ≡ true) × (length before < r → fit ≡ true → length before < enoughArea)
 
 module _ {before : List ℕ} {first : ℕ} where
   -- no header yet
@@ -81,7 +82,7 @@ module _ {before : List ℕ} {first : ℕ} where
             let n : slot ≡ 0 + 2 * length head = omega arith in
             subst (λ (a : List ℕ). Extends a first (parts ++ blocksBehind packed pre bs) after r) (ap (λ (i : ℕ). sets (sets before 0 (flat head)) i (flat os)) n ∙ sets-flat before 0 head os) z
 
-        over : length before < r → (fit ≡ true) × (wordsFit os ≡ true) → Dec (length before < q) → length before < enoughBytes
+        over : length before < r → (fit ≡ true) × (wordsFit os ≡ true) → Dec (length before < q) → length before < enoughArea
         over g f (yes d) = k .full d (f .0)
         over g f (no d) = omega (arith, h .full (omega (arith, k .same)) (omega (arith, k .same)) (f .1), k .same)
 

@@ -11,13 +11,14 @@ use Rattle.meaning.specs.Cut.{cutRecords}
 use Rattle.meaning.specs.Layout.{wordsFit}
 use Rattle.meaning.specs.Subset.{limit}
 use Rattle.laws.specs.SoundGood.{Bytes}
+use Rattle.room.specs.Laid.{enoughArea}
 use Rattle.fold.specs.Cells.{Inside}
 use Rattle.fold.specs.declared.Map.{Map}
 use Rattle.area.specs.Extends.{Extends}
 use Rattle.numbers.specs.Entries.{entriesIn}
 use Rattle.repeats.specs.Book.{packs, inBook, Booked}
 use Rattle.cover_rows.specs.Behind.{offsetsBehind, blocksBehind}
-use Rattle.cover_rows.specs.Rows.{rowLeft, enoughBytes, Ready, Bounds}
+use Rattle.cover_rows.specs.Rows.{rowLeft, Ready, Bounds}
 use Rattle.cover_rows.specs.Parts.{recordsAt, IsContext}
 use Rattle.cover_rows.specs.declared.CoverParts.{CoverParts}
 use Rattle.cover_rows.specs.declared.Held.{Held}
@@ -61,7 +62,7 @@ pub record Settles (left : Option (List ℕ)) (fit : Bool) (before after : List 
   pub kept : {ws : List ℕ} → left ≡ some ws → 0 < r
   pub fits : {ws : List ℕ} → left ≡ some ws → r ≤ length before → Extends before 0 ws after r
   pub near : {ws : List ℕ} → left ≡ some ws → r ≤ length before → fit ≡ true
-  pub full : {ws : List ℕ} → left ≡ some ws → length before < r → fit ≡ true → length before < enoughBytes
+  pub full : {ws : List ℕ} → left ≡ some ws → length before < r → fit ≡ true → length before < enoughArea
 
 -- n is a bound for the glyphs that can be noted of any coverage of the context, and at most 65,536
 pub record MostNotes (form : ℕ) (glyphs s : List ℕ) (r : CoverParts) (n : ℕ) : Type 0 where

@@ -16,6 +16,7 @@ use Rattle.laws.specs.Runs.{both}
 use Rattle.laws.specs.Stands.{All, Word, all-append, flat-length}
 use Rattle.laws.specs.ReadsBack.{fit-words}
 use Rattle.laws.specs.Written.{sets-flat, flat-one}
+use Rattle.room.specs.Laid.{enoughArea}
 use Rattle.fold.specs.Cells.{Kept}
 use Rattle.fold.specs.declared.Map.{Map}
 use Rattle.area.specs.Extends.{Extends, extends-none, extends-more, extends-said}
@@ -23,7 +24,7 @@ use Rattle.area.specs.Stored.{extends-store}
 use Rattle.repeats.specs.Shared.{offsetsIn, blocksIn, placeIn}
 use Rattle.repeats.specs.Book.{packs, inBook, Booked}
 use Rattle.cover_rows.specs.Behind.{addedBy, offsetsBehind, blocksBehind, behind-length, offsets-after, offsets-split, split-fit, blocks-after, blocks-split}
-use Rattle.cover_rows.specs.Rows.{highestEnd, enoughBytes, Stood, Lays, LaysLeft}
+use Rattle.cover_rows.specs.Rows.{highestEnd, Stood, Lays, LaysLeft}
 use Rattle.cover_rows.specs.declared.Places.{Places}
 
 -- what is there is not gone, and is one
@@ -88,7 +89,7 @@ module _ {packed : Bool} {left : ℕ → Option (List ℕ)} {first : ℕ} {pre :
       lays-over bs h = record { fits = λ g. absurd (omega arith); small = λ g. absurd (omega arith); near = λ g. absurd (omega arith); low = λ g. absurd (omega arith); booked = λ g. absurd (omega arith); full = λ g k f. absurd (omega arith) }
 
       -- nor where not all offsets fit, or there are not enough bytes
-      pub lays-past : (bs : List (Option (List ℕ))) → (wordsFit (offsetsBehind packed first pre bs) ≡ true → length before < enoughBytes) → Lays packed left first pre before slot p bs after r book
+      pub lays-past : (bs : List (Option (List ℕ))) → (wordsFit (offsetsBehind packed first pre bs) ≡ true → length before < enoughArea) → Lays packed left first pre before slot p bs after r book
       lays-past bs h = record { fits = λ g. absurd (omega arith); small = λ g. absurd (omega arith); near = λ g. absurd (omega arith); low = λ g. absurd (omega arith); booked = λ g. absurd (omega arith); full = λ g k f. h f }
 
   module _ {before : List ℕ} {slot p r : ℕ} {bs : List (Option (List ℕ))} {after book₀ book : List ℕ} (st : p ≤ length before → Stood packed left first pre before p book₀) (e : length after ≡ length before) (l : slot + 2 * length bs ≤ first) (h : Lays packed left first pre before slot p bs after r book) where
@@ -142,7 +143,7 @@ module _ {packed : Bool} {left : ℕ → Option (List ℕ)} {first : ℕ} {pre :
       full = λ g d f. over g d (both (wordsFit ox) (wordsFit oy) (sym (split-fit packed first pre xs ys) ∙ f)) (decLt (length before) q);
     }
       where
-        over : length before < r → p ≤ length before → (wordsFit ox ≡ true) × (wordsFit oy ≡ true) → Dec (length before < q) → length before < enoughBytes
+        over : length before < r → p ≤ length before → (wordsFit ox ≡ true) × (wordsFit oy ≡ true) → Dec (length before < q) → length before < enoughArea
         over g d f (yes b) = h .full b d (f .0)
         over g d f (no b) = omega (arith, k .full (omega arith) (omega arith) (f .1))
 

@@ -15,6 +15,7 @@ use Rattle.meaning.specs.Cut.{unlessEmpty, newCoverage}
 use Rattle.meaning.specs.Layout.{coverageWords, wordsFit}
 use Rattle.laws.specs.Stands.{All, Word}
 use Rattle.laws.specs.SoundGood.{Bytes}
+use Rattle.room.specs.Laid.{enoughArea}
 use Rattle.glyph_runs.specs.Runs.{GlyphMap}
 use Rattle.fold.specs.Cells.{Holds, Kept}
 use Rattle.fold.specs.declared.Map.{Map}
@@ -52,12 +53,9 @@ slotLeft g s p = blocksLeft g (some (coverage s p) ∷ [])
 abbrev pub rowLeft : List (ℕ × ℕ) → List ℕ → Row → Option (List (Option (List ℕ)))
 rowLeft g s r = blocksLeft g (reaches (coverage s) s 0 (r .at) (r .len))
 
--- Coverages start below 65,536 where they are kept, and have at most 131,076 bytes: so the place after them is at most `highestEnd`, and one more is written if the area has `enoughBytes`.
+-- Coverages start below 65,536 where they are kept, and have at most 131,076 bytes: so the place after them is at most `highestEnd`, and one more is written if the area has `enoughArea`.
 abbrev pub highestEnd : ℕ
 highestEnd = 262144
-
-abbrev pub enoughBytes : ℕ
-enoughBytes = 655360
 
 -- The blocks `pre` stand from `first` on, up to p; their words and their offsets fit, and they are in the book, `left` being what is left of the source at a place.
 pub record Stood (packed : Bool) (left : ℕ → Option (List ℕ)) (first : ℕ) (pre : List (Option (List ℕ))) (area : List ℕ) (p : ℕ) (book : List ℕ) : Type 0 where
@@ -75,7 +73,7 @@ pub record Lays (packed : Bool) (left : ℕ → Option (List ℕ)) (first : ℕ)
   pub near : r ≤ length before → wordsFit (offsetsBehind packed first pre bs) ≡ true
   pub low : r ≤ length before → r ≤ highestEnd
   pub booked : r ≤ length before → Booked left (inBook packed (pre ++ bs)) book
-  pub full : length before < r → p ≤ length before → wordsFit (offsetsBehind packed first pre bs) ≡ true → length before < enoughBytes
+  pub full : length before < r → p ≤ length before → wordsFit (offsetsBehind packed first pre bs) ≡ true → length before < enoughArea
 
 -- whatever blocks stand, the blocks that are left were laid down behind them, or r is 0, and none are left; the cells up to the glyph map's last are as before
 pub record LaysLeft (source : ℕ → Option (List ℕ)) (left : Option (List (Option (List ℕ)))) (m : Map) (t₀ t before : List ℕ) (slot : ℕ) (at : Places) (after : List ℕ) (r : ℕ) (book₀ book : List ℕ) : Type 0 where

@@ -24,7 +24,7 @@ use Rattle.glyph_runs.specs.Runs.{map-good}
 use Rattle.fold.specs.Cells.{Holds}
 use Rattle.fold.specs.declared.Map.{Map}
 use Rattle.area.specs.Part.{part, take-part}
-use Rattle.room.specs.Laid.{outcomeOf, laidAs, laid-words, laid-unfit}
+use Rattle.room.specs.Laid.{enoughArea, outcomeOf, laidAs, laid-words, laid-unfit}
 use Rattle.room.specs.declared.Laid.{Laid}
 use Rattle.room.specs.declared.Laid.the-variants.{Nothing, TooBig}
 use Rattle.tried.specs.Tries.{Tries, tries-less}
@@ -33,7 +33,7 @@ use Rattle.tried.specs.declared.Tried.the-variants.{FewCells, Short, Became}
 use Rattle.numbers.specs.Entries.{entriesIn}
 use Rattle.numbers.specs.Alike.{holds-alike, records-alike}
 use Rattle.repeats.specs.Book.{packs, Begun}
-use Rattle.cover_rows.specs.Rows.{wordsLeft, blockLeft, blocksLeft, enoughBytes, MostRow}
+use Rattle.cover_rows.specs.Rows.{wordsLeft, blockLeft, blocksLeft, MostRow}
 use Rattle.cover_rows.specs.Parts.{coversAt, recordsAt, IsContext}
 use Rattle.cover_contexts.specs.Context.{coversWords, contextLeft, offsetsFit, contextFit, Settles, MostNotes, Asks, Begins, Writes}
 use Rattle.covers.specs.Cutting.{wordsInto, HandsOver, Cuts, CutsInto, isPacked}
@@ -120,7 +120,7 @@ module _ {before area : List ℕ} {end : ℕ} where
   settled-none (some ws) fit k z out = absurd (omega (arith, k .kept refl))
 
   -- an offset doesn't fit, if the area has enough bytes
-  settled-big : (left : Option (List ℕ)) (fit : Bool) → Settles left fit before area end → length before < end → enoughBytes ≤ length before → (out : List ℕ) → refused out 9 ≡ wordsInto fit out left
+  settled-big : (left : Option (List ℕ)) (fit : Bool) → Settles left fit before area end → length before < end → enoughArea ≤ length before → (out : List ℕ) → refused out 9 ≡ wordsInto fit out left
   settled-big none fit k l b out = absurd (omega (arith, k .gone refl))
   settled-big (some ws) false k l b out = sym (laid-unfit out (flat ws))
   settled-big (some ws) true k l b out = absurd (omega (arith, k .full refl l refl))
@@ -140,10 +140,10 @@ module _ {end : ℕ} {area out : List ℕ} where
   pub hands-nothing : end ≡ 0 → HandsOver end area (Became Nothing) out out
   hands-nothing z = record { handed = λ {left = left} {fit = fit} {before = before} k s. settled-none left fit k z out }
 
-  pub hands-short : length area < enoughBytes → HandsOver end area Short out out
+  pub hands-short : length area < enoughArea → HandsOver end area Short out out
   hands-short h = record { handed = λ {left = left} {fit = fit} {before = before} k s. (h, refl) }
 
-  pub hands-big : length area < end → enoughBytes ≤ length area → HandsOver end area (Became TooBig) out out
+  pub hands-big : length area < end → enoughArea ≤ length area → HandsOver end area (Became TooBig) out out
   hands-big h l = record { handed = λ {left = left} {fit = fit} {before = before} k s. settled-big left fit k (omega arith) (omega arith) out }
 
   pub hands-over : {laid : Laid} {after : List ℕ} → (end ≡ 0 → ⊥) → end ≤ length area → outcomeOf laid after ≡ laidAs true out (part area 0 0 ++ part area 0 (end - 0)) → HandsOver end area (Became laid) out after
@@ -193,7 +193,7 @@ module _ {chained : Bool} {s glyphs : List ℕ} {h : Held} {l : Map} {t area : L
   cut-into {packing} {next} {out} {after} {end} {x} w v = record {
     cuts = λ {es = es} o u.
         let made = writtenIn packing out (cut (glyphEntries (h .form) glyphs) es (coverContext chained s)) in
-        tries-less ⊥ (length area < enoughBytes) (length t ≤ h .map .at + h .map .mask + 1 + 65536) (length area < enoughBytes) x out after made (λ f. absurd f) (λ f. f)
-        (subst (λ (y : Outcome). Tries (⊥) (length area < enoughBytes) x out after y) (held-is k (covers-context-good s (a .bytes) chained (a .sound)) packing (glyphEntries (h .form) glyphs) o (map-good (a .ready .map)) u out)
+        tries-less ⊥ (length area < enoughArea) (length t ≤ h .map .at + h .map .mask + 1 + 65536) (length area < enoughArea) x out after made (λ f. absurd f) (λ f. f)
+        (subst (λ (y : Outcome). Tries (⊥) (length area < enoughArea) x out after y) (held-is k (covers-context-good s (a .bytes) chained (a .sound)) packing (glyphEntries (h .form) glyphs) o (map-good (a .ready .map)) u out)
         (rw (w .same) at (v .handed (w .settled) (w .same))));
   }

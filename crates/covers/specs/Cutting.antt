@@ -14,13 +14,13 @@ use Rattle.meaning.specs.Cut.{cut}
 use Rattle.meaning.specs.Subset.{Outcome, refused, limit, writtenIn}
 use Rattle.laws.specs.CutGood.{Values}
 use Rattle.laws.specs.SoundGood.{Bytes}
-use Rattle.room.specs.Laid.{laidAs}
+use Rattle.room.specs.Laid.{enoughArea, laidAs}
 use Rattle.glyph_runs.specs.Runs.{GlyphMap}
 use Rattle.fold.specs.Cells.{Inside, Holds}
 use Rattle.fold.specs.declared.Map.{Map}
 use Rattle.tried.specs.Tries.{Tries}
 use Rattle.tried.specs.declared.Tried.{Tried}
-use Rattle.cover_rows.specs.Rows.{Ready, enoughBytes}
+use Rattle.cover_rows.specs.Rows.{Ready}
 use Rattle.cover_rows.specs.declared.Held.{Held}
 use Rattle.cover_contexts.specs.Context.{Settles}
 
@@ -31,7 +31,7 @@ wordsInto fit out (some ws) = laidAs fit out (flat ws)
 
 -- whatever is left, if it stands in the area up to `end` then it is handed over; the area was too short only if it has not enough bytes
 pub record HandsOver (end : ℕ) (area : List ℕ) (r : Tried) (out after : List ℕ) : Type 0 where
-  pub handed : {left : Option (List ℕ)} {fit : Bool} {before : List ℕ} → Settles left fit before area end → length area ≡ length before → Tries (⊥) (length area < enoughBytes) r out after (wordsInto fit out left)
+  pub handed : {left : Option (List ℕ)} {fit : Bool} {before : List ℕ} → Settles left fit before area end → length area ≡ length before → Tries (⊥) (length area < enoughArea) r out after (wordsInto fit out left)
 
 -- what a cut asks where both maps lie in cells: the source is bytes without a fault and not over the limit
 pub record Cuts (chained : Bool) (s glyphs : List ℕ) (h : Held) (l : Map) (t area : List ℕ) : Type 0 where
@@ -47,7 +47,7 @@ pub record Cuts (chained : Bool) (s glyphs : List ℕ) (h : Held) (l : Map) (t a
 -- whatever lookup map of words the cells of l hold, what is left of the context is handed over; the cells were too few only if there are no more than 65,536 behind those of h
 pub record CutsInto (packing : ℕ) (chained : Bool) (s glyphs : List ℕ) (h : Held) (l : Map) (t area : List ℕ) (r : Tried) (out after : List ℕ) : Type 0 where
   pub cuts : {es : List (ℕ × ℕ)} → Holds t l es → Values es
-      → Tries (length t ≤ h .map .at + h .map .mask + 1 + 65536) (length area < enoughBytes) r out after (writtenIn packing out (cut (glyphEntries (h .form) glyphs) es (coverContext chained s)))
+      → Tries (length t ≤ h .map .at + h .map .mask + 1 + 65536) (length area < enoughArea) r out after (writtenIn packing out (cut (glyphEntries (h .form) glyphs) es (coverContext chained s)))
 
 -- the mark of the packed layout
 abbrev pub isPacked : ℕ → Bool

@@ -11,7 +11,7 @@ use fold::lay_glyphs;
 use marks::Marks;
 use repeats::BOOK;
 use repeats::begin;
-use room::LIMIT;
+use room::AREA;
 use room::Laid;
 use tried::Tried;
 ghost use mathlib.Core.Bool.{true};
@@ -19,19 +19,17 @@ ghost use Prim.Native.Nat.{_+_, _-_, _*_, _≤_, _<_};
 ghost use lib.ListN.{length};
 ghost use Rattle.meaning.specs.Maps.{mapEntries, glyphEntries};
 ghost use Rattle.cover_contexts.specs.Context.{MostNotes, Asks, Writes};
-ghost use Rattle.cover_rows.specs.Rows.{SoundRow, enoughBytes};
+ghost use Rattle.cover_rows.specs.Rows.{SoundRow};
 ghost use Rattle.glyph_runs.specs.Runs.{GlyphMap};
 ghost use Rattle.covers.specs.Cutting.{HandsOver, Cuts, CutsInto, Sound, enoughCells, isPacked, Least};
 ghost use Rattle.meaning.specs.Tables.{coverContext};
 ghost use Rattle.meaning.specs.Cut.{cut};
 ghost use Rattle.meaning.specs.Subset.{writtenIn};
+ghost use Rattle.room.specs.Laid.{enoughArea};
 ghost use Rattle.tried.specs.Tries.{Tries};
 
 // The number of cells that is enough for any source: two maps of 65,536 cells each, and a note for each glyph and one more.
 pub const CELLS: usize = 196609;
-
-// The bytes of an area that is enough for any source: the header and the coverages that are kept end by the limit, and one coverage more is written.
-pub const BYTES: usize = 5 * LIMIT / 2;
 
 // What is left of a context by coverages, written from the area's start on, with no coverage written twice, and a book of them; the place after it, and 0 if nothing is left.
 // It calls itself, so that the compiler keeps the book out of its caller's frame: a call for the plain layout would pay for it. How often it does, `rounds`, is 0 for a map of whole entries.
@@ -95,7 +93,7 @@ fn settle(end: usize, area: &[u8], out: &mut [u8]) -> Tried
         return Tried::Became(Laid::Nothing);
     }
     if area.len() < end {
-        if area.len() < BYTES {
+        if area.len() < AREA {
             return Tried::Short;
         }
         return Tried::Became(Laid::TooBig);
@@ -151,7 +149,7 @@ fn cut_in(
     out: &mut [u8],
 ) -> Tried
     requires { ⌜ Sound chained (marks .form) (now src) (now glyphs) (now lookups) × (length (now t) ≤ 0x1_0000_0000) × (length (now area) ≤ 0x1_0000_0000) ⌝ }
-    ensures { λ r. ⌜ Tries (length (now (t .entry)) < enoughCells) (length (now (area .entry)) < enoughBytes) r (now (out .entry)) (now (out .exit)) (writtenIn (marks .layout) (now (out .entry)) (cut (glyphEntries (marks .form) (now (glyphs .entry))) (mapEntries (now (lookups .entry))) (coverContext chained (now (src .entry))))) ⌝ }
+    ensures { λ r. ⌜ Tries (length (now (t .entry)) < enoughCells) (length (now (area .entry)) < enoughArea) r (now (out .entry)) (now (out .exit)) (writtenIn (marks .layout) (now (out .entry)) (cut (glyphEntries (marks .form) (now (glyphs .entry))) (mapEntries (now (lookups .entry))) (coverContext chained (now (src .entry))))) ⌝ }
 {
     let l = lay(lookups, t, 0);
     if l.mask == 0 {
@@ -194,10 +192,10 @@ pub fn by_cover(
     out: &mut [u8],
 ) -> Tried
     requires { ⌜ Sound chained (marks .form) (now src) (now glyphs) (now lookups) ⌝ }
-    ensures { λ r. ⌜ Tries (length (now (t .entry)) < enoughCells) (length (now (area .entry)) < enoughBytes) r (now (out .entry)) (now (out .exit)) (writtenIn (marks .layout) (now (out .entry)) (cut (glyphEntries (marks .form) (now (glyphs .entry))) (mapEntries (now (lookups .entry))) (coverContext chained (now (src .entry))))) ⌝ }
+    ensures { λ r. ⌜ Tries (length (now (t .entry)) < enoughCells) (length (now (area .entry)) < enoughArea) r (now (out .entry)) (now (out .exit)) (writtenIn (marks .layout) (now (out .entry)) (cut (glyphEntries (marks .form) (now (glyphs .entry))) (mapEntries (now (lookups .entry))) (coverContext chained (now (src .entry))))) ⌝ }
 {
     let cells = least(t.len(), CELLS);
-    let bytes = least(area.len(), BYTES);
+    let bytes = least(area.len(), AREA);
     cut_in(
         chained,
         src,

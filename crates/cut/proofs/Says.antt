@@ -16,6 +16,7 @@ use Rattle.meaning.specs.Fault.{headerFault, enough, pairFault, fault}
 use Rattle.meaning.specs.Cut.{cut}
 use Rattle.meaning.specs.Subset.{limit, written, writtenIn}
 use Rattle.laws.specs.Ascends.{lookups-ascend}
+use Rattle.room.specs.Laid.{enoughArea}
 use Rattle.glyph_runs.specs.Runs.{GlyphMap}
 use Rattle.checks.proofs.Laws.{context-1, context-3, pairs-1, source-short, source-plain, source-chained, source-ligatures, source-pairs, source-singles}
 use Rattle.kept_sets.specs.Sorts.{setFaultOf}
@@ -29,7 +30,7 @@ use Rattle.covers.specs.Cutting as covers
 use Rattle.single_subst.specs.Whole as singles
 use Rattle.class_contexts.specs.Cutting as classes
 use Rattle.cut.proofs.Single.{singles-written}
-use Rattle.cut.specs.Cutting.{Sound, SoundContext, SoundPairs, enoughBytes, classCells, otherCells, byClasses, contextCells, pairCells, cellsFor}
+use Rattle.cut.specs.Cutting.{Sound, SoundContext, SoundPairs, classCells, otherCells, byClasses, contextCells, pairCells, cellsFor}
 
 -- the cells that are enough for a context
 module _ (s : List ℕ) where
@@ -94,14 +95,14 @@ module _ (chained : Bool) (s : List ℕ) {format : ℕ} (e : format ≡ word s 0
 
   -- what each format's cut answers is what a context's cut answers
   module _ (packing : ℕ) (g l : List (ℕ × ℕ)) (n b : ℕ) (r : Tried) (out after : List ℕ) where
-    pub tries-1 : format ≡ 1 → Tries (n < otherCells) (b < enoughBytes) r out after (writtenIn packing out (cut g l (glyphContext chained s))) → Tries (n < contextCells s) (b < enoughBytes) r out after (writtenIn packing out (cut g l (context chained s)))
-    tries-1 f h = tries-less (n < otherCells) (b < enoughBytes) (n < contextCells s) (b < enoughBytes) r out after (writtenIn packing out (cut g l (context chained s))) (other-few s n) (λ x. x) (rw (says-1 f) at h)
+    pub tries-1 : format ≡ 1 → Tries (n < otherCells) (b < enoughArea) r out after (writtenIn packing out (cut g l (glyphContext chained s))) → Tries (n < contextCells s) (b < enoughArea) r out after (writtenIn packing out (cut g l (context chained s)))
+    tries-1 f h = tries-less (n < otherCells) (b < enoughArea) (n < contextCells s) (b < enoughArea) r out after (writtenIn packing out (cut g l (context chained s))) (other-few s n) (λ x. x) (rw (says-1 f) at h)
 
-    pub tries-2 : format ≡ 2 → Tries (n < classCells) (b < enoughBytes) r out after (writtenIn packing out (cut g l (classContext chained s))) → Tries (n < contextCells s) (b < enoughBytes) r out after (writtenIn packing out (cut g l (context chained s)))
-    tries-2 f h = tries-less (n < classCells) (b < enoughBytes) (n < contextCells s) (b < enoughBytes) r out after (writtenIn packing out (cut g l (context chained s))) (class-few s n (sym e ∙ f)) (λ x. x) (rw (says-2 f) at h)
+    pub tries-2 : format ≡ 2 → Tries (n < classCells) (b < enoughArea) r out after (writtenIn packing out (cut g l (classContext chained s))) → Tries (n < contextCells s) (b < enoughArea) r out after (writtenIn packing out (cut g l (context chained s)))
+    tries-2 f h = tries-less (n < classCells) (b < enoughArea) (n < contextCells s) (b < enoughArea) r out after (writtenIn packing out (cut g l (context chained s))) (class-few s n (sym e ∙ f)) (λ x. x) (rw (says-2 f) at h)
 
-    pub tries-3 : (format ≡ 1 → ⊥) → (format ≡ 2 → ⊥) → Tries (n < otherCells) (b < enoughBytes) r out after (writtenIn packing out (cut g l (coverContext chained s))) → Tries (n < contextCells s) (b < enoughBytes) r out after (writtenIn packing out (cut g l (context chained s)))
-    tries-3 f k h = tries-less (n < otherCells) (b < enoughBytes) (n < contextCells s) (b < enoughBytes) r out after (writtenIn packing out (cut g l (context chained s))) (other-few s n) (λ x. x) (rw (says-3 f k) at h)
+    pub tries-3 : (format ≡ 1 → ⊥) → (format ≡ 2 → ⊥) → Tries (n < otherCells) (b < enoughArea) r out after (writtenIn packing out (cut g l (coverContext chained s))) → Tries (n < contextCells s) (b < enoughArea) r out after (writtenIn packing out (cut g l (context chained s)))
+    tries-3 f k h = tries-less (n < otherCells) (b < enoughArea) (n < contextCells s) (b < enoughArea) r out after (writtenIn packing out (cut g l (context chained s))) (other-few s n) (λ x. x) (rw (says-3 f k) at h)
 
 -- a source without a fault has its first two bytes
 sound-inside : (kind : ℕ) (s : List ℕ) → fault kind s ≡ none → inside s 0 2 ≡ true
@@ -139,12 +140,12 @@ module _ (s : List ℕ) {format : ℕ} (e : format ≡ word s 0) where
 
   -- what each format's cut answers is what a pair table's cut answers
   module _ (packing : ℕ) (g : List (ℕ × ℕ)) (n b : ℕ) (r : Tried) (out after : List ℕ) where
-    pub tries-glyph-pairs : format ≡ 1 → Tries (n < otherCells) (b < enoughBytes) r out after (writtenIn packing out (cut g [] (glyphPairs.pairTable s))) → Tries (n < pairCells s) (b < enoughBytes) r out after (writtenIn packing out (cut g [] (pairTable s)))
-    tries-glyph-pairs f h = tries-less (n < otherCells) (b < enoughBytes) (n < pairCells s) (b < enoughBytes) r out after (writtenIn packing out (cut g [] (pairTable s))) (glyph-few n) (λ x. x) (rw (says-glyph-pairs f) at h)
+    pub tries-glyph-pairs : format ≡ 1 → Tries (n < otherCells) (b < enoughArea) r out after (writtenIn packing out (cut g [] (glyphPairs.pairTable s))) → Tries (n < pairCells s) (b < enoughArea) r out after (writtenIn packing out (cut g [] (pairTable s)))
+    tries-glyph-pairs f h = tries-less (n < otherCells) (b < enoughArea) (n < pairCells s) (b < enoughArea) r out after (writtenIn packing out (cut g [] (pairTable s))) (glyph-few n) (λ x. x) (rw (says-glyph-pairs f) at h)
 
-    pub tries-class-pairs : (format ≡ 1 → ⊥) → Tries (n < classPairs.enoughCells) (b < limit) r out after (writtenIn packing out (cut g [] (pairTable s))) → Tries (n < pairCells s) (b < enoughBytes) r out after (writtenIn packing out (cut g [] (pairTable s)))
+    pub tries-class-pairs : (format ≡ 1 → ⊥) → Tries (n < classPairs.enoughCells) (b < limit) r out after (writtenIn packing out (cut g [] (pairTable s))) → Tries (n < pairCells s) (b < enoughArea) r out after (writtenIn packing out (cut g [] (pairTable s)))
     unfolding limit
-    tries-class-pairs f h = tries-less (n < classPairs.enoughCells) (b < limit) (n < pairCells s) (b < enoughBytes) r out after (writtenIn packing out (cut g [] (pairTable s))) (class-pairs-few f n) (λ x. omega arith) h
+    tries-class-pairs f h = tries-less (n < classPairs.enoughCells) (b < limit) (n < pairCells s) (b < enoughArea) r out after (writtenIn packing out (cut g [] (pairTable s))) (class-pairs-few f n) (λ x. omega arith) h
 
 -- lookups have no say in what is left of a pair table
 pair-lookups : (g l : List (ℕ × ℕ)) (s : List ℕ) → cut g l (pairTable s) ≡ cut g [] (pairTable s)
@@ -213,25 +214,25 @@ module _ (kind : ℕ) (s : List ℕ) where
   -- what each kind's cut answers is what a source's cut answers
   module _ (packing : ℕ) (g l : List (ℕ × ℕ)) (n b : ℕ) (r : Tried) (out after : List ℕ) where
     abbrev Cut : Type 0
-    Cut = Tries (n < cellsFor kind s) (b < enoughBytes) r out after (writtenIn packing out (cut g l (table kind s)))
+    Cut = Tries (n < cellsFor kind s) (b < enoughArea) r out after (writtenIn packing out (cut g l (table kind s)))
 
-    pub tries-plain : kind ≡ 1 → Tries (n < contextCells s) (b < enoughBytes) r out after (writtenIn packing out (cut g l (context false s))) → Cut
-    tries-plain e h = tries-less (n < contextCells s) (b < enoughBytes) (n < cellsFor kind s) (b < enoughBytes) r out after (writtenIn packing out (cut g l (table kind s))) (context-few kind s (omega arith) n) (λ x. x) (rw (says-plain e) at h)
+    pub tries-plain : kind ≡ 1 → Tries (n < contextCells s) (b < enoughArea) r out after (writtenIn packing out (cut g l (context false s))) → Cut
+    tries-plain e h = tries-less (n < contextCells s) (b < enoughArea) (n < cellsFor kind s) (b < enoughArea) r out after (writtenIn packing out (cut g l (table kind s))) (context-few kind s (omega arith) n) (λ x. x) (rw (says-plain e) at h)
 
-    pub tries-chained : kind ≡ 2 → Tries (n < contextCells s) (b < enoughBytes) r out after (writtenIn packing out (cut g l (context true s))) → Cut
-    tries-chained e h = tries-less (n < contextCells s) (b < enoughBytes) (n < cellsFor kind s) (b < enoughBytes) r out after (writtenIn packing out (cut g l (table kind s))) (context-few kind s (omega arith) n) (λ x. x) (rw (says-chained e) at h)
+    pub tries-chained : kind ≡ 2 → Tries (n < contextCells s) (b < enoughArea) r out after (writtenIn packing out (cut g l (context true s))) → Cut
+    tries-chained e h = tries-less (n < contextCells s) (b < enoughArea) (n < cellsFor kind s) (b < enoughArea) r out after (writtenIn packing out (cut g l (table kind s))) (context-few kind s (omega arith) n) (λ x. x) (rw (says-chained e) at h)
 
-    tries-other : {made : Option Table} → made ≡ cut g l (table kind s) → Tries (n < otherCells) (b < enoughBytes) r out after (writtenIn packing out made) → Cut
-    tries-other m h = tries-less (n < otherCells) (b < enoughBytes) (n < cellsFor kind s) (b < enoughBytes) r out after (writtenIn packing out (cut g l (table kind s))) (source-few kind s n) (λ x. x) (rw m at h)
+    tries-other : {made : Option Table} → made ≡ cut g l (table kind s) → Tries (n < otherCells) (b < enoughArea) r out after (writtenIn packing out made) → Cut
+    tries-other m h = tries-less (n < otherCells) (b < enoughArea) (n < cellsFor kind s) (b < enoughArea) r out after (writtenIn packing out (cut g l (table kind s))) (source-few kind s n) (λ x. x) (rw m at h)
 
-    pub tries-ligatures : kind ≡ 3 → Tries (n < otherCells) (b < enoughBytes) r out after (writtenIn packing out (cut g [] (ligatureTable s))) → Cut
+    pub tries-ligatures : kind ≡ 3 → Tries (n < otherCells) (b < enoughArea) r out after (writtenIn packing out (cut g [] (ligatureTable s))) → Cut
     tries-ligatures e h = tries-other (says-ligatures g l e) h
 
-    pub tries-pairs : kind ≡ 4 → Tries (n < pairCells s) (b < enoughBytes) r out after (writtenIn packing out (cut g [] (pairTable s))) → Cut
-    tries-pairs e h = tries-less (n < pairCells s) (b < enoughBytes) (n < cellsFor kind s) (b < enoughBytes) r out after (writtenIn packing out (cut g l (table kind s))) (pair-few kind s e n) (λ x. x) (rw (says-pairs g l e) at h)
+    pub tries-pairs : kind ≡ 4 → Tries (n < pairCells s) (b < enoughArea) r out after (writtenIn packing out (cut g [] (pairTable s))) → Cut
+    tries-pairs e h = tries-less (n < pairCells s) (b < enoughArea) (n < cellsFor kind s) (b < enoughArea) r out after (writtenIn packing out (cut g l (table kind s))) (pair-few kind s e n) (λ x. x) (rw (says-pairs g l e) at h)
 
     pub tries-singles : (kind ≡ 1 → ⊥) → (kind ≡ 2 → ⊥) → (kind ≡ 3 → ⊥) → (kind ≡ 4 → ⊥) → Tries (n < singles.enoughCells) (b < limit) r out after (written out (cut g [] (single s))) → Cut
     unfolding limit
     tries-singles x y z w h =
         tries-other (says-singles g l x y z w)
-        (tries-less (n < singles.enoughCells) (b < limit) (n < otherCells) (b < enoughBytes) r out after (writtenIn packing out (cut g [] (single s))) (λ x. x) (λ x. omega arith) (rw (singles-written packing out g [] s) at h))
+        (tries-less (n < singles.enoughCells) (b < limit) (n < otherCells) (b < enoughArea) r out after (writtenIn packing out (cut g [] (single s))) (λ x. x) (λ x. omega arith) (rw (singles-written packing out g [] s) at h))

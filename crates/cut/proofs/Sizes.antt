@@ -9,13 +9,13 @@ use lib.ListN.{length, replicate, length-replicate}
 use types.Run.{OneOf}
 use denote.Enum.Declared.{tagOf}
 use Rattle.meaning.specs.Subset.{Outcome}
-use Rattle.room.specs.Laid.{outcomeOf}
+use Rattle.room.specs.Laid.{enoughArea, outcomeOf}
 use Rattle.room.specs.declared.Laid.{Laid}
 use Rattle.tried.specs.Tries.{Tries, tries-less}
 use Rattle.tried.proofs.Tried.{the-type}
 use Rattle.tried.specs.declared.Tried.{Tried}
 use Rattle.tried.specs.declared.Tried.the-variants.{FewCells, Short, Became}
-use Rattle.cut.specs.Cutting.{enoughBytes, classCells, otherCells, byClasses, cellsFor, UnlessShort, NeverShort}
+use Rattle.cut.specs.Cutting.{classCells, otherCells, byClasses, cellsFor, UnlessShort, NeverShort}
 
 -- scratch as it begins
 abbrev pub cleared : ℕ → List ℕ
@@ -42,8 +42,8 @@ module _ (kind : ℕ) (s : List ℕ) where
   unfolding cellsFor
   other-cells e = enough-cleared (cellsFor kind s) otherCells (rw e (omega arith))
 
-pub all-bytes : enoughBytes ≤ length (cleared enoughBytes)
-all-bytes = enough-cleared enoughBytes enoughBytes (omega arith)
+pub all-bytes : enoughArea ≤ length (cleared enoughArea)
+all-bytes = enough-cleared enoughArea enoughArea (omega arith)
 
 -- what became of it
 pub became : (few short : Type 0) (r : Tried) (before after : List ℕ) (made : Outcome) {laid : Laid} → Tries few short r before after made → r ≡ Became laid → outcomeOf laid after ≡ made
@@ -56,12 +56,12 @@ untouched few short Short before after made h n = h .1
 untouched few short (Became laid) before after made h n = absurd (⊎-elim (λ e. omega arith) (λ e. omega arith) n)
 
 -- what too little scratch says
-pub unless-short : (kind : ℕ) (s : List ℕ) (cells area : ℕ) {r : Tried} {before after : List ℕ} {made : Outcome} → Tries (cells < cellsFor kind s) (area < enoughBytes) r before after made → UnlessShort r before after made
-unless-short kind s cells area {r} {before} {after} {made} h = record { tried = tries-less (cells < cellsFor kind s) (area < enoughBytes) (Unit {0}) (Unit {0}) r before after made (λ x. tt) (λ x. tt) h }
+pub unless-short : (kind : ℕ) (s : List ℕ) (cells area : ℕ) {r : Tried} {before after : List ℕ} {made : Outcome} → Tries (cells < cellsFor kind s) (area < enoughArea) r before after made → UnlessShort r before after made
+unless-short kind s cells area {r} {before} {after} {made} h = record { tried = tries-less (cells < cellsFor kind s) (area < enoughArea) (Unit {0}) (Unit {0}) r before after made (λ x. tt) (λ x. tt) h }
 
 -- what enough scratch says
-pub never-short : (kind : ℕ) (s : List ℕ) (cells area : ℕ) {r : Tried} {before after : List ℕ} {made : Outcome} → cellsFor kind s ≤ cells → enoughBytes ≤ area → Tries (cells < cellsFor kind s) (area < enoughBytes) r before after made → NeverShort r before after made
-never-short kind s cells area {r} {before} {after} {made} e f h = record { tried = tries-less (cells < cellsFor kind s) (area < enoughBytes) (⊥) (⊥) r before after made (λ x. omega arith) (λ x. omega arith) h }
+pub never-short : (kind : ℕ) (s : List ℕ) (cells area : ℕ) {r : Tried} {before after : List ℕ} {made : Outcome} → cellsFor kind s ≤ cells → enoughArea ≤ area → Tries (cells < cellsFor kind s) (area < enoughArea) r before after made → NeverShort r before after made
+never-short kind s cells area {r} {before} {after} {made} e f h = record { tried = tries-less (cells < cellsFor kind s) (area < enoughArea) (⊥) (⊥) r before after made (λ x. omega arith) (λ x. omega arith) h }
 
 -- Of one of our own sizes: what became of it, and else the buffer is untouched.
 module _ {r : Tried} {before after : List ℕ} {made : Outcome} where

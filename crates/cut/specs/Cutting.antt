@@ -36,10 +36,6 @@ pub record SoundPairs (form : ℕ) (s glyphs : List ℕ) : Type 0 where
   pub source : length s ≤ limit
   pub map : GlyphMap form glyphs
 
--- the bytes of an area that are enough for any source
-abbrev pub enoughBytes : ℕ
-enoughBytes = 655360
-
 -- the cells that are enough for a context or a pair table by classes, and those that are for any other source
 abbrev pub classCells : ℕ
 classCells = classes.enoughCells

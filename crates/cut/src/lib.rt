@@ -7,7 +7,7 @@ use covers::by_cover;
 use fold::cells;
 use marks::Marks;
 use pair_classes::class_pairs;
-use room::LIMIT;
+use room::AREA;
 use room::Laid;
 use single_subst::singles;
 use tried::Tried;
@@ -21,14 +21,14 @@ ghost use Rattle.meaning.specs.Maps.{mapEntries, glyphEntries};
 ghost use Rattle.meaning.specs.Tables.{context, pairTable, table};
 ghost use Rattle.meaning.specs.Cut.{cut};
 ghost use Rattle.meaning.specs.Subset.{limit, writtenIn};
-ghost use Rattle.room.specs.Laid.{outcomeOf};
+ghost use Rattle.room.specs.Laid.{enoughArea, outcomeOf};
 ghost use Rattle.tried.specs.Tries.{Tries};
-ghost use Rattle.cut.specs.Cutting.{SoundContext, SoundPairs, Sound, contextCells, pairCells, cellsFor, enoughBytes, byClasses, UnlessShort, NeverShort};
+ghost use Rattle.cut.specs.Cutting.{SoundContext, SoundPairs, Sound, contextCells, pairCells, cellsFor, byClasses, UnlessShort, NeverShort};
 
 // The cells and the bytes that are enough for any source.
 pub const CELLS: usize = class_contexts::CELLS;
 
-pub const BYTES: usize = 5 * LIMIT / 2;
+pub const BYTES: usize = AREA;
 
 // The cells that are enough for any source but one by classes.
 const CELLS_BUT_CLASSES: usize = covers::CELLS;
@@ -62,7 +62,7 @@ fn context_in(
     out: &mut [u8],
 ) -> Tried
     requires { ⌜ SoundContext chained (marks .form) (now src) (now glyphs) (now lookups) ⌝ }
-    ensures { λ r. ⌜ Tries (length (now (t .entry)) < contextCells (now (src .entry))) (length (now (area .entry)) < enoughBytes) r (now (out .entry)) (now (out .exit)) (writtenIn (marks .layout) (now (out .entry)) (cut (glyphEntries (marks .form) (now (glyphs .entry))) (mapEntries (now (lookups .entry))) (context chained (now (src .entry))))) ⌝ }
+    ensures { λ r. ⌜ Tries (length (now (t .entry)) < contextCells (now (src .entry))) (length (now (area .entry)) < enoughArea) r (now (out .entry)) (now (out .exit)) (writtenIn (marks .layout) (now (out .entry)) (cut (glyphEntries (marks .form) (now (glyphs .entry))) (mapEntries (now (lookups .entry))) (context chained (now (src .entry))))) ⌝ }
 {
     let format = word_at(src, 0);
     match format {
@@ -82,7 +82,7 @@ fn pairs_in(
     out: &mut [u8],
 ) -> Tried
     requires { ⌜ SoundPairs (marks .form) (now src) (now glyphs) ⌝ }
-    ensures { λ r. ⌜ Tries (length (now (t .entry)) < pairCells (now (src .entry))) (length (now (area .entry)) < enoughBytes) r (now (out .entry)) (now (out .exit)) (writtenIn (marks .layout) (now (out .entry)) (cut (glyphEntries (marks .form) (now (glyphs .entry))) [] (pairTable (now (src .entry))))) ⌝ }
+    ensures { λ r. ⌜ Tries (length (now (t .entry)) < pairCells (now (src .entry))) (length (now (area .entry)) < enoughArea) r (now (out .entry)) (now (out .exit)) (writtenIn (marks .layout) (now (out .entry)) (cut (glyphEntries (marks .form) (now (glyphs .entry))) [] (pairTable (now (src .entry))))) ⌝ }
 {
     let format = word_at(src, 0);
     match format {
@@ -103,7 +103,7 @@ pub fn cut_in(
     out: &mut [u8],
 ) -> Tried
     requires { ⌜ Sound (marks .kind) (marks .form) (now src) (now glyphs) (now lookups) ⌝ }
-    ensures { λ r. ⌜ Tries (length (now (t .entry)) < cellsFor (marks .kind) (now (src .entry))) (length (now (area .entry)) < enoughBytes) r (now (out .entry)) (now (out .exit)) (writtenIn (marks .layout) (now (out .entry)) (cut (glyphEntries (marks .form) (now (glyphs .entry))) (mapEntries (now (lookups .entry))) (table (marks .kind) (now (src .entry))))) ⌝ }
+    ensures { λ r. ⌜ Tries (length (now (t .entry)) < cellsFor (marks .kind) (now (src .entry))) (length (now (area .entry)) < enoughArea) r (now (out .entry)) (now (out .exit)) (writtenIn (marks .layout) (now (out .entry)) (cut (glyphEntries (marks .form) (now (glyphs .entry))) (mapEntries (now (lookups .entry))) (table (marks .kind) (now (src .entry))))) ⌝ }
 {
     let kind = marks.kind;
     match kind {
@@ -314,14 +314,18 @@ fn map_cells(glyphs: &[u8], form: usize) -> usize
     of_all(2 * (glyphs.len() / 6) + 3)
 }
 
-// How many cells the cut is likely to use; no more than a guess, which saves the clearing of scratch.
+// How many cells the cut is likely to use; no more than a guess, which saves the clearing of scratch. By classes both maps take the same cells.
 fn likely_cells(kind: usize, src: &[u8], glyphs: &[u8], form: usize, lookups: &[u8]) -> usize {
     let n = likely_glyphs(src, glyphs, form);
-    let in_maps = cells(lookups) + map_cells(glyphs, form) + n + 1;
-    if by_classes(kind, src) {
-        return in_maps + 3 * n + 256;
+    let asked = cells(lookups);
+    let laid = map_cells(glyphs, form);
+    if !by_classes(kind, src) {
+        return asked + laid + n + 1;
     }
-    in_maps
+    if asked < laid {
+        return laid + 4 * n + 257;
+    }
+    asked + 4 * n + 257
 }
 
 // How many bytes of area it is likely to use: not much more than the source has, and not more than some for each glyph, few for a context by coverages.

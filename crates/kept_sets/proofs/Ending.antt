@@ -7,13 +7,14 @@ use native.Mathlib.Omega.{arith}
 use lib.ListN.{length, getD}
 use Rattle.meaning.specs.Words.{word}
 use Rattle.meaning.specs.Cut.{RuleMaps, glyphsOf}
+use Rattle.room.specs.Laid.{enoughArea}
 use Rattle.fold.specs.Cells.{Kept}
 use Rattle.area.specs.Closed.{members}
 use Rattle.numbers.specs.Entries.{entries-kept}
 use Rattle.repeats.specs.Shared.{blocksIn}
 use Rattle.repeats.specs.Book.{packs}
 use Rattle.kept_sets.specs.Sorts.{headerSize, setFaultOf, setLeft, leftIn, AllBefore}
-use Rattle.kept_sets.specs.Kept.{areaMost, wordsOf, PlacedSet, Reaches, Ready, WroteKept, keptIn}
+use Rattle.kept_sets.specs.Kept.{wordsOf, PlacedSet, Reaches, Ready, WroteKept, keptIn}
 use Rattle.kept_sets.specs.declared.Sort.{Sort}
 use Rattle.kept_sets.specs.declared.Turn.{Turn}
 use Rattle.rule_sets.specs.Left.{mapsIn}
@@ -53,7 +54,7 @@ module _ {sort : Sort} {s t₀ : List ℕ} {maps : Maps} {at m : ℕ} (a : Ready
     -- the book had the same length before
     module _ (before : List ℕ) (b : length book₀ ≡ length before) where
       -- there is no room for a set
-      pub wrote-full : {one : List ℕ} {q : ℕ} → length one ≡ length area → length one < q → (areaMost ≤ length area₀ → 65528 ≤ 2 * length (blocksIn (packs book₀) (members (wordsOf (keptIn sort s t₀ maps at m)))))
+      pub wrote-full : {one : List ℕ} {q : ℕ} → length one ≡ length area → length one < q → (enoughArea ≤ length area₀ → 65528 ≤ 2 * length (blocksIn (packs book₀) (members (wordsOf (keptIn sort s t₀ maps at m)))))
           → WroteKept sort s t₀ maps at m (packs before) area₀ t one (record { count = 0; end = q })
       wrote-full f l g = record { same = f ∙ c .same; size = c .cells .size; done = λ k. absurd (omega (arith, f, c .same)); full = λ k. rw (packs-same before book₀ b) g }
 

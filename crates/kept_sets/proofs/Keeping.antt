@@ -9,13 +9,14 @@ use lib.Seq.{getD-set-other}
 use borrow.Author.Tests.{eq-eqb, ne-eqb}
 use Rattle.meaning.specs.Words.{word, bind, push}
 use Rattle.meaning.specs.Cut.{glyphsOf}
+use Rattle.room.specs.Laid.{enoughArea}
 use Rattle.fold.specs.Cells.{Kept, kept-all, kept-more, kept-set}
 use Rattle.area.specs.Part.{part, part-left, part-all, part-none, news, notes}
 use Rattle.area.specs.Stored.{part-store}
 use Rattle.area.specs.Closed.{members}
 use Rattle.repeats.specs.Shared.{blocksIn}
 use Rattle.repeats.specs.Book.{packs, Begun}
-use Rattle.kept_sets.specs.Kept.{areaMost, setAt, keptOf, wordsOf, Roomy, Standing, Small, TurnInside, Next, PlacedSet}
+use Rattle.kept_sets.specs.Kept.{setAt, keptOf, wordsOf, Roomy, Standing, Small, TurnInside, Next, PlacedSet}
 use Rattle.kept_sets.specs.declared.Turn.{Turn}
 use Rattle.kept_sets.proofs.Placing.{taken-most}
 use Rattle.kept_sets.proofs.Settling.{packs-same, standing-all}
@@ -118,7 +119,7 @@ module _ (left : ℕ → Option (List ℕ)) (s : List ℕ) (slots : ℕ) (t₀ :
       many : length (wordsOf (c .kept)) ≡ k
       many = words-length (c .kept) ∙ c .count
 
-      pub turn-inside : off < 65536 → length area₀ ≤ areaMost → TurnInside area book turn
+      pub turn-inside : off < 65536 → length area₀ ≤ enoughArea → TurnInside area book turn
       turn-inside o a = record {
         counted = omega (arith, c .standing .booked .count, c .standing .booked .few);
         from = o;
@@ -183,7 +184,7 @@ module _ (left : ℕ → Option (List ℕ)) (s : List ℕ) (slots : ℕ) (t₀ :
             }
 
         -- there is no room for it
-        pub keeping-full : slots + 2 * m ≤ 131080 → length one < q → areaMost ≤ length area₀ → 65528 ≤ 2 * length (blocksIn (packs book₀) (members (wordsOf all)))
+        pub keeping-full : slots + 2 * m ≤ 131080 → length one < q → enoughArea ≤ length area₀ → 65528 ≤ 2 * length (blocksIn (packs book₀) (members (wordsOf all)))
         keeping-full a v b =
             let sofar = wordsOf (c .kept) ++ push (left off) [] in
             let rest = wordsOf (from (i + 1)) in

@@ -15,6 +15,7 @@ use Rattle.meaning.specs.Subset.{limit}
 use Rattle.laws.specs.Stands.{All, Word, Stands, all-append}
 use Rattle.laws.specs.Repeats.{has}
 use Rattle.laws.specs.PackedReading.{sharedBlocks}
+use Rattle.room.specs.Laid.{enoughArea}
 use Rattle.area.specs.Extends.{Keeps, Extends, extends-keeps, extends-stands}
 use Rattle.area.specs.Closed.{members}
 use Rattle.numbers.specs.Leaves.{Leaves, leaves-gone, leaves-stays}
@@ -24,7 +25,7 @@ use Rattle.repeats.specs.Shared.{blocksIn, known, firsts-next}
 use Rattle.repeats.specs.Book.{packs, inBook, Begun, Repeated, Again, Behind, Settled}
 use Rattle.repeats.specs.declared.Spot.{Spot}
 use Rattle.kept_sets.specs.Sorts.{leftWords, mostOf}
-use Rattle.kept_sets.specs.Kept.{areaMost, Placed, Roomy, Standing, TurnInside, Next, KeptSet, Stood, PlacedSet}
+use Rattle.kept_sets.specs.Kept.{Placed, Roomy, Standing, TurnInside, Next, KeptSet, Stood, PlacedSet}
 use Rattle.kept_sets.specs.declared.Turn.{Turn}
 use Rattle.kept_sets.proofs.Placing.{blocks-more, blocks-same, taken-more, taken-last, placed-all, placed-kept, placed-known, placed-one}
 
@@ -101,7 +102,7 @@ module _ {left : ℕ → Option (List ℕ)} {slots : ℕ} {bs : List (List ℕ)}
   next-kept k = record { standing = standing-kept (n .standing) (omega (arith, n .slot, n .apart)) k; slot = n .slot; apart = n .apart; small = n .small }
 
   -- There is no room for it.
-  too-much : (o : Option (List ℕ)) (s : List ℕ) → length s ≤ limit → turn .first ≤ 131080 → length area < turn .pos + mostOf o s → areaMost ≤ length area → 65528 ≤ 2 * length (blocksIn (packs book) (members (bs ++ push o [])))
+  too-much : (o : Option (List ℕ)) (s : List ℕ) → length s ≤ limit → turn .first ≤ 131080 → length area < turn .pos + mostOf o s → enoughArea ≤ length area → 65528 ≤ 2 * length (blocksIn (packs book) (members (bs ++ push o [])))
   unfolding mostOf leftWords push limit
   too-much none s l f h a = omega (arith, n .standing .placed .place, ap (λ (d : List (List ℕ)). length (blocksIn (packs book) (members d))) (append-nil bs))
   too-much (some ws) s l f h a = omega (arith, n .standing .placed .place, taken-more (packs book) bs ws, taken-last (packs book) bs ws)

@@ -10,6 +10,7 @@ use Rattle.meaning.specs.Words.{word, flat, bind, push}
 use Rattle.meaning.specs.Cut.{glyphsOf}
 use Rattle.meaning.specs.Subset.{limit}
 use Rattle.laws.specs.Stands.{All, Word}
+use Rattle.room.specs.Laid.{enoughArea}
 use Rattle.area.specs.Extends.{Extends}
 use Rattle.area.specs.Part.{part, news, notes, oldAt}
 use Rattle.area.specs.Closed.{members}
@@ -35,10 +36,6 @@ module _ (left : ℕ → Option (List ℕ)) (s : List ℕ) (slots : ℕ) where
 -- the words of their sets
 abbrev pub wordsOf : List (ℕ × List ℕ) → List (List ℕ)
 wordsOf ks = map (λ e. e .1) ks
-
--- the bytes of an area that are enough for any source, five halves of the limit; no more are used
-abbrev pub areaMost : ℕ
-areaMost = 655360
 
 -- The words `bs` of sets stand from `first` up to `end`, each that is equal to an earlier one only there if they are packed, and from `slots` on the places where they stand.
 pub record Placed (packed : Bool) (slots first : ℕ) (bs : List (List ℕ)) (area : List ℕ) (end : ℕ) : Type 0 where
@@ -71,7 +68,7 @@ pub record TurnInside (area book : List ℕ) (turn : Turn) : Type 0 where
   pub slot : turn .slot + 2 ≤ turn .first
   pub behind : turn .first ≤ turn .pos
   pub room : turn .pos ≤ length area
-  pub short : length area ≤ areaMost
+  pub short : length area ≤ enoughArea
 
 -- The sets `bs` stand, and the turn is the next one's.
 pub record Next (left : ℕ → Option (List ℕ)) (slots : ℕ) (bs : List (List ℕ)) (area book : List ℕ) (turn : Turn) : Type 0 where
@@ -101,7 +98,7 @@ pub record PlacedSet (left : ℕ → Option (List ℕ)) (turn : Turn) (area₀ b
   pub size : length book ≡ length book₀
   pub gone : {slots : ℕ} {bs : List (List ℕ)} → Next left slots bs area₀ book₀ turn → r ≡ 0 → (left (turn .at) ≡ none) × Standing left slots (turn .first) bs area book (turn .pos)
   pub next : {slots : ℕ} {bs : List (List ℕ)} → Next left slots bs area₀ book₀ turn → (r ≡ 0 → ⊥) → r ≤ length area₀ → Stood left slots bs turn area book r
-  pub full : {slots : ℕ} {bs : List (List ℕ)} → Next left slots bs area₀ book₀ turn → turn .first ≤ 131080 → length area₀ < r → areaMost ≤ length area₀
+  pub full : {slots : ℕ} {bs : List (List ℕ)} → Next left slots bs area₀ book₀ turn → turn .first ≤ 131080 → length area₀ < r → enoughArea ≤ length area₀
       → 65528 ≤ 2 * length (blocksIn (packs book₀) (members (bs ++ push (left (turn .at)) [])))
 
 -- the i-th offset lies inside the source, and the set that it reaches, if it is not null, is sound
@@ -138,4 +135,4 @@ module _ (sort : Sort) (s t₀ : List ℕ) (maps : Maps) (at m : ℕ) where
       pub same : length area ≡ length area₀
       pub size : length t ≡ length t₀
       pub done : r .end ≤ length area₀ → Done t area (r .count) (r .end)
-      pub full : length area₀ < r .end → areaMost ≤ length area₀ → 65528 ≤ 2 * length (blocksIn packed (members (wordsOf keptIn)))
+      pub full : length area₀ < r .end → enoughArea ≤ length area₀ → 65528 ≤ 2 * length (blocksIn packed (members (wordsOf keptIn)))

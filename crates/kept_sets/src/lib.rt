@@ -16,11 +16,12 @@ ghost use mathlib.Core.Option.{none};
 ghost use Prim.Native.Nat.{_≤_};
 ghost use lib.ListN.{length};
 ghost use Rattle.meaning.specs.Subset.{limit};
+ghost use Rattle.room.specs.Laid.{enoughArea};
 ghost use Rattle.numbers.specs.Leaves.{Leaves};
 ghost use Rattle.rule_sets.specs.Left.{AllInside, mapsIn};
 ghost use Rattle.repeats.specs.Book.{packs};
 ghost use Rattle.kept_sets.specs.Sorts.{setFaultOf, headerSize, leftIn, mostOf, Told};
-ghost use Rattle.kept_sets.specs.Kept.{areaMost, Roomy, TurnInside, KeptSet, PlacedSet, Ready, WroteKept};
+ghost use Rattle.kept_sets.specs.Kept.{Roomy, TurnInside, KeptSet, PlacedSet, Ready, WroteKept};
 
 // The sorts of sets: rules, plain or chained, ligatures, and pairs, which have value formats.
 pub enum Sort {
@@ -138,7 +139,7 @@ pub fn write_kept(
     area: &mut [u8],
     book: &mut [u32],
 ) -> Sets
-    requires { ⌜ Ready sort (now src) (now t) maps (notes .at) (notes .count) × Told sort (mapsIn (now t) maps) (now src) (now told) × (length (now area) ≤ areaMost) × Roomy (now book) ⌝ }
+    requires { ⌜ Ready sort (now src) (now t) maps (notes .at) (notes .count) × Told sort (mapsIn (now t) maps) (now src) (now told) × (length (now area) ≤ enoughArea) × Roomy (now book) ⌝ }
     ensures { λ r. ⌜ WroteKept sort (now (src .entry)) (now (t .entry)) maps (notes .at) (notes .count) (packs (now (book .entry))) (now (area .entry)) (now (t .exit)) (now (area .exit)) r ⌝ }
 {
     let slots = header_size(sort);

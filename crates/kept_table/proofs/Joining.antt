@@ -12,14 +12,14 @@ use Rattle.meaning.specs.Words.{flat}
 use Rattle.meaning.specs.Cut.{glyphsOf}
 use Rattle.meaning.specs.Layout.{coverageWords}
 use Rattle.meaning.specs.Subset.{Outcome, refused, limit}
-use Rattle.room.specs.Laid.{laidAs}
+use Rattle.room.specs.Laid.{enoughArea, laidAs}
 use Rattle.tried.specs.declared.Tried.{Tried}
 use Rattle.area.specs.Part.{part, news}
 use Rattle.area.specs.Closed.{members}
 use Rattle.rule_sets.specs.declared.Maps.{Maps}
 use Rattle.repeats.specs.Shared.{offsetsIn, blocksIn}
 use Rattle.kept_sets.specs.Sorts.{moreOf, headerSize, leftWords}
-use Rattle.kept_sets.specs.Kept.{areaMost, wordsOf, Ready, Done, WroteKept, keptIn}
+use Rattle.kept_sets.specs.Kept.{wordsOf, Ready, Done, WroteKept, keptIn}
 use Rattle.kept_sets.specs.declared.Sort.{Sort}
 use Rattle.kept_sets.specs.declared.Sets.{Sets}
 use Rattle.kept_table.specs.Table.{setsIn, layoutOf, tableOf, Finishes, Finished}
@@ -78,7 +78,7 @@ unfolding laidWords
 laid-none out e = rw e refl
 
 -- there is no room
-pub answered-short : {a b : ℕ} {r : Tried} {out : List ℕ} {words : Option (List ℕ)} → NoRoom b r → b ≡ a → (areaMost ≤ a → refused out 9 ≡ laidWords out words) → Answered (⊥) out words a r out
+pub answered-short : {a b : ℕ} {r : Tried} {out : List ℕ} {words : Option (List ℕ)} → NoRoom b r → b ≡ a → (enoughArea ≤ a → refused out 9 ≡ laidWords out words) → Answered (⊥) out words a r out
 answered-short h e o = record { answer = (rw e at h) .refuses o }
 
 module _ {sort : Sort} {s t₀ : List ℕ} {maps : Maps} {at m : ℕ} {packed : Bool} {area₀ t area : List ℕ} {r : Sets} (a : Ready sort s t₀ maps at m) (w : WroteKept sort s t₀ maps at m packed area₀ t area r) where
@@ -86,7 +86,7 @@ module _ {sort : Sort} {s t₀ : List ℕ} {maps : Maps} {at m : ℕ} {packed : 
   kept = keptIn sort s t₀ maps at m
 
   -- there is no room for the sets
-  pub short-sets : (out : List ℕ) → length area < r .end → areaMost ≤ length area₀ → refused out 9 ≡ laidWords out (tableOf packed sort kept)
+  pub short-sets : (out : List ℕ) → length area < r .end → enoughArea ≤ length area₀ → refused out 9 ≡ laidWords out (tableOf packed sort kept)
   short-sets out l b = words-unfit out (tableOf packed sort kept) (table-sets packed sort kept (w .full (omega (arith, w .same)) b))
 
   module _ (l : r .end ≤ length area) where
@@ -99,7 +99,7 @@ module _ {sort : Sort} {s t₀ : List ℕ} {maps : Maps} {at m : ℕ} {packed : 
 
     module _ (z : r .count ≡ 0 → ⊥) {first : ℕ} (e : first ≡ headerSize sort + 2 * m) where
       -- the table can be put together
-      pub may-finish : length area₀ ≤ areaMost → Finishes sort t at (r .count) first (r .end) area
+      pub may-finish : length area₀ ≤ enoughArea → Finishes sort t at (r .count) first (r .end) area
       unfolding limit
       may-finish b = record {
         some-set = omega arith;
@@ -116,7 +116,7 @@ module _ {sort : Sort} {s t₀ : List ℕ} {maps : Maps} {at m : ℕ} {packed : 
         table-is-some = table-some packed sort kept (λ n. z (sym (done .count) ∙ n))
 
         -- there is no room for the coverage
-        pub short-table : (out : List ℕ) → length after < end → areaMost ≤ length area₀ → refused out 9 ≡ laidWords out (tableOf packed sort kept)
+        pub short-table : (out : List ℕ) → length after < end → enoughArea ≤ length area₀ → refused out 9 ≡ laidWords out (tableOf packed sort kept)
         short-table out k =
             let c : length (coverageWords (news t at (r .count))) ≡ length (coverageWords (glyphsOf kept)) = ap (λ (g : List ℕ). length (coverageWords g)) (done .glyphs) in
             let n : length (leftWords (tableOf packed sort kept)) ≡ length (layoutOf packed sort (glyphsOf kept) (wordsOf kept)) = ap (λ (o : Option (List ℕ)). length (leftWords o)) table-is-some ∙ ap length (words-some (layoutOf packed sort (glyphsOf kept) (wordsOf kept))) in

@@ -13,15 +13,14 @@ use Rattle.meaning.specs.Layout.{block, wordsFit}
 use Rattle.meaning.specs.Subset.{Outcome, refused, limit, wordsIn, writtenIn}
 use Rattle.laws.specs.Stands.{flat-length}
 use Rattle.laws.specs.Through.{Opt}
-use Rattle.room.specs.Laid.{laidAs, laid-words, laid-over, laid-unfit}
+use Rattle.room.specs.Laid.{enoughArea, laidAs, laid-words, laid-over, laid-unfit}
 use Rattle.tried.specs.Tries.{Tries, tries-less}
 use Rattle.tried.specs.declared.Tried.{Tried}
 use Rattle.kept_sets.specs.Sorts.{leftWords}
-use Rattle.kept_sets.specs.Kept.{areaMost}
 
 -- There is no room in an area of a bytes: it is too short; or it has what is enough, and then the answer is that the layout is too big. The buffer is as before.
 pub record NoRoom (a : ℕ) (r : Tried) : Type 0 where
-  pub refuses : {out : List ℕ} {made : Outcome} → (areaMost ≤ a → refused out 9 ≡ made) → Tries (⊥) (a < areaMost) r out out made
+  pub refuses : {out : List ℕ} {made : Outcome} → (enoughArea ≤ a → refused out 9 ≡ made) → Tries (⊥) (a < enoughArea) r out out made
 
 -- words laid into the buffer, which fit if the second of them, the coverage's offset, does; or nothing is left
 unfoldable pub laidWords : List ℕ → Option (List ℕ) → Outcome
@@ -34,7 +33,7 @@ ByCover packing t = wordsFit (wordsIn packing t) ≡ ltb (getD (wordsIn packing 
 
 -- What a cut answers, with an area of a bytes: few cells, as `few` says; that the area is too short; or what is left, laid into the buffer.
 pub record Answered (few : Type 0) (out₀ : List ℕ) (words : Option (List ℕ)) (a : ℕ) (r : Tried) (out : List ℕ) : Type 0 where
-  pub answer : Tries few (a < areaMost) r out₀ out (laidWords out₀ words)
+  pub answer : Tries few (a < enoughArea) r out₀ out (laidWords out₀ words)
 
 -- words of a table, laid
 laid-as : (packing : ℕ) (out : List ℕ) (left : Option Table) → Opt (ByCover packing) left → laidWords out (block (wordsIn packing) left) ≡ writtenIn packing out left
@@ -44,17 +43,17 @@ laid-as packing out (some t) h = laid-words out (wordsIn packing t) h
 
 module _ {few other : Type 0} (f : few → other) {out₀ : List ℕ} {words : Option (List ℕ)} {a : ℕ} {r : Tried} {out : List ℕ} where
   -- what is answered of words is answered of their table
-  pub answered-as : (packing : ℕ) (left : Option Table) → Opt (ByCover packing) left → words ≡ block (wordsIn packing) left → Answered few out₀ words a r out → Tries other (a < areaMost) r out₀ out (writtenIn packing out₀ left)
+  pub answered-as : (packing : ℕ) (left : Option Table) → Opt (ByCover packing) left → words ≡ block (wordsIn packing) left → Answered few out₀ words a r out → Tries other (a < enoughArea) r out₀ out (writtenIn packing out₀ left)
   answered-as packing left c e h =
       let m : laidWords out₀ words ≡ writtenIn packing out₀ left = ap (laidWords out₀) e ∙ laid-as packing out₀ left c in
-      tries-less few (a < areaMost) other (a < areaMost) r out₀ out (writtenIn packing out₀ left) f (λ l. l) (rw m at (h .answer))
+      tries-less few (a < enoughArea) other (a < enoughArea) r out₀ out (writtenIn packing out₀ left) f (λ l. l) (rw m at (h .answer))
 
   -- the same, said otherwise
   pub answered-said : {others : Option (List ℕ)} → words ≡ others → Answered few out₀ words a r out → Answered other out₀ others a r out
-  answered-said {others} e h = record { answer = tries-less few (a < areaMost) other (a < areaMost) r out₀ out (laidWords out₀ others) f (λ l. l) (rw e at (h .answer)) }
+  answered-said {others} e h = record { answer = tries-less few (a < enoughArea) other (a < enoughArea) r out₀ out (laidWords out₀ others) f (λ l. l) (rw e at (h .answer)) }
 
 -- an area that has what is enough and is too short for the coverage means that the layout is over the limit
-pub words-over : (out : List ℕ) (words : Option (List ℕ)) {n a : ℕ} → n ≤ limit → a < 2 * length (leftWords words) + n → areaMost ≤ a → refused out 9 ≡ laidWords out words
+pub words-over : (out : List ℕ) (words : Option (List ℕ)) {n a : ℕ} → n ≤ limit → a < 2 * length (leftWords words) + n → enoughArea ≤ a → refused out 9 ≡ laidWords out words
 unfolding laidWords leftWords limit
 words-over out none h e l = absurd (omega arith)
 words-over out (some ws) h e l = sym (laid-over (ltb (getD ws 1 0) 65536) out (flat ws) (omega (arith, flat-length ws)))

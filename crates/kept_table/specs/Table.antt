@@ -8,11 +8,12 @@ use lib.ListN.{length}
 use Rattle.meaning.specs.Words.{flat}
 use Rattle.meaning.specs.Cut.{glyphsOf}
 use Rattle.meaning.specs.Layout.{coverageWords}
+use Rattle.room.specs.Laid.{enoughArea}
 use Rattle.area.specs.Part.{part, news}
 use Rattle.area.specs.Closed.{members}
 use Rattle.repeats.specs.Shared.{offsetsIn, blocksIn}
 use Rattle.kept_sets.specs.Sorts.{moreOf, headerSize}
-use Rattle.kept_sets.specs.Kept.{areaMost, wordsOf, Placed}
+use Rattle.kept_sets.specs.Kept.{wordsOf, Placed}
 use Rattle.kept_sets.specs.declared.Sort.{Sort}
 
 -- the words of a table of format 1 by sets with this coverage, in either layout: the format, the coverage's offset, further words, the count and the offsets of the sets; the sets, and the coverage
@@ -38,7 +39,7 @@ pub record Finishes (sort : Sort) (t : List ℕ) (notes k first p : ℕ) (area :
   pub near : first ≤ headerSize sort + 2 * k + 262144
   pub start : first ≤ p
   pub room : p ≤ length area
-  pub short : length area ≤ areaMost
+  pub short : length area ≤ enoughArea
 
 -- Whatever sets stand there: the head of their table stands at the front and the rest from `first` up to r, or the area is too short for the coverage.
 pub record Finished (sort : Sort) (t : List ℕ) (notes k first p : ℕ) (before after : List ℕ) (r : ℕ) : Type 0 where

@@ -10,8 +10,8 @@ use kept_sets::Sort;
 use kept_sets::header_size;
 use kept_sets::write_kept;
 use repeats::BOOK;
+use room::AREA;
 use room::HIGHEST;
-use room::LIMIT;
 use room::Laid;
 use rule_sets::Maps;
 use tried::Tried;
@@ -22,14 +22,12 @@ ghost use Prim.Native.Nat.{_-_, _≤_};
 ghost use lib.ListN.{length};
 ghost use lib.Dec.{eqb, ltb};
 ghost use Rattle.laws.specs.Written.{Wrote};
+ghost use Rattle.room.specs.Laid.{enoughArea};
 ghost use Rattle.rule_sets.specs.Left.{mapsIn};
 ghost use Rattle.kept_sets.specs.Sorts.{moreOf, headerSize, Told};
-ghost use Rattle.kept_sets.specs.Kept.{areaMost, Ready, WroteKept, keptIn};
+ghost use Rattle.kept_sets.specs.Kept.{Ready, WroteKept, keptIn};
 ghost use Rattle.kept_table.specs.Table.{Finishes, Finished, tableOf};
 ghost use Rattle.kept_table.specs.Answers.{NoRoom, Answered};
-
-// The bytes of an area that are enough for any source: five halves of the limit. No more are used.
-pub const AREA: usize = 5 * LIMIT / 2;
 
 // The words before the offsets of the sets; the place after them.
 fn write_header(sort: Sort, area: &mut [u8], cover: usize, k: usize) -> usize
@@ -97,7 +95,7 @@ fn write_packed(
     rounds: usize,
     area: &mut [u8],
 ) -> Sets
-    requires { ⌜ Ready sort (now src) (now t) maps (notes .at) (notes .count) × (length (now area) ≤ areaMost) × Told sort (mapsIn (now t) maps) (now src) (now told) ⌝ }
+    requires { ⌜ Ready sort (now src) (now t) maps (notes .at) (notes .count) × (length (now area) ≤ enoughArea) × Told sort (mapsIn (now t) maps) (now src) (now told) ⌝ }
     ensures { λ r. ⌜ WroteKept sort (now (src .entry)) (now (t .entry)) maps (notes .at) (notes .count) true (now (area .entry)) (now (t .exit)) (now (area .exit)) r ⌝ }
 {
     if rounds != 0 {
@@ -117,7 +115,7 @@ fn write_sets(
     maps: Maps,
     area: &mut [u8],
 ) -> Sets
-    requires { ⌜ Ready sort (now src) (now t) maps (notes .at) (notes .count) × (length (now area) ≤ areaMost) × Told sort (mapsIn (now t) maps) (now src) (now told) ⌝ }
+    requires { ⌜ Ready sort (now src) (now t) maps (notes .at) (notes .count) × (length (now area) ≤ enoughArea) × Told sort (mapsIn (now t) maps) (now src) (now told) ⌝ }
     ensures { λ r. ⌜ WroteKept sort (now (src .entry)) (now (t .entry)) maps (notes .at) (notes .count) (eqb (notes .packing) 1) (now (area .entry)) (now (t .exit)) (now (area .exit)) r ⌝ }
 {
     if notes.packing == 1 {
@@ -138,7 +136,7 @@ pub fn write_table(
     area: &mut [u8],
     out: &mut [u8],
 ) -> Tried
-    requires { ⌜ Ready sort (now src) (now t) maps (notes .at) (notes .count) × (length (now area) ≤ areaMost) × Told sort (mapsIn (now t) maps) (now src) (now told) ⌝ }
+    requires { ⌜ Ready sort (now src) (now t) maps (notes .at) (notes .count) × (length (now area) ≤ enoughArea) × Told sort (mapsIn (now t) maps) (now src) (now told) ⌝ }
     ensures { λ r. ⌜ Answered ⊥ (now (out .entry)) (tableOf (eqb (notes .packing) 1) sort (keptIn sort (now (src .entry)) (now (t .entry)) maps (notes .at) (notes .count))) (length (now (area .entry))) r (now (out .exit)) ⌝ }
 {
     let m = notes.count;

@@ -15,6 +15,10 @@ use Rattle.laws.specs.Written.{sets-front}
 use Rattle.room.specs.declared.Laid.{Laid}
 use Rattle.room.specs.declared.Laid.the-variants.{Nothing, TooBig, NoRoom, Kept}
 
+-- the bytes of an area that are enough for any source: where they are too few an offset or a count of the layout doesn't fit a word, or it is over the limit
+abbrev pub enoughArea : ℕ
+enoughArea = 655360
+
 -- what becomes of a layout of `size` bytes, whose words fit or not, in a buffer of `len` bytes
 unfoldable pub laidFor : ℕ → Bool → ℕ → Laid
 laidFor size fits len = cond (ltb limit size || not fits) TooBig (cond (ltb len size) (NoRoom size) (Kept size))

@@ -5,6 +5,9 @@ ghost use Rattle.room.specs.Laid.{laidFor};
 // The most bytes of a source and of a layout.
 pub const LIMIT: usize = 262144;
 
+// The bytes of an area that are enough for any source: where they are too few, an offset or a count of the layout doesn't fit a word, or it is over the limit.
+pub const AREA: usize = 5 * LIMIT / 2;
+
 // The highest offset or count that fits a word.
 pub const HIGHEST: usize = 65535;
 

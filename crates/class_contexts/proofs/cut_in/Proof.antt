@@ -1,36 +1,52 @@
+use Rattle.class_contexts.proofs.Entry.{may-note, none-noted, before-end, few-lookups, may-cut, lookups-cut}
 use Rattle.laws.specs.SoundGood.{bytes-all}
 use Rattle.class_contexts.specs.Meaning.{not-covered, not-classed}
 use Rattle.meaning.specs.Maps.{mapEntries, glyphEntries}
-use Rattle.class_contexts.proofs.Entry.{few-lookups, glyphs-near, few-glyphs, may-begin, maps-cut}
 use mathlib.Core.Path.{refl, sym, _∙_}
 use native.Mathlib.Omega.{arith}
+use lib.Seq.{length-take-le}
 use borrow.Author.Needs.{needs}
 use Rattle.class_contexts.proofs.cut_in.Statement.{statement}
 use Rattle.class_contexts.proofs.cut_in.Tie as tie
 
 returns : tie.Need-returns
-returns c = not-covered (c .before .before .before .before .before .before .before .before .args .chained) (c .before .before .before .before .before .before .before .before .args .src .now) (glyphEntries (c .before .before .before .before .before .before .before .before .args .marks .form) (c .before .before .before .before .before .before .before .before .args .glyphs .now)) (mapEntries (c .before .before .before .before .before .before .before .before .args .lookups .now)) (c .before .before .before .before .before .before .before .before .args .marks .layout) (c .before .before .before .before .before .before .before .before .args .out .now) (sym (c .before .word-at .ensures .0) ∙ c .if1 .taken)
+returns c =
+    let a = c .before .before .before .before .before .before .before .before .args in
+    not-covered (a .chained) (a .src .now) (glyphEntries (a .marks .form) (a .glyphs .now)) (mapEntries (a .lookups .now)) (a .marks .layout) (a .out .now) (sym (c .before .word-at .ensures .0) ∙ c .if1 .taken)
 
 returns-2 : tie.Need-returns-2
-returns-2 c = not-classed (c .before .before .before .before .before .before .before .before .before .before .args .chained) (c .before .before .before .before .before .before .before .before .before .before .args .src .now) (glyphEntries (c .before .before .before .before .before .before .before .before .before .before .args .marks .form) (c .before .before .before .before .before .before .before .before .before .before .args .glyphs .now)) (mapEntries (c .before .before .before .before .before .before .before .before .before .before .args .lookups .now)) (c .before .before .before .before .before .before .before .before .before .before .args .marks .layout) (c .before .before .before .before .before .before .before .before .before .before .args .out .now) (sym (c .before .input-at .ensures) ∙ c .if2 .taken)
+returns-2 c =
+    let a = c .before .before .before .before .before .before .before .before .before .before .args in
+    not-classed (a .chained) (a .src .now) (glyphEntries (a .marks .form) (a .glyphs .now)) (mapEntries (a .lookups .now)) (a .marks .layout) (a .out .now) (sym (c .before .input-at .ensures) ∙ c .if2 .taken)
+
+note-covered-requires : tie.Need-note-covered-requires
+note-covered-requires c κs = may-note (c .before .before .before .before .before .before .before .before .before .before .before .pre .0) (bytes-all (c .before .before .before .before .before .before .before .before .before .before .before .args .glyphs .now) (λ i. omega (arith, c .before .before .before .before .before .before .before .before .before .shared-slice-known2 .given i))) (c .before .before .before .before .word-at .ensures .0) (c .before .before .before .if1 .left)
 
 returns-3 : tie.Need-returns-3
-returns-3 c = (few-lookups (c .before .before .before .before .before .before .before .before .before .before .before .before .before .before .before .before .pre .0) (c .before .before .before .before .lay .ensures) (c .if3 .taken), refl)
-
-add-lay-glyphs : tie.Need-add-lay-glyphs
-add-lay-glyphs c = omega (arith, glyphs-near (c .before .before .before .before .before .before .before .before .before .before .before .before .before .before .before .before .before .before .pre .0) (c .before .before .before .before .before .before .lay .ensures))
-
-lay-glyphs-requires : tie.Need-lay-glyphs-requires
-lay-glyphs-requires c κs = (omega (arith, glyphs-near (c .before .before .before .before .before .before .before .before .before .before .before .before .before .before .before .before .before .before .pre .0) (c .before .before .before .before .before .before .lay .ensures)), c .before .before .before .before .before .before .before .before .before .before .before .before .before .before .before .before .before .before .pre .0 .glyphs-good)
+returns-3 c = (c .before .before .before .before .note-covered .ensures .room (c .if3 .taken), refl)
 
 returns-4 : tie.Need-returns-4
-returns-4 c = (few-glyphs (c .before .before .before .before .before .before .before .before .before .before .before .before .before .before .before .before .before .before .before .before .before .before .before .pre .0) (c .before .before .before .before .before .before .before .before .before .before .before .lay .ensures) (c .before .before .before .before .lay-glyphs .ensures) (c .if4 .taken), refl)
+returns-4 c =
+    none-noted (c .before .before .before .before .before .before .before .before .before .before .before .before .before .before .before .before .before .before .pre .0) (c .before .before .before .before .before .before .note-covered .ensures) (c .before .before .before .before .before .before .before .before .before .before .before .before .before .before .before .before .before .before .args .marks .layout) (c .before .before .before .before .before .before .before .before .before .before .before .before .before .before .before .before .before .before .args .out .now) (bytes-all (c .before .before .before .before .before .before .before .before .before .before .before .before .before .before .before .before .before .before .args .src .now) (λ i. omega (arith, c .before .before .before .before .before .before .before .before .before .before .before .before .before .before .before .before .before .shared-slice-known .given i))) (bytes-all (c .before .before .before .before .before .before .before .before .before .before .before .before .before .before .before .before .before .before .args .glyphs .now) (λ i. omega (arith, c .before .before .before .before .before .before .before .before .before .before .before .before .before .before .before .before .shared-slice-known2 .given i))) (bytes-all (c .before .before .before .before .before .before .before .before .before .before .before .before .before .before .before .before .before .before .args .lookups .now) (λ i. omega (arith, c .before .before .before .before .before .before .before .before .before .before .before .before .before .before .before .shared-slice-known3 .given i)))
+    (c .before .before .before .before .before .before .before .before .before .before .before .word-at .ensures .0) (c .before .before .before .before .before .before .before .before .before .before .if1 .left) (c .before .before .before .before .before .before .before .before .before .input-at .ensures) (c .before .before .before .before .before .before .before .before .if2 .left) (c .before .before .if3 .left) (c .if4 .taken)
 
-cut-maps-requires : tie.Need-cut-maps-requires
-cut-maps-requires c κs = may-begin (c .before .before .before .before .before .before .before .before .before .before .before .before .before .before .before .before .before .before .before .before .before .before .before .before .before .before .pre .0) (c .before .before .before .before .before .before .before .before .before .before .before .before .before .before .lay .ensures) (c .before .before .before .before .before .before .before .lay-glyphs .ensures) (c .before .before .before .before .before .before .before .before .before .before .if3 .left) (c .before .before .before .if4 .left) (bytes-all (c .before .before .before .before .before .before .before .before .before .before .before .before .before .before .before .before .before .before .before .before .before .before .before .before .before .before .args .src .now) (λ i. omega (arith, c .before .before .before .before .before .before .before .before .before .before .before .before .before .before .before .before .before .before .before .before .before .before .before .before .before .shared-slice-known .given i))) (bytes-all (c .before .before .before .before .before .before .before .before .before .before .before .before .before .before .before .before .before .before .before .before .before .before .before .before .before .before .args .glyphs .now) (λ i. omega (arith, c .before .before .before .before .before .before .before .before .before .before .before .before .before .before .before .before .before .before .before .before .before .before .before .before .shared-slice-known2 .given i))) (c .before .before .before .before .before .before .before .before .before .before .before .before .before .before .before .before .before .before .before .word-at .ensures .0) (c .before .before .before .before .before .before .before .before .before .before .before .before .before .before .before .before .before .before .if1 .left) (c .before .before .before .before .before .before .before .before .before .before .before .before .before .before .before .before .before .input-at .ensures) (c .before .before .before .before .before .before .before .before .before .before .before .before .before .before .before .before .if2 .left) (c .before .before .before .before .before .before .before .before .before .before .before .before .before .before .before .before .before .before .before .before .before .before .before .before .before .before .pre .1) (c .before .before .before .before .before .before .before .before .before .before .before .before .before .before .before .before .before .before .before .before .before .before .before .before .before .before .pre .2)
+slice-relend-prefix-lay : tie.Need-slice-relend-prefix-lay
+slice-relend-prefix-lay c = before-end (c .before .before .before .before .before .before .before .before .before .before .before .before .before .before .before .before .before .before .pre .0) (c .before .before .before .before .before .before .note-covered .ensures) (c .before .before .if3 .left)
+
+slice-aggregate-lay : tie.Need-slice-aggregate-lay
+slice-aggregate-lay c = sym (length-take-le _ _ (before-end (c .before .before .before .before .before .before .before .before .before .before .before .before .before .before .before .before .before .before .before .pre .0) (c .before .before .before .before .before .before .before .note-covered .ensures) (c .before .before .before .if3 .left)))
 
 returns-5 : tie.Need-returns-5
-returns-5 c = maps-cut (c .before .before .before .before .before .before .before .before .before .before .before .before .before .before .before .before .before .before .before .before .before .before .before .before .before .before .before .before .before .before .before .before .before .pre .0) (c .before .before .before .before .before .before .before .before .before .before .before .before .before .before .before .before .before .before .before .before .before .lay .ensures) (c .before .before .before .before .before .before .before .before .before .before .before .before .before .before .lay-glyphs .ensures) (c .before .before .before .before .before .before .before .before .before .before .before .before .before .before .before .before .before .if3 .left) (c .before .before .before .before .before .before .before .before .before .before .if4 .left) _ _ _ (bytes-all (c .before .before .before .before .before .before .before .before .before .before .before .before .before .before .before .before .before .before .before .before .before .before .before .before .before .before .before .before .before .before .before .before .before .args .lookups .now) (λ i. omega (arith, c .before .before .before .before .before .before .before .before .before .before .before .before .before .before .before .before .before .before .before .before .before .before .before .before .before .before .before .before .before .before .shared-slice-known3 .given i))) (c .before .before .before .before .before .before .cut-maps .ensures)
+returns-5 c = (few-lookups (c .before .before .before .before .before .before .before .before .before .before .before .before .before .before .before .before .before .before .before .before .before .before .before .before .pre .0) (c .before .before .before .before .before .before .before .before .before .before .before .before .note-covered .ensures) (c .before .before .before .before .before .before .before .before .if3 .left) (c .before .before .before .before .lay .ensures) (c .if5 .taken), refl)
+
+cut-noted-requires : tie.Need-cut-noted-requires
+cut-noted-requires c κs =
+    may-cut (c .before .before .before .before .before .before .before .before .before .before .before .before .before .before .before .before .before .before .before .before .before .before .before .before .before .before .before .pre .0) (c .before .before .before .before .before .before .before .before .before .before .before .before .before .before .before .note-covered .ensures) (c .before .before .before .before .before .before .before .before .before .before .before .if3 .left) (c .before .before .before .before .before .before .before .lay .ensures) (c .before .before .before .if5 .left) (bytes-all (c .before .before .before .before .before .before .before .before .before .before .before .before .before .before .before .before .before .before .before .before .before .before .before .before .before .before .before .args .src .now) (λ i. omega (arith, c .before .before .before .before .before .before .before .before .before .before .before .before .before .before .before .before .before .before .before .before .before .before .before .before .before .before .shared-slice-known .given i))) (bytes-all (c .before .before .before .before .before .before .before .before .before .before .before .before .before .before .before .before .before .before .before .before .before .before .before .before .before .before .before .args .glyphs .now) (λ i. omega (arith, c .before .before .before .before .before .before .before .before .before .before .before .before .before .before .before .before .before .before .before .before .before .before .before .before .before .shared-slice-known2 .given i)))
+    (c .before .before .before .before .before .before .before .before .before .before .before .before .before .before .before .before .before .before .before .before .word-at .ensures .0) (c .before .before .before .before .before .before .before .before .before .before .before .before .before .before .before .before .before .before .before .if1 .left) (c .before .before .before .before .before .before .before .before .before .before .before .before .before .before .before .before .before .before .input-at .ensures) (c .before .before .before .before .before .before .before .before .before .before .before .before .before .before .before .before .before .if2 .left) (c .before .before .before .before .before .before .before .before .before .if4 .left) (c .before .before .before .before .before .before .before .before .before .before .before .before .before .before .before .before .before .before .before .before .before .before .before .before .before .before .before .pre .1) (c .before .before .before .before .before .before .before .before .before .before .before .before .before .before .before .before .before .before .before .before .before .before .before .before .before .before .before .pre .2)
+
+returns-6 : tie.Need-returns-6
+returns-6 c =
+    lookups-cut (c .before .before .before .before .before .before .before .before .before .before .before .before .before .before .before .before .before .before .before .before .before .before .before .before .before .before .before .before .before .before .before .before .before .before .pre .0) (c .before .before .before .before .before .before .before .before .before .before .before .before .before .before .before .before .before .before .before .before .before .before .note-covered .ensures) (c .before .before .before .before .before .before .before .before .before .before .before .before .before .before .before .before .before .before .if3 .left) (c .before .before .before .before .before .before .before .before .before .before .before .before .before .before .lay .ensures) (c .before .before .before .before .before .before .before .before .before .before .if5 .left) _ _ _ (bytes-all (c .before .before .before .before .before .before .before .before .before .before .before .before .before .before .before .before .before .before .before .before .before .before .before .before .before .before .before .before .before .before .before .before .before .before .args .lookups .now) (λ i. omega (arith, c .before .before .before .before .before .before .before .before .before .before .before .before .before .before .before .before .before .before .before .before .before .before .before .before .before .before .before .before .before .before .before .shared-slice-known3 .given i))) (c .before .before .before .before .before .before .cut-noted .ensures)
 
 pub cut-in-spec : {M : Type 1} → statement M
 cut-in-spec =
@@ -40,15 +56,18 @@ cut-in-spec =
     returns
     (λ c κs. search needs)
     returns-2
-    (λ c κs. search needs)
+    note-covered-requires
     (λ c. search needs)
     returns-3
-    add-lay-glyphs
-    lay-glyphs-requires
     (λ c. search needs)
     returns-4
-    cut-maps-requires
+    slice-relend-prefix-lay
+    slice-aggregate-lay
+    (λ c κs. search needs)
+    (λ c. search needs)
+    returns-5
+    cut-noted-requires
     (λ c. search needs)
     (λ c. search needs)
     (λ c. search needs)
-    returns-5)
+    returns-6)

@@ -1,4 +1,4 @@
-use Rattle.class_maps.proofs.Covering.{Covering, covering-all, covering-list, covering-inside, covering-low, covering-next, covering-end}
+use Rattle.class_maps.proofs.Covering.{Covering, covering-all, covering-list, covering-inside, covering-next, covering-end}
 use borrow.Author.Needs.{needs}
 use Prim.Native.Nat.{_+_, _-_}
 use native.Mathlib.Omega.{arith}
@@ -6,10 +6,10 @@ use Rattle.class_maps.proofs.mark_met.Statement.{statement}
 use Rattle.class_maps.proofs.mark_met.Tie as tie
 
 abbrev Inv-loop : tie.InvT-loop
-Inv-loop t₀ noted n list len m k₀ j₀ t k j = Covering t₀ t m noted n list len k j
+Inv-loop t₀ noted n list len marks k₀ j₀ t k j = Covering t₀ t noted n list len marks k j
 
 abbrev μ-loop : tie.MeasureT-loop
-μ-loop t₀ noted n list len m k₀ j₀ t k j = n - j
+μ-loop t₀ noted n list len marks k₀ j₀ t k j = n - j
 
 loop-holds : tie.Need-loop-holds Inv-loop μ-loop
 loop-holds c = covering-all (c .before .pre)
@@ -32,23 +32,11 @@ pass-below-requires c κs = let i = c .before .before .before .loop .inv in (cov
 class-at-requires : tie.Need-class-at-requires Inv-loop μ-loop
 class-at-requires c κs = covering-list (c .before .before .before .before .before .loop .inv)
 
-mul-t : tie.Need-mul-t Inv-loop μ-loop
-mul-t c = let i = c .before .before .before .before .before .before .loop .inv in omega (arith, covering-low i (c .before .before .before .before .before .loop-test .taken) (c .before .before .pass-below .ensures) (c .class-at .ensures), i .direct .few)
-
-cast-t : tie.Need-cast-t Inv-loop μ-loop
-cast-t c = let i = c .before .before .before .before .before .before .loop .inv in omega (arith, covering-low i (c .before .before .before .before .before .loop-test .taken) (c .before .before .pass-below .ensures) (c .class-at .ensures), i .direct .few)
-
-add-t : tie.Need-add-t Inv-loop μ-loop
-add-t c = let i = c .before .before .before .before .before .before .before .loop .inv in omega (arith, covering-low i (c .before .before .before .before .before .before .loop-test .taken) (c .before .before .before .pass-below .ensures) (c .before .class-at .ensures), i .direct .inside .within, i .kept .size, c .before .before .before .before .before .before .before .before .before .good)
-
-mul-t-2 : tie.Need-mul-t-2 Inv-loop μ-loop
-mul-t-2 c = let i = c .before .before .before .before .before .before .before .loop .inv in omega (arith, covering-low i (c .before .before .before .before .before .before .loop-test .taken) (c .before .before .before .pass-below .ensures) (c .before .class-at .ensures), i .direct .inside .within, i .kept .size, c .before .before .before .before .before .before .before .before .before .good)
-
-slice-write-t : tie.Need-slice-write-t Inv-loop μ-loop
-slice-write-t c = let i = c .before .before .before .before .before .before .before .loop .inv in omega (arith, covering-low i (c .before .before .before .before .before .before .loop-test .taken) (c .before .before .before .pass-below .ensures) (c .before .class-at .ensures), i .direct .inside .within)
+put-bit-requires : tie.Need-put-bit-requires Inv-loop μ-loop
+put-bit-requires c κs = c .before .before .before .before .before .before .before .loop .inv .able .near
 
 loop-again : tie.Need-loop-again Inv-loop μ-loop
-loop-again c = covering-next (c .before .before .before .before .before .before .before .loop .inv) (c .before .before .before .before .before .before .loop-test .taken) (c .before .before .before .pass-below .ensures) (c .before .class-at .ensures)
+loop-again c = covering-next (c .before .before .before .before .before .before .before .before .before .before .loop .inv) (c .before .before .before .before .before .before .before .before .before .loop-test .taken) (c .before .before .before .before .before .before .pass-below .ensures) (c .before .before .before .before .class-at .ensures) (c .before .before .put-bit .ensures)
 
 same-length : tie.Need-same-length Inv-loop μ-loop
 same-length c = c .before .loop .inv .kept .size
@@ -69,11 +57,7 @@ mark-met-spec =
     cast-new
     pass-below-requires
     class-at-requires
-    mul-t
-    cast-t
-    add-t
-    mul-t-2
-    slice-write-t
+    put-bit-requires
     (λ c. search needs)
     (λ c. search needs)
     loop-again

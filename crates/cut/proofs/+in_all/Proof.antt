@@ -6,8 +6,9 @@ use lib.ListN.{length}
 use borrow.Author.Needs.{needs}
 use borrow.Fn.Kinds.{In}
 use borrow.Fn.PlainCycle.{Measures, is, falls, and}
+use Rattle.room.specs.Laid.{enoughArea}
 use Rattle.cut.proofs.Sizes.{cleared, cleared-length, all-cells, all-bytes, never-short}
-use Rattle.cut.specs.Cutting.{classCells, enoughBytes}
+use Rattle.cut.specs.Cutting.{classCells}
 use Rattle.cut.proofs.cut_in.Reads as cut-in-reads
 use Rattle.cut.proofs.in_all.Reads as in-all
 use Rattle.cut.proofs.in_all.Kinds as in-all-kinds
@@ -39,7 +40,7 @@ returns : (t : ℕ) → in-all-lts.Need-returns-2 (in-all-below t, in-all.Post, 
 returns t c =
     let k = c .before .before .before .before in
     let a = k .before .before .before .before .before .before .before .before .before in
-    never-short (a .args .marks .kind) (a .args .src .now) (length (cleared classCells)) (length (cleared enoughBytes)) (all-cells (a .args .marks .kind) (a .args .src .now)) all-bytes (k .cut-in .ensures)
+    never-short (a .args .marks .kind) (a .args .src .now) (length (cleared classCells)) (length (cleared enoughArea)) (all-cells (a .args .marks .kind) (a .args .src .now)) all-bytes (k .cut-in .ensures)
 
 pub +in-all-spec : {M : Type 1} → statement M
 +in-all-spec =
@@ -50,7 +51,7 @@ pub +in-all-spec : {M : Type 1} → statement M
     (λ c. search needs)
     (λ c. search needs)
     (λ c. sym (cleared-length classCells))
-    (λ c. sym (cleared-length enoughBytes))
+    (λ c. sym (cleared-length enoughArea))
     (cut-in-requires t)
     (λ c. c .before .out2 .given)
     (returns t))

@@ -6,8 +6,9 @@ use lib.ListN.{length}
 use borrow.Author.Needs.{needs}
 use borrow.Fn.Kinds.{In}
 use borrow.Fn.PlainCycle.{Measures, is, falls, and}
+use Rattle.room.specs.Laid.{enoughArea}
 use Rattle.cut.proofs.Sizes.{cleared, cleared-length, other-cells, all-bytes, never-short}
-use Rattle.cut.specs.Cutting.{otherCells, enoughBytes}
+use Rattle.cut.specs.Cutting.{otherCells}
 use Rattle.cut.proofs.cut_in.Reads as cut-in-reads
 use Rattle.cut.proofs.in_all_but_classes.Reads as in-all-but-classes
 use Rattle.cut.proofs.in_all_but_classes.Kinds as in-all-but-classes-kinds
@@ -39,7 +40,7 @@ returns : (t : ℕ) → in-all-but-classes-lts.Need-returns-2 (in-all-but-classe
 returns t c =
     let k = c .before .before .before .before in
     let a = k .before .before .before .before .before .before .before .before .before in
-    never-short (a .args .marks .kind) (a .args .src .now) (length (cleared otherCells)) (length (cleared enoughBytes)) (other-cells (a .args .marks .kind) (a .args .src .now) (a .pre .1 .1)) all-bytes (k .cut-in .ensures)
+    never-short (a .args .marks .kind) (a .args .src .now) (length (cleared otherCells)) (length (cleared enoughArea)) (other-cells (a .args .marks .kind) (a .args .src .now) (a .pre .1 .1)) all-bytes (k .cut-in .ensures)
 
 pub +in-all-but-classes-spec : {M : Type 1} → statement M
 +in-all-but-classes-spec =
@@ -50,7 +51,7 @@ pub +in-all-but-classes-spec : {M : Type 1} → statement M
     (λ c. search needs)
     (λ c. search needs)
     (λ c. sym (cleared-length otherCells))
-    (λ c. sym (cleared-length enoughBytes))
+    (λ c. sym (cleared-length enoughArea))
     (cut-in-requires t)
     (λ c. c .before .out2 .given)
     (returns t))
