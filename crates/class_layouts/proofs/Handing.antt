@@ -15,13 +15,14 @@ use Rattle.meaning.specs.Tables.{dropNull}
 use Rattle.meaning.specs.Layout.{blocks}
 use Rattle.meaning.specs.Packed.{firstOfEach, together}
 use Rattle.laws.specs.PackedReading.{sharedBlocks}
+use Rattle.repeats.specs.Book.{bookCells}
 use Rattle.repeats.specs.Shared.{blocksIn}
 use Rattle.meaning.specs.Subset.{Outcome, refused}
 use Rattle.room.specs.Laid.{enoughArea, laidAs, laid-unfit}
 use Rattle.area.specs.Part.{part}
 use Rattle.class_maps.specs.SlotWalk.{trim-words}
 use Rattle.class_slots.specs.Sets.{slotsAt, slots-near}
-use Rattle.class_slots.specs.Slots.{bookCells, slotBlocks, blocks-many, Noted, Filled, WroteSlots}
+use Rattle.class_slots.specs.Slots.{slotBlocks, blocks-many, Noted, Filled, WroteSlots}
 use Rattle.class_slots.specs.declared.Slots.{Slots}
 use Rattle.tried.specs.Tries.{Tries}
 use Rattle.tried.specs.declared.Tried.{Tried}

@@ -8,8 +8,8 @@ use lib.Dec.{eqb}
 use Rattle.meaning.specs.Cut.{trim}
 use Rattle.meaning.specs.Subset.{Outcome, refused}
 use Rattle.room.specs.Laid.{enoughArea}
-use Rattle.repeats.specs.Book.{packs}
-use Rattle.class_slots.specs.Slots.{bookCells, Ready, slotBlocks}
+use Rattle.repeats.specs.Book.{bookCells, packs}
+use Rattle.class_slots.specs.Slots.{Ready, slotBlocks}
 use Rattle.tried.specs.Tries.{Tries}
 use Rattle.tried.specs.declared.Tried.{Tried}
 use Rattle.class_tail.specs.Tail.{coverOf, tableBlocks, TailIn}

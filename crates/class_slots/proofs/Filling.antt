@@ -9,12 +9,12 @@ use lib.ListN.{length, take, length-append}
 use Rattle.meaning.specs.Cut.{trim}
 use Rattle.room.specs.Laid.{enoughArea}
 use Rattle.repeats.specs.Shared.{blocksIn}
-use Rattle.repeats.specs.Book.{packs, inBook, Booked}
+use Rattle.repeats.specs.Book.{bookCells, packs, inBook, Booked}
 use Rattle.rule_sets.specs.Left.{mapsIn}
 use Rattle.rule_sets.specs.declared.Maps.{Maps}
 use Rattle.class_maps.specs.SlotWalk.{Slotting, slotting-all, slotting-said, slotting-null, slotting-set, slotting-end}
 use Rattle.class_slots.specs.Sets.{setLeft, wordsIn}
-use Rattle.class_slots.specs.Slots.{Noted, bookCells, setsFull}
+use Rattle.class_slots.specs.Slots.{Noted, setsFull}
 use Rattle.class_slots.specs.Placing.{Gathered, PlacedSet}
 use Rattle.class_slots.specs.declared.Turn.{Turn}
 use Rattle.class_slots.proofs.Halves.{block-most, blocks-onward}

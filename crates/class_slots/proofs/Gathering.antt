@@ -18,9 +18,9 @@ use Rattle.laws.specs.Repeats.{has}
 use Rattle.area.specs.Extends.{Keeps, Extends, extends-none, extends-kept, extends-keeps, extends-stands}
 use Rattle.numbers.proofs.Fronts.{part-keeps, part-extends}
 use Rattle.repeats.specs.Shared.{blocksIn, known, placeIn, null-dropped, blocks-null, blocks-next, firsts-next}
-use Rattle.repeats.specs.Book.{packs, inBook, Booked, Repeated, Behind, Settled}
+use Rattle.repeats.specs.Book.{bookCells, packs, inBook, Booked, Repeated, Behind, Settled}
 use Rattle.repeats.specs.declared.Spot.{Spot}
-use Rattle.class_slots.specs.Slots.{Noted, bookCells}
+use Rattle.class_slots.specs.Slots.{Noted}
 use Rattle.class_slots.specs.Placing.{Gathered}
 use Rattle.class_slots.proofs.Noting.{noted-all, noted-null, noted-set}
 

@@ -14,14 +14,14 @@ use Rattle.meaning.specs.Cut.{cutSet}
 use Rattle.meaning.specs.Layout.{block, ruleWords, setWords}
 use Rattle.room.specs.Laid.{enoughArea}
 use Rattle.repeats.specs.Shared.{blocksIn}
-use Rattle.repeats.specs.Book.{packs, Begun}
+use Rattle.repeats.specs.Book.{bookCells, packs, Begun}
 use Rattle.bits.specs.Bits.{marked}
 use Rattle.rule_sets.specs.Left.{mapsIn}
 use Rattle.rule_sets.specs.declared.Maps.{Maps}
 use Rattle.class_maps.specs.Present.{present, present-in}
 use Rattle.class_maps.specs.SlotWalk.{slotsFrom, walk-one, walk-none, walk-end}
 use Rattle.class_slots.specs.Sets.{slotsAt, slots-near, countAt, setPlace, setLeft, SetSound, Asked, place-slot}
-use Rattle.class_slots.specs.Slots.{bookCells, setsFull, markedOf, setsIn, slotBlocks, Ready, WroteSlots, blocks-many, present-few, marked-member}
+use Rattle.class_slots.specs.Slots.{setsFull, markedOf, setsIn, slotBlocks, Ready, WroteSlots, blocks-many, present-few, marked-member}
 use Rattle.class_slots.specs.Placing.{SetAsked}
 use Rattle.class_slots.specs.declared.Classes.{Classes}
 use Rattle.class_slots.specs.declared.Slots.{Slots}

@@ -11,12 +11,12 @@ use Rattle.meaning.specs.Subset.{limit}
 use Rattle.laws.specs.Stands.{All, Word}
 use Rattle.room.specs.Laid.{enoughArea}
 use Rattle.repeats.specs.Shared.{blocksIn, known}
-use Rattle.repeats.specs.Book.{packs, inBook, Booked, Behind, Settled}
+use Rattle.repeats.specs.Book.{bookCells, packs, inBook, Booked, Behind, Settled}
 use Rattle.repeats.specs.declared.Spot.{Spot}
 use Rattle.rule_sets.specs.Left.{AllInside, mapsIn}
 use Rattle.rule_sets.specs.declared.Maps.{Maps}
 use Rattle.class_slots.specs.Sets.{setLeft, wordsIn, SetSound}
-use Rattle.class_slots.specs.Slots.{Noted, bookCells, setsFull}
+use Rattle.class_slots.specs.Slots.{Noted, setsFull}
 use Rattle.class_slots.specs.declared.Turn.{Turn}
 
 -- The blocks so far, sets or class tables: their slots are noted, and those that are written are in the book, if it is for packed ones; then their words fit, and each has two.

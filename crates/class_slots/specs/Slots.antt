@@ -43,10 +43,6 @@ pub record Noted (packed : Bool) (slots first : ℕ) (bs : List (Option (List �
   pub noted : part area slots (2 * length bs) ≡ flat (halvesIn packed bs)
   pub laid : part area first (2 * length (blocksIn packed bs)) ≡ flat (blocksIn packed bs)
 
--- the cells of a book that is enough for the sets: none has less than two words, and none starts more than 65,535 bytes behind the first
-abbrev pub bookCells : ℕ
-bookCells = 32769
-
 -- where the sets take so many bytes, the coverage that stands behind them has an offset that doesn't fit a word
 abbrev pub setsFull : ℕ
 setsFull = 65526

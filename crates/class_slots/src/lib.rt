@@ -20,9 +20,9 @@ ghost use Rattle.meaning.specs.Subset.{limit};
 ghost use Rattle.numbers.specs.Leaves.{Leaves};
 ghost use Rattle.member_sets.specs.Dead.{Dead};
 ghost use Rattle.rule_sets.specs.Left.{AllInside, mapsIn, ruleLeft};
-ghost use Rattle.repeats.specs.Book.{packs};
+ghost use Rattle.repeats.specs.Book.{bookCells, packs};
 ghost use Rattle.class_slots.specs.Sets.{slotsAt, setPlace, setLeft, setMost, SetSound, Asked};
-ghost use Rattle.class_slots.specs.Slots.{bookCells, settled, Ready, WroteSlots};
+ghost use Rattle.class_slots.specs.Slots.{settled, Ready, WroteSlots};
 ghost use Rattle.class_slots.specs.Placing.{SetAsked, PlacedSet, SpotAsked, PlacedSpot};
 
 // How many slots there are up to the last that is not null, and the place after the sets; more than the length of the area, where there is no room.

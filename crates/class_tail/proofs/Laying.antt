@@ -16,8 +16,8 @@ use Rattle.area.specs.Part.{part, part-length, news}
 use Rattle.area.specs.Stored.{extends-store}
 use Rattle.numbers.proofs.Fronts.{part-extends}
 use Rattle.repeats.specs.Shared.{offsetsIn, blocksIn}
-use Rattle.repeats.specs.Book.{packs, Begun}
-use Rattle.class_slots.specs.Slots.{settled, bookCells, Noted}
+use Rattle.repeats.specs.Book.{bookCells, packs, Begun}
+use Rattle.class_slots.specs.Slots.{settled, Noted}
 use Rattle.class_slots.specs.Placing.{Gathered}
 use Rattle.class_slots.specs.declared.Turn.{Turn}
 use Rattle.class_slots.proofs.Halves.{offsets-many}

@@ -13,9 +13,9 @@ use Rattle.meaning.specs.Words.{flat, threes, keys, ascends}
 use Rattle.meaning.specs.Layout.{runs, indexed, coverageWords, classWords, wordsFit}
 use Rattle.laws.specs.Stands.{All, Word, threes-length}
 use Rattle.repeats.specs.Shared.{offsetsIn, blocksIn}
-use Rattle.repeats.specs.Book.{packs}
+use Rattle.repeats.specs.Book.{bookCells, packs}
 use Rattle.class_slots.specs.Sets.{slotsAt}
-use Rattle.class_slots.specs.Slots.{bookCells, Noted}
+use Rattle.class_slots.specs.Slots.{Noted}
 use Rattle.class_slots.specs.Placing.{Gathered, TurnIn}
 use Rattle.class_slots.specs.declared.Turn.{Turn}
 use Rattle.laws.specs.Runs.{indexed-length}

@@ -14,8 +14,7 @@ ghost use mathlib.Core.Path.{_≡_};
 ghost use mathlib.Core.Bool.{true};
 ghost use Prim.Native.Nat.{_+_, _≤_, _<_};
 ghost use lib.ListN.{length};
-ghost use Rattle.repeats.specs.Book.{packs};
-ghost use Rattle.class_slots.specs.Slots.{bookCells};
+ghost use Rattle.repeats.specs.Book.{bookCells, packs};
 ghost use Rattle.class_tail.specs.Tail.{coverOf, tableBlock, tableBlocks, TailIn, TableAsked, PlacedTable, NotedTables, LaidTables, Lays, Places, TablesAsked};
 
 // Cells in a row: where the first stands, and how many there are.

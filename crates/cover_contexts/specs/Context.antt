@@ -16,7 +16,7 @@ use Rattle.fold.specs.Cells.{Inside}
 use Rattle.fold.specs.declared.Map.{Map}
 use Rattle.area.specs.Extends.{Extends}
 use Rattle.numbers.specs.Entries.{entriesIn}
-use Rattle.repeats.specs.Book.{packs, inBook, Booked}
+use Rattle.repeats.specs.Book.{bookCells, packs, inBook, Booked}
 use Rattle.cover_rows.specs.Behind.{offsetsBehind, blocksBehind}
 use Rattle.cover_rows.specs.Rows.{rowLeft, Ready, Bounds}
 use Rattle.cover_rows.specs.Parts.{recordsAt, IsContext}
@@ -88,7 +88,7 @@ pub record Asks (chained : Bool) (s : List ℕ) (r : CoverParts) (glyphs : List 
 -- the book has no coverage yet; if it is for packed ones, then it has room for as many as can be kept
 pub record Begins (book : List ℕ) : Type 0 where
   pub empty : (left : ℕ → Option (List ℕ)) → Booked left (inBook (packs book) []) book
-  pub room : packs book ≡ true → 32769 ≤ length book
+  pub room : packs book ≡ true → bookCells ≤ length book
 
 -- the context is written, under the lookup map that the cells of l hold
 pub record Writes (packed chained : Bool) (s : List ℕ) (r : CoverParts) (glyphs : List ℕ) (h : Held) (l : Map) (t before after : List ℕ) (end : ℕ) : Type 0 where

@@ -140,10 +140,10 @@ module _ {form : ℕ} {s : List ℕ} {cover : ℕ} {glyphs : List ℕ} {m : Map}
   over-gone h = passes-gone (glyphEntries form glyphs) (coverage s cover) p (sym e ∙ h)
 
 -- the blocks of a book, each of two words or more, have at least twice as many words
-listed-long : (left : ℕ → Option (List ℕ)) → ((x : ℕ) (d : List ℕ) → left x ≡ some d → 2 ≤ length d) → (book : List ℕ) (i : ℕ) (ds : List (List ℕ)) → Listed left book i ds → 2 * length ds ≤ length (together ds)
+listed-long : (left : ℕ → Option (List ℕ)) → ((x : ℕ) (d : List ℕ) → left x ≡ some d → 2 ≤ length d) → (book : List ℕ) (i w : ℕ) (ds : List (List ℕ)) → Listed left book i w ds → 2 * length ds ≤ length (together ds)
 unfolding together
-listed-long left f book i [] h = omega arith
-listed-long left f book i (d ∷ ds) h = omega (arith, f _ d (h .2), listed-long left f book (i + 2) ds (h .3), length-append d (together ds))
+listed-long left f book i w [] h = omega arith
+listed-long left f book i w (d ∷ ds) h = omega (arith, f _ d (h .1), listed-long left f book (i + 1) (w + length d) ds (h .2), length-append d (together ds))
 
 -- Where a block stands that was written.
 module _ {area : List ℕ} {slot : Slot} {at : Places} {q : ℕ} {book₀ book : List ℕ} {spot : Spot} (a : Placing area slot at q book₀) (s : Settled area (at .first) (at .pos) q (slot .cover) book₀ book spot) where
@@ -291,10 +291,10 @@ module _ {s : List ℕ} {slot : Slot} {glyphs : List ℕ} {h : Held} {t area : L
 
           module _ (pre : List (Option (List ℕ))) (st : Stood (packs book) source (at .first) pre area (at .pos) book) where
             -- they are few, since each has two words or more
-            few-stand : packs book ≡ true → at .pos ≤ at .first + 65535 → 2 * length (inBook true pre) ≤ 32766
+            few-stand : packs book ≡ true → at .pos ≤ at .first + 65535 → length (inBook true pre) ≤ 16383
             unfolding sharedBlocks
             few-stand e n =
-                let ls = listed-long source (λ x b f. left-long g (coverage s x) f) book 1 (inBook true pre) (subst (λ (b : Bool). Listed source book 1 (inBook b pre)) e (st .booked .listed)) in
+                let ls = listed-long source (λ x b f. left-long g (coverage s x) f) book 1 0 (inBook true pre) (subst (λ (b : Bool). Listed source book 1 0 (inBook b pre)) e (st .booked .listed)) in
                 let p : at .pos ≡ at .first + 2 * length (blocksIn true pre) = subst (λ (b : Bool). at .pos ≡ at .first + 2 * length (blocksIn b pre)) e (st .laid .place) in
                 omega (arith, ls, p)
 

@@ -22,7 +22,7 @@ use Rattle.fold.specs.declared.Map.{Map}
 use Rattle.area.specs.Extends.{Extends}
 use Rattle.meet_runs.specs.Either.{mostNotes}
 use Rattle.repeats.specs.Shared.{offsetsIn, blocksIn, placeIn}
-use Rattle.repeats.specs.Book.{packs, inBook, Booked, Behind}
+use Rattle.repeats.specs.Book.{bookCells, packs, inBook, Booked, Behind}
 use Rattle.cover_rows.specs.Behind.{offsetsBehind, blocksBehind}
 use Rattle.cover_rows.specs.declared.Row.{Row}
 use Rattle.cover_rows.specs.declared.Places.{Places}
@@ -122,7 +122,7 @@ pub record Ready (glyphs : List ℕ) (h : Held) (t : List ℕ) : Type 0 where
 pub record Standing (left : ℕ → Option (List ℕ)) (at : Places) (area book : List ℕ) : Type 0 where
   pub pre : List (Option (List ℕ))
   pub stood : at .pos ≤ length area → Stood (packs book) left (at .first) pre area (at .pos) book
-  pub room : packs book ≡ true → 32769 ≤ length book
+  pub room : packs book ≡ true → bookCells ≤ length book
 
 -- what is asked where a coverage is written: it is sound, behind the map's cells there is one cell more than glyphs that can be noted, its offset's place lies in the area, before the blocks, and no scratch is over 4 GB
 pub record WritesSlot (s : List ℕ) (slot : Slot) (glyphs : List ℕ) (h : Held) (t area : List ℕ) (at : Places) (book : List ℕ) : Type 0 where

@@ -32,7 +32,7 @@ use Rattle.tried.specs.declared.Tried.{Tried}
 use Rattle.tried.specs.declared.Tried.the-variants.{FewCells, Short, Became}
 use Rattle.numbers.specs.Entries.{entriesIn}
 use Rattle.numbers.specs.Alike.{holds-alike, records-alike}
-use Rattle.repeats.specs.Book.{packs, Begun}
+use Rattle.repeats.specs.Book.{bookCells, packs, Begun}
 use Rattle.cover_rows.specs.Rows.{wordsLeft, blockLeft, blocksLeft, MostRow}
 use Rattle.cover_rows.specs.Parts.{coversAt, recordsAt, IsContext}
 use Rattle.cover_contexts.specs.Context.{coversWords, contextLeft, offsetsFit, contextFit, Settles, MostNotes, Asks, Begins, Writes}
@@ -159,7 +159,7 @@ most-of k l m = record {
 }
 
 -- a book that was made for a layout
-pub begins-new : {book after : List ℕ} → Begun book after → (1 < length book → 32769 ≤ length book) → Begins after
+pub begins-new : {book after : List ℕ} → Begun book after → (1 < length book → bookCells ≤ length book) → Begins after
 begins-new {after = after} b h = record { empty = b .empty; room = λ k. omega (arith, h (omega (arith, ltb-true 1 (length after) k, b .same)), b .same) }
 
 -- what it is for

@@ -15,7 +15,7 @@ use Rattle.area.specs.Extends.{Extends}
 use Rattle.area.specs.Part.{part, news, notes, oldAt}
 use Rattle.area.specs.Closed.{members}
 use Rattle.repeats.specs.Shared.{offsetsIn, blocksIn}
-use Rattle.repeats.specs.Book.{packs, inBook, Booked}
+use Rattle.repeats.specs.Book.{bookCells, packs, inBook, Booked}
 use Rattle.kept_sets.specs.Sorts.{headerSize, setFaultOf, leftIn, AllBefore}
 use Rattle.kept_sets.specs.declared.Sort.{Sort}
 use Rattle.rule_sets.specs.Left.{AllInside}
@@ -46,7 +46,7 @@ pub record Placed (packed : Bool) (slots first : ℕ) (bs : List (List ℕ)) (ar
 
 -- a book for packed sets has room for as many as can start up to 65,535 bytes behind the first
 abbrev pub Roomy : List ℕ → Type 0
-Roomy book = packs book ≡ true → 32769 ≤ length book
+Roomy book = packs book ≡ true → bookCells ≤ length book
 
 -- They stand, and they are in the book, if they are packed: then their words fit, and none has less than two.
 pub record Standing (left : ℕ → Option (List ℕ)) (slots first : ℕ) (bs : List (List ℕ)) (area book : List ℕ) (end : ℕ) : Type 0 where

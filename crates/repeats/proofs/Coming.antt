@@ -1,5 +1,5 @@
 -- Blocks that came from a place of the source: where the one of the book stands that came from there.
-use Prim.Native.Nat.{ℕ, _+_, _*_, _%_, _≤_, _<_}
+use Prim.Native.Nat.{ℕ, zero, suc, _+_, _*_, _/_, _%_, _<_}
 use mathlib.Core.Path.{_≡_, refl, sym, ap, _∙_}
 use mathlib.Core.Bool.{Bool, true, false, cond, _||_, true≢false}
 use mathlib.Core.Option.{Option, some}
@@ -11,10 +11,10 @@ use Rattle.meaning.specs.Tables.{dropNull}
 use Rattle.meaning.specs.Packed.{without, firstOfEach, offsetIn}
 use Rattle.laws.specs.Repeats.{list-same, same-list, has}
 use Rattle.repeats.specs.Shared.{known, placeIn, firsts-next}
-use Rattle.repeats.specs.Book.{packs, inBook, Listed, Booked, Repeated, Again}
+use Rattle.repeats.specs.Book.{packs, inBook, Listed, wordsBefore, Leads, Booked, Repeated, Again}
 
 -- no block is equal to a later one
-abbrev Different : List (List ℕ) → Type 0
+abbrev pub Different : List (List ℕ) → Type 0
 Different [] = Unit {0}
 Different (d ∷ ds) = (has d ds ≡ false) × Different ds
 
@@ -78,66 +78,57 @@ repeated-in {left} bs d {book} {first} {source} {r} k h o f =
         let same : inBook true (bs ++ (some d ∷ [])) ≡ inBook true bs = firsts-next true 0 bs d ∙ rw h (append-nil (firstOfEach (dropNull bs))) in
         (rw h o, h, rw (sym same) at k)
 
-module _ (book : List ℕ) (first source : ℕ) where
-  -- what is left of the blocks `ds` at the i-th one, which would stand at `at`: one that is among them has its offset
-  pub record Later (left : ℕ → Option (List ℕ)) (ds : List (List ℕ)) (at i : ℕ) : Type 0 where
-    pub blocks : List (List ℕ)
-    pub many : i + length blocks ≡ length ds
-    pub listed : Listed left book (1 + 2 * i) blocks
-    pub different : Different blocks
-    pub among : (x : List ℕ) → has x blocks ≡ true → (has x ds ≡ true) × (offsetIn at blocks x ≡ offsetIn first ds x)
+-- the offset of a block, by the words before it
+pub offset-words : (p : ℕ) (ds : List (List ℕ)) (b : List ℕ) → has b ds ≡ true → offsetIn p ds b ≡ p + 2 * wordsBefore ds b
+unfolding has offsetIn wordsBefore
+offset-words p [] b h = absurd (true≢false (sym h))
+offset-words p (d ∷ ds) b h = step (eqList d b) h (offset-words (p + 2 * length d) ds b)
+  where
+    step : (t : Bool) → t || has b ds ≡ true → (has b ds ≡ true → offsetIn (p + 2 * length d) ds b ≡ p + 2 * length d + 2 * wordsBefore ds b)
+        → cond t p (offsetIn (p + 2 * length d) ds b) ≡ p + 2 * cond t 0 (length d + wordsBefore ds b)
+    step true e i = omega arith
+    step false e i = omega (arith, i e)
 
-  pub record Passing (at i : ℕ) : Type 0 where
-    pub near : at ≤ first + 0x2_0000_0000 * i
-    pub later : {left : ℕ → Option (List ℕ)} {ds : List (List ℕ)} → Booked left ds book → Different ds → Later left ds at i
+-- a cell that leads to one of the blocks of the book, from this place
+pub found-leading : {book : List ℕ} {first source c : ℕ} → ((left : ℕ → Option (List ℕ)) (ds : List (List ℕ)) → Booked left ds book → Different ds → Leads left ds c) → c % 65536 ≡ source → Again book first source (first + 2 * (c / 65536))
+found-leading {book} {first} {source} {c} h e = record { found = λ {left} bs k z. there left bs k (h left (inBook (packs book) bs) k (book-different (packs book) bs)) }
+  where
+    there : (left : ℕ → Option (List ℕ)) (bs : List (Option (List ℕ))) → Booked left (inBook (packs book) bs) book → Leads left (inBook (packs book) bs) c → Repeated left bs book first source (first + 2 * (c / 65536))
+    there left bs k g = repeated-in bs (g .words) k (g .among) (ap (λ (n : ℕ). first + 2 * n) (g .before) ∙ sym (offset-words first (inBook (packs book) bs) (g .words) (g .among))) (ap left (sym e) ∙ g .is)
 
-  pub passing-all : Passing first 0
-  passing-all = record { near = omega arith; later = λ {left} {ds} k d. record { blocks = ds; many = omega arith; listed = k .listed; different = d; among = λ x h. (h, refl) } }
+-- nothing is said where none does
+pub found-none : {book : List ℕ} {first source : ℕ} → Again book first source 0
+found-none = record { found = λ {left} bs k z. absurd (z refl) }
 
-  module _ {at i : ℕ} (c : Passing at i) (l : i < getD book 0 0) where
-    cells : 2 + 2 * i ≡ 1 + 2 * i + 1
-    cells = omega arith
+-- the j-th of blocks that stand behind `before` words, by its cell
+record Listing (left : ℕ → Option (List ℕ)) (ds : List (List ℕ)) (before c : ℕ) : Type 0 where
+  pub words : List ℕ
+  pub is : left (c % 65536) ≡ some words
+  pub among : has words ds ≡ true
+  pub behind : c / 65536 ≡ before + wordsBefore ds words
 
-    -- the i-th block came from there
-    pub passing-found : getD book (2 + 2 * i) 0 % 65536 ≡ source → Again book first source at
-    unfolding has offsetIn placeIn
-    passing-found e = record { found = λ {left} bs k z. let g = c .later k (book-different (packs book) bs) in step left bs k (g .blocks) (g .many ∙ sym (k .count)) (g .listed) (g .among) }
-      where
-        step : (left : ℕ → Option (List ℕ)) (bs : List (Option (List ℕ))) → Booked left (inBook (packs book) bs) book → (ds : List (List ℕ)) → i + length ds ≡ getD book 0 0 → Listed left book (1 + 2 * i) ds
-            → ((x : List ℕ) → has x ds ≡ true → (has x (inBook (packs book) bs) ≡ true) × (offsetIn at ds x ≡ offsetIn first (inBook (packs book) bs) x)) → Repeated left bs book first source at
-        step left bs k [] m g a = absurd (omega (arith, m))
-        step left bs k (d ∷ ds) m g a =
-            let w : left source ≡ some d = ap left (sym e ∙ ap (λ (j : ℕ). getD book j 0 % 65536) cells) ∙ g .2 in
-            let x = a d (ap (λ (t : Bool). t || has d ds) (same-list d)) in
-            let o : at ≡ offsetIn first (inBook (packs book) bs) d = sym (rw (same-list d) refl) ∙ x .1 in
-            repeated-in bs d k (x .0) o w
+apart : (b x : List ℕ) (ds : List (List ℕ)) → has b ds ≡ false → has x ds ≡ true → eqList b x ≡ false
+apart b x ds n h = ask (eqList b x) refl
+  where
+    ask : (t : Bool) → eqList b x ≡ t → t ≡ false
+    ask true e = absurd (true≢false (sym h ∙ ap (λ (y : List ℕ). has y ds) (sym (list-same b x e)) ∙ n))
+    ask false e = refl
 
-    pub passing-turn : {k : ℕ} → k ≡ getD book (1 + 2 * i) 0 → k < 0x1_0000_0000 → Passing (at + 2 * k) (i + 1)
-    unfolding has offsetIn
-    passing-turn {k} v f = record { near = omega (arith, c .near); later = λ {left} {ds} g d. step left ds (c .later g d .blocks) (c .later g d .many) (g .count) (c .later g d .listed) (c .later g d .different) (c .later g d .among) }
-      where
-        apart : (b x : List ℕ) (ds : List (List ℕ)) → has b ds ≡ false → has x ds ≡ true → eqList b x ≡ false
-        apart b x ds n h = ask (eqList b x) refl
-          where
-            ask : (t : Bool) → eqList b x ≡ t → t ≡ false
-            ask true e = absurd (true≢false (sym h ∙ ap (λ (y : List ℕ). has y ds) (sym (list-same b x e)) ∙ n))
-            ask false e = refl
+listing : (left : ℕ → Option (List ℕ)) (book : List ℕ) (i before : ℕ) (ds : List (List ℕ)) → Listed left book i before ds → Different ds → (j : ℕ) → j < length ds → Listing left ds before (getD book (i + j) 0)
+unfolding has wordsBefore
+listing left book i before [] l d j h = absurd (omega arith)
+listing left book i before (b ∷ ds) l d zero h =
+    let here : i + 0 ≡ i = omega arith in
+    rw here (record { words = b; is = l .1; among = rw (same-list b) refl; behind = l .0 ∙ rw (same-list b) (omega arith) })
+listing left book i before (b ∷ ds) l d (suc j) h =
+    let g = listing left book (i + 1) (before + length b) ds (l .2) (d .1) j (omega arith) in
+    let here : i + suc j ≡ i + 1 + j = omega arith in
+    let e = apart b (g .words) ds (d .0) (g .among) in
+    rw here (record { words = g .words; is = g .is; among = rw e (g .among); behind = g .behind ∙ rw e (omega arith) })
 
-        among-rest : (all : List (List ℕ)) (b : List ℕ) (ds : List (List ℕ)) (x : List ℕ) → has b ds ≡ false → length b ≡ k → has x ds ≡ true → (eqList b x || has x ds ≡ true → (has x all ≡ true) × (cond (eqList b x) at (offsetIn (at + 2 * length b) ds x) ≡ offsetIn first all x))
-            → (has x all ≡ true) × (offsetIn (at + 2 * k) ds x ≡ offsetIn first all x)
-        among-rest all b ds x n long h a =
-            let e = apart b x ds n h in
-            let r = a (rw e h) in
-            (r .0, ap (λ (j : ℕ). offsetIn (at + 2 * j) ds x) (sym long) ∙ sym (rw e refl) ∙ r .1)
-
-        step : (left : ℕ → Option (List ℕ)) (all ds : List (List ℕ)) → i + length ds ≡ length all → getD book 0 0 ≡ length all → Listed left book (1 + 2 * i) ds → Different ds
-            → ((x : List ℕ) → has x ds ≡ true → (has x all ≡ true) × (offsetIn at ds x ≡ offsetIn first all x)) → Later left all (at + 2 * k) (i + 1)
-        step left all [] m n g d a = absurd (omega (arith, m, n))
-        step left all (b ∷ ds) m n g d a =
-            let long : length b ≡ k = sym (g .0) ∙ sym v in
-            let next : 1 + 2 * i + 2 ≡ 1 + 2 * (i + 1) = omega arith in
-            record { blocks = ds; many = omega (arith, m); listed = rw next at (g .3); different = d .1; among = λ x h. among-rest all b ds x (d .0) long h (a x) }
-
--- nothing is said where no block came from there
-pub passing-end : {book : List ℕ} {first source : ℕ} → Again book first source 0
-passing-end = record { found = λ {left} bs k z. absurd (z refl) }
+-- the i-th block came from there
+pub found-among : {book : List ℕ} {first source c : ℕ} (i : ℕ) → i < getD book 0 0 → c ≡ getD book (1 + i) 0 → c % 65536 ≡ source → Again book first source (first + 2 * (c / 65536))
+found-among {book} {c = c} i l e = found-leading (λ left ds k d. leads (listing left book 1 0 ds (k .listed) d i (omega (arith, k .count))))
+  where
+    leads : {left : ℕ → Option (List ℕ)} {ds : List (List ℕ)} → Listing left ds 0 (getD book (1 + i) 0) → Leads left ds c
+    leads g = rw e (record { words = g .words; is = g .is; among = g .among; before = g .behind ∙ omega arith })

@@ -1,14 +1,14 @@
--- Words in a row: their sum, and whether they are those of another row.
-use Prim.Native.Nat.{ℕ, suc, _+_, _-_, _*_, _/_, _%_, _≤_, _<_}
+-- Words in a row: whether they are those of another row, and of a block of the book.
+use Prim.Native.Nat.{ℕ, suc, _+_, _-_, _*_, _/_, _≤_, _<_}
 use mathlib.Core.Path.{_≡_, refl, sym, ap, _∙_}
 use mathlib.Core.Bool.{Bool, true, false, _&&_}
 use mathlib.Core.List.{List, [], _∷_}
 use native.Mathlib.Omega.{arith}
-use lib.ListN.{length, getD}
+use lib.ListN.{getD}
 use lib.Dec.{eqb}
-use borrow.Author.Tests.{eq-eqb, ne-eqb}
+use borrow.Author.Tests.{eq-eqb, ne-eqb, lt-ltb, le-ltb}
 use Rattle.meaning.specs.Words.{word, words, eqList}
-use Rattle.repeats.specs.Book.{sumOf, alike}
+use Rattle.repeats.specs.Book.{startOf, alike}
 
 -- the words from the i-th one on
 module _ (s : List ℕ) (at n : ℕ) where
@@ -30,23 +30,6 @@ module _ (s : List ℕ) (at n : ℕ) where
   words-none i h =
       let e : n - i ≡ 0 = omega arith in
       rw e
-
--- the sum of those from the i-th on, begun with a, is the whole sum
-pub record Summing (s : List ℕ) (p n a i : ℕ) : Type 0 where
-  pub small : a < 65536
-  pub whole : sumOf a (words s (p + 2 * i) (n - i)) ≡ sumOf 0 (words s p n)
-
-module _ {s : List ℕ} {p n : ℕ} where
-  pub summing-all : Summing s p n 0 0
-  summing-all = record { small = omega arith; whole = ap (sumOf 0) (words-all s p n) }
-
-  pub summing-turn : {a i b w : ℕ} → Summing s p n a i → i < n → w ≡ word s (p + 2 * i) → b ≡ (31 * a + w) % 65536 → Summing s p n b (i + 1)
-  unfolding sumOf
-  summing-turn {a} {i} {b} {w} c h e f = record { small = omega (arith, f); whole = rw (f, e) (sym (ap (sumOf a) (words-left s p n i h)) ∙ c .whole) }
-
-  pub summing-end : {a i : ℕ} → Summing s p n a i → n ≤ i → (a ≡ sumOf 0 (words s p n)) × (a < 65536)
-  unfolding sumOf
-  summing-end {a} {i} c h = (sym (ap (sumOf a) (words-none s p n i h)) ∙ c .whole, c .small)
 
 -- those from the i-th on are the same exactly if all are
 abbrev pub Matching : List ℕ → ℕ → ℕ → ℕ → ℕ → Type 0
@@ -71,20 +54,28 @@ module _ (s : List ℕ) (a b n : ℕ) where
     unfolding eqList
     matching-end h = sym (rw (words-none s a n i h, words-none s b n i h) refl) ∙ c
 
--- a block of the book, by its length, its sum and its words
-module _ (area book : List ℕ) (i at p n s : ℕ) where
-  pub unlike-length : {k : ℕ} → k ≡ getD book (1 + 2 * i) 0 → (k ≡ n → ⊥) → false ≡ alike area book i at p n s
+-- where a block of the book starts, or where all of them end
+module _ (book : List ℕ) (first p i : ℕ) where
+  pub start-near : i < getD book 0 0 → startOf book first p i ≡ first + 2 * (getD book (1 + i) 0 / 65536)
+  unfolding startOf
+  start-near l = rw (lt-ltb i (getD book 0 0) l) refl
+
+  pub start-by : {c : ℕ} → c ≡ getD book (1 + i) 0 → i < getD book 0 0 → first + 2 * (c / 65536) ≡ startOf book first p i
+  start-by e l = ap (λ (x : ℕ). first + 2 * (x / 65536)) e ∙ sym (start-near l)
+
+  pub start-past : getD book 0 0 ≤ i → startOf book first p i ≡ p
+  unfolding startOf
+  start-past l = rw (le-ltb i (getD book 0 0) l) refl
+
+-- a block of the book, by where it starts and ends, and by its words
+module _ (area book : List ℕ) (first p n i : ℕ) {at end : ℕ} (e : at ≡ startOf book first p i) (f : end ≡ startOf book first p (i + 1)) where
+  pub unlike-length : (end ≡ at + 2 * n → ⊥) → false ≡ alike area book first p n i
   unfolding alike
-  unlike-length e z = rw (ne-eqb (getD book (1 + 2 * i) 0) n (λ q. z (e ∙ q))) refl
+  unlike-length z = rw (ne-eqb (startOf book first p (i + 1)) (startOf book first p i + 2 * n) (λ q. z (f ∙ q ∙ ap (λ (x : ℕ). x + 2 * n) (sym e)))) refl
 
-  module _ {k m : ℕ} (e : k ≡ getD book (1 + 2 * i) 0) (f : k ≡ n) (g : m ≡ getD book (2 + 2 * i) 0) where
-    long : eqb (getD book (1 + 2 * i) 0) n ≡ true
-    long = eq-eqb _ _ (sym e ∙ f)
-
-    pub unlike-sum : (m / 65536 ≡ s → ⊥) → false ≡ alike area book i at p n s
-    unfolding alike
-    unlike-sum z = rw (long, ne-eqb (getD book (2 + 2 * i) 0 / 65536) s (λ q. z (ap (λ (x : ℕ). x / 65536) g ∙ q))) refl
-
-    pub alike-words : {r : Bool} → m / 65536 ≡ s → r ≡ eqList (words area at n) (words area p n) → r ≡ alike area book i at p n s
-    unfolding alike
-    alike-words z v = v ∙ rw (long, eq-eqb (getD book (2 + 2 * i) 0 / 65536) s (sym (ap (λ (x : ℕ). x / 65536) g) ∙ z)) refl
+  pub alike-words : {r : Bool} → end ≡ at + 2 * n → r ≡ eqList (words area at n) (words area p n) → r ≡ alike area book first p n i
+  unfolding alike
+  alike-words z v =
+      v
+      ∙ ap (λ (x : ℕ). eqList (words area x n) (words area p n)) e
+      ∙ rw (eq-eqb (startOf book first p (i + 1)) (startOf book first p i + 2 * n) (sym f ∙ z ∙ ap (λ (x : ℕ). x + 2 * n) e)) refl

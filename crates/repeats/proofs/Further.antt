@@ -3,7 +3,7 @@ use Prim.Native.Nat.{ℕ, _+_, _-_, _*_, _/_, _%_, _≤_, _<_}
 use mathlib.Core.Path.{_≡_, refl, sym, ap, _∙_}
 use mathlib.Core.Bool.{Bool, true, false, cond, _||_, true≢false}
 use mathlib.Core.Logic.{_⊎_, inl, inr}
-use mathlib.Core.Option.{Option, some}
+use mathlib.Core.Option.{Option}
 use mathlib.Core.List.{List, [], _∷_, _++_}
 use native.Mathlib.Omega.{arith}
 use lib.ListN.{length, getD, set, length-set}
@@ -11,21 +11,9 @@ use lib.Seq.{getD-set-same, getD-set-other}
 use lib.Dec.{eqb}
 use borrow.Author.Tests.{eqb-true, eqb-false}
 use Rattle.meaning.specs.Words.{eqList}
-use Rattle.meaning.specs.Packed.{offsetIn}
 use Rattle.laws.specs.Repeats.{has}
-use Rattle.repeats.specs.Book.{packs, inBook, wordsBefore, Leads, furtherIn, Booked, NotedPlace, Repeated, Again}
-use Rattle.repeats.proofs.Coming.{repeated-in}
-
--- the offset of a block, by the words before it
-pub offset-words : (p : ℕ) (ds : List (List ℕ)) (b : List ℕ) → has b ds ≡ true → offsetIn p ds b ≡ p + 2 * wordsBefore ds b
-unfolding has offsetIn wordsBefore
-offset-words p [] b h = absurd (true≢false (sym h))
-offset-words p (d ∷ ds) b h = step (eqList d b) h (offset-words (p + 2 * length d) ds b)
-  where
-    step : (t : Bool) → t || has b ds ≡ true → (has b ds ≡ true → offsetIn (p + 2 * length d) ds b ≡ p + 2 * length d + 2 * wordsBefore ds b)
-        → cond t p (offsetIn (p + 2 * length d) ds b) ≡ p + 2 * cond t 0 (length d + wordsBefore ds b)
-    step true e i = omega arith
-    step false e i = omega (arith, i e)
+use Rattle.repeats.specs.Book.{wordsBefore, Leads, furtherIn, NotedPlace, Again}
+use Rattle.repeats.proofs.Coming.{found-leading}
 
 -- more blocks behind them
 has-more : (ds es : List (List ℕ)) (b : List ℕ) → has b ds ≡ true → has b (ds ++ es) ≡ true
@@ -50,14 +38,8 @@ pub leads-more : {left : ℕ → Option (List ℕ)} (ds es : List (List ℕ)) {c
 leads-more ds es h = record { words = h .words; is = h .is; among = has-more ds es (h .words) (h .among); before = h .before ∙ sym (before-stays ds es (h .words) (h .among)) }
 
 -- a further place was found
-pub found-elsewhere : {book : List ℕ} {first source c : ℕ} (i : ℕ) → i < furtherIn book → 3 + 2 * getD book 0 0 + i ≤ length book → c ≡ getD book (length book - 2 - i) 0 → c % 65536 ≡ source → Again book first source (first + 2 * (c / 65536))
-found-elsewhere {book} {first} {source} {c} i h l e f = record { found = λ {left} bs k z. there left bs k (k .further i h (omega (arith, k .count))) }
-  where
-    there : (left : ℕ → Option (List ℕ)) (bs : List (Option (List ℕ))) → Booked left (inBook (packs book) bs) book → Leads left (inBook (packs book) bs) (getD book (length book - 2 - i) 0) → Repeated left bs book first source (first + 2 * (c / 65536))
-    there left bs k g =
-        let w : left source ≡ some (g .words) = ap left (sym f ∙ ap (λ (x : ℕ). x % 65536) e) ∙ g .is in
-        let b : c / 65536 ≡ wordsBefore (inBook (packs book) bs) (g .words) = ap (λ (x : ℕ). x / 65536) e ∙ g .before in
-        repeated-in bs (g .words) k (g .among) (ap (λ (n : ℕ). first + 2 * n) b ∙ sym (offset-words first (inBook (packs book) bs) (g .words) (g .among))) w
+pub found-elsewhere : {book : List ℕ} {first source c : ℕ} (i : ℕ) → i < furtherIn book → 3 + getD book 0 0 + i ≤ length book → c ≡ getD book (length book - 2 - i) 0 → c % 65536 ≡ source → Again book first source (first + 2 * (c / 65536))
+found-elsewhere i h l e = found-leading (λ left ds k d. rw e (k .further i h (omega (arith, k .count))))
 
 -- two cells counted from the end are one if they have one number
 one-index : (long i n z : ℕ) → z ≡ long - 1 → i + 3 ≤ long → n + 3 ≤ long → long - 2 - i ≡ z - 1 - n → i ≡ n
@@ -68,7 +50,7 @@ pub no-place : {offset source : ℕ} {book : List ℕ} → NotedPlace offset sou
 no-place = record { same = refl; kept = λ j h. refl; cells = λ i h l. inr (h, refl) }
 
 -- there was, and it is noted
-pub place-noted : {offset source n z : ℕ} {before one after : List ℕ} → z ≡ length before - 1 → n ≡ getD before z 0 → 3 + 2 * getD before 0 0 + n ≤ length before → one ≡ set before (z - 1 - n) (offset / 2 * 65536 + source) → after ≡ set one z (n + 1)
+pub place-noted : {offset source n z : ℕ} {before one after : List ℕ} → z ≡ length before - 1 → n ≡ getD before z 0 → 3 + getD before 0 0 + n ≤ length before → one ≡ set before (z - 1 - n) (offset / 2 * 65536 + source) → after ≡ set one z (n + 1)
     → NotedPlace offset source before after
 place-noted {offset} {source} {n} {z} {before} {one} {after} e f l g h = record {
   same = long;
@@ -94,7 +76,7 @@ place-noted {offset} {source} {n} {z} {before} {one} {after} e f l g h = record 
     other : (j : ℕ) → j < z → (j ≡ z - 1 - n → ⊥) → getD after j 0 ≡ getD before j 0
     other j u w = past j u ∙ ap (λ (x : List ℕ). getD x j 0) g ∙ getD-set-other before (z - 1 - n) j v 0 w
 
-    by-index : (i : ℕ) → i < n + 1 → 3 + 2 * getD before 0 0 + i ≤ length before → (t : Bool) → eqb i n ≡ t
+    by-index : (i : ℕ) → i < n + 1 → 3 + getD before 0 0 + i ≤ length before → (t : Bool) → eqb i n ≡ t
         → (getD after (length before - 2 - i) 0 ≡ offset / 2 * 65536 + source) ⊎ ((i < furtherIn before) × (getD after (length before - 2 - i) 0 ≡ getD before (length before - 2 - i) 0))
     by-index i u w true q =
         let k : i ≡ n = eqb-true i n q in

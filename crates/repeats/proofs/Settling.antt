@@ -1,6 +1,6 @@
 -- A block that was written behind those of the book: it is one of them, or it is noted.
 use Prim.Native.Nat.{ℕ, zero, suc, _+_, _-_, _*_, _/_, _%_, _≤_, _<_}
-use mathlib.Core.Path.{_≡_, refl, sym, ap, ap₂, _∙_, subst}
+use mathlib.Core.Path.{_≡_, refl, sym, ap, _∙_, subst}
 use mathlib.Core.Bool.{Bool, true, false, cond, _||_, true≢false}
 use mathlib.Core.Logic.{_⊎_, inl, inr}
 use mathlib.Core.Option.{Option, some}
@@ -16,9 +16,10 @@ use Rattle.laws.specs.Stands.{words-back}
 use Rattle.laws.specs.Repeats.{list-same, has}
 use Rattle.laws.specs.PackedReading.{sharedBlocks}
 use Rattle.repeats.specs.Shared.{blocksIn, known, placeIn, firsts-next, blocks-next}
-use Rattle.repeats.specs.Book.{sumOf, packs, inBook, Listed, furtherIn, wordsBefore, Leads, Booked, Begun, Noted, NotedPlace, whereIn, Found, Fresh, Behind, Settled}
+use Rattle.repeats.specs.Book.{packs, inBook, Listed, furtherIn, wordsBefore, Leads, Booked, Begun, Noted, NotedPlace, whereIn, Found, Fresh, Behind, Settled}
 use Rattle.repeats.specs.declared.Spot.{Spot}
-use Rattle.repeats.proofs.Further.{offset-words, leads-more}
+use Rattle.repeats.proofs.Coming.{offset-words}
+use Rattle.repeats.proofs.Further.{leads-more}
 
 -- an empty book
 pub begun : {before one after : List ℕ} {z : ℕ} → one ≡ set before 0 0 → z ≡ length one - 1 → after ≡ set one z 0 → Begun before after
@@ -51,9 +52,12 @@ begun {before} {one} {after} {z} e f g = record { same = long; empty = λ left. 
     empty left false = record { count = none; few = omega arith; listed = tt; further = λ i h l. absurd (omega (arith, no-further)) }
     empty left true = record { count = none; few = omega arith; listed = tt; further = λ i h l. absurd (omega (arith, no-further)) }
 
--- one block more, store by store
-pub noted-by : {n mark k : ℕ} {book one two three : List ℕ} → k ≡ getD book 0 0 → one ≡ set book (1 + 2 * k) n → two ≡ set one (2 + 2 * k) mark → three ≡ set two 0 (k + 1) → Noted n mark book three
-noted-by {n} {mark} {k} {book} e f g h = record { is = h ∙ ap (λ (l : List ℕ). set l 0 (k + 1)) (g ∙ ap (λ (l : List ℕ). set l (2 + 2 * k) mark) f) ∙ ap (λ (i : ℕ). set (set (set book (1 + 2 * i) n) (2 + 2 * i) mark) 0 (i + 1)) e }
+-- one block more, store by store, unless it is too far
+pub noted-by : {offset source k : ℕ} {book one two : List ℕ} → k ≡ getD book 0 0 → one ≡ set book (1 + k) (offset / 2 * 65536 + source) → two ≡ set one 0 (k + 1) → Noted offset source book two
+noted-by {offset} {source} {k} {book} e f g = record { is = λ near. g ∙ ap (λ (l : List ℕ). set l 0 (k + 1)) f ∙ ap (λ (i : ℕ). set (set book (1 + i) (offset / 2 * 65536 + source)) 0 (i + 1)) e }
+
+pub not-noted : {offset source : ℕ} {book : List ℕ} → 65535 < offset → Noted offset source book book
+not-noted far = record { is = λ near. absurd (omega arith) }
 
 -- the place that is found: the offset of the block if it is among those of the book, and else p
 where-has : (p at : ℕ) (ds : List (List ℕ)) (b : List ℕ) → has b ds ≡ true → whereIn p at ds b ≡ offsetIn at ds b
@@ -86,68 +90,74 @@ ends-inside at (d ∷ ds) b h = step (eqList d b) refl h (ends-inside (at + 2 * 
     step true e f i = omega (arith, ap length (list-same d b e), length-append d (together ds))
     step false e f i = omega (arith, i f, length-append d (together ds))
 
--- blocks in other cells stay, and one more is in the two cells behind theirs
-listed-more : (left : ℕ → Option (List ℕ)) (before after : List ℕ) (i : ℕ) (ds : List (List ℕ)) (b : List ℕ) → ((j : ℕ) → i ≤ j → j < i + 2 * length ds → getD after j 0 ≡ getD before j 0) → Listed left before i ds
-    → Listed left after (i + 2 * length ds) (b ∷ []) → Listed left after i (ds ++ (b ∷ []))
-listed-more left before after i [] b k h l =
-    let e : i + 2 * 0 ≡ i = omega arith in
-    rw e at l
-listed-more left before after i (d ∷ ds) b k h l =
-    let e = k i (omega arith) (omega arith) in
-    let f = k (i + 1) (omega arith) (omega arith) in
-    let m : i + 2 * length (d ∷ ds) ≡ i + 2 + 2 * length ds = omega arith in
-    (e ∙ h .0, ap (λ (x : ℕ). x / 65536) f ∙ h .1, ap (λ (x : ℕ). left (x % 65536)) f ∙ h .2, listed-more left before after (i + 2) ds b (λ j u v. k j (omega arith) (omega arith)) (h .3) (rw m at l))
+-- blocks in other cells stay, and one more is in the cell behind theirs
+listed-more : (left : ℕ → Option (List ℕ)) (before after : List ℕ) (j v i w : ℕ) (ds : List (List ℕ)) (b : List ℕ) → ((k : ℕ) → i ≤ k → k < i + length ds → getD after k 0 ≡ getD before k 0) → Listed left before i w ds
+    → j ≡ i + length ds → v ≡ w + length (together ds) → Listed left after j v (b ∷ []) → Listed left after i w (ds ++ (b ∷ []))
+unfolding together
+listed-more left before after j v i w [] b k h e f l =
+    let there : j ≡ i = omega (arith, e) in
+    let behind : v ≡ w = omega (arith, f) in
+    rw (there, behind) at l
+listed-more left before after j v i w (d ∷ ds) b k h e f l =
+    let c = k i (omega arith) (omega arith) in
+    (ap (λ (x : ℕ). x / 65536) c ∙ h .0, ap (λ (x : ℕ). left (x % 65536)) c ∙ h .1, listed-more left before after j v (i + 1) (w + length d) ds b (λ x u y. k x (omega arith) (omega arith)) (h .2) (omega (arith, e)) (omega (arith, f, length-append d (together ds))) l)
 
-pub booked-more : (left : ℕ → Option (List ℕ)) (ds : List (List ℕ)) (b : List ℕ) {before after : List ℕ} {source : ℕ} → Booked left ds before → Noted (length b) (65536 * sumOf 0 b + source) before after → source < 65536 → left source ≡ some b
-    → 3 + 2 * length ds ≤ length before → length ds < 65535 → Booked left (ds ++ (b ∷ [])) after
-booked-more left ds b {before} {after} {source} k n f o r w =
-    let c = getD before 0 0 in
-    let one = set before (1 + 2 * c) (length b) in
-    let two = set one (2 + 2 * c) (65536 * sumOf 0 b + source) in
-    let many : length two ≡ length before = length-set one (2 + 2 * c) (65536 * sumOf 0 b + source) ∙ length-set before (1 + 2 * c) (length b) in
-    let here : length one ≡ length before = length-set before (1 + 2 * c) (length b) in
-    let kept : (j : ℕ) → 0 < j → getD after j 0 ≡ getD two j 0 = λ j l. ap (λ (l : List ℕ). getD l j 0) (n .is) ∙ getD-set-other two 0 j (c + 1) 0 (omega arith) in
-    let first : getD after (1 + 2 * c) 0 ≡ length b = kept (1 + 2 * c) (omega arith) ∙ getD-set-other one (2 + 2 * c) (1 + 2 * c) (65536 * sumOf 0 b + source) 0 (omega arith) ∙ getD-set-same before (1 + 2 * c) (length b) 0 (omega (arith, k .count)) in
-    let second : getD after (2 + 2 * c) 0 ≡ 65536 * sumOf 0 b + source = kept (2 + 2 * c) (omega arith) ∙ getD-set-same one (2 + 2 * c) (65536 * sumOf 0 b + source) 0 (omega (arith, k .count, here)) in
-    let as-first : 1 + 2 * length ds ≡ 1 + 2 * c = omega (arith, k .count) in
-    let as-second : 1 + 2 * length ds + 1 ≡ 2 + 2 * c = omega (arith, k .count) in
-    let mine : Listed left after (1 + 2 * length ds) (b ∷ []) = (
-      ap (λ (j : ℕ). getD after j 0) as-first ∙ first,
-      ap (λ (j : ℕ). getD after j 0 / 65536) as-second ∙ ap (λ (x : ℕ). x / 65536) second ∙ omega arith,
-      ap (λ (j : ℕ). left (getD after j 0 % 65536)) as-second ∙ ap (λ (x : ℕ). left (x % 65536)) second ∙ ap left (omega arith) ∙ o,
-      tt,
-    ) in
-    record {
-      count = ap (λ (l : List ℕ). getD l 0 0) (n .is) ∙ getD-set-same two 0 (c + 1) 0 (omega (arith, many)) ∙ omega (arith, k .count, length-append ds (b ∷ []));
-      few = omega (arith, length-append ds (b ∷ []));
-      listed = listed-more left before after 1 ds b (λ j u v. kept j (omega arith) ∙ getD-set-other one (2 + 2 * c) j (65536 * sumOf 0 b + source) 0 (omega (arith, k .count)) ∙ getD-set-other before (1 + 2 * c) j (length b) 0 (omega (arith, k .count))) (k .listed) mine;
-      further = λ i u v.
-          let all : length after ≡ length before = ap length (n .is) ∙ length-set two 0 (c + 1) ∙ many in
-          let more = length-append ds (b ∷ []) in
-          let stays : (j : ℕ) → 2 + 2 * c < j → getD after j 0 ≡ getD before j 0 = λ j x. kept j (omega arith) ∙ getD-set-other one (2 + 2 * c) j (65536 * sumOf 0 b + source) 0 (omega arith) ∙ getD-set-other before (1 + 2 * c) j (length b) 0 (omega arith) in
-          let last : furtherIn after ≡ furtherIn before = stays (length after - 1) (omega (arith, k .count, more)) ∙ ap (λ (x : ℕ). getD before (x - 1) 0) all in
-          let here : getD after (length after - 2 - i) 0 ≡ getD before (length before - 2 - i) 0 = stays (length after - 2 - i) (omega (arith, k .count, more)) ∙ ap (λ (x : ℕ). getD before (x - 2 - i) 0) all in
-          rw here (leads-more ds (b ∷ []) (k .further i (omega (arith, last)) (omega (arith, all, more))));
-    }
+pub booked-more : (left : ℕ → Option (List ℕ)) (ds : List (List ℕ)) (b : List ℕ) {before after : List ℕ} {offset source : ℕ} → Booked left ds before → Noted offset source before after → offset ≤ 65535 → offset ≡ 2 * length (together ds) → source < 65536
+    → left source ≡ some b → 3 + length ds ≤ length before → length ds < 65535 → Booked left (ds ++ (b ∷ [])) after
+booked-more left ds b {before} {after} {offset} {source} k n near place f o r w = record {
+  count = ap (λ (l : List ℕ). getD l 0 0) (n .is near) ∙ getD-set-same one 0 (c + 1) 0 (omega (arith, many)) ∙ omega (arith, k .count, more);
+  few = omega (arith, more);
+  listed = listed-more left before after (1 + c) (offset / 2) 1 0 ds b (λ j u y. stays j (omega arith) (omega (arith, k .count))) (k .listed) (omega (arith, k .count)) (omega (arith, place)) (ap (λ (x : ℕ). x / 65536) here ∙ omega arith, ap (λ (x : ℕ). left (x % 65536)) here ∙ ap left (omega arith) ∙ o, tt);
+  further = λ i u y.
+      let last : furtherIn after ≡ furtherIn before = stays (length after - 1) (omega (arith, k .count, more, all)) (omega (arith, k .count, more, all)) ∙ ap (λ (x : ℕ). getD before (x - 1) 0) all in
+      let cell : getD after (length after - 2 - i) 0 ≡ getD before (length before - 2 - i) 0 = stays (length after - 2 - i) (omega (arith, k .count, more)) (omega (arith, k .count, more)) ∙ ap (λ (x : ℕ). getD before (x - 2 - i) 0) all in
+      rw cell (leads-more ds (b ∷ []) (k .further i (omega (arith, last)) (omega (arith, all, more))));
+}
+  where
+    c : ℕ
+    c = getD before 0 0
+
+    mark : ℕ
+    mark = offset / 2 * 65536 + source
+
+    one : List ℕ
+    one = set before (1 + c) mark
+
+    many : length one ≡ length before
+    many = length-set before (1 + c) mark
+
+    more : length (ds ++ (b ∷ [])) ≡ length ds + 1
+    more = length-append ds (b ∷ [])
+
+    all : length after ≡ length before
+    all = ap length (n .is near) ∙ length-set one 0 (c + 1) ∙ many
+
+    behind : (j : ℕ) → 0 < j → getD after j 0 ≡ getD one j 0
+    behind j l = ap (λ (l : List ℕ). getD l j 0) (n .is near) ∙ getD-set-other one 0 j (c + 1) 0 (omega arith)
+
+    here : getD after (1 + c) 0 ≡ mark
+    here = behind (1 + c) (omega arith) ∙ getD-set-same before (1 + c) mark 0 (omega (arith, k .count))
+
+    stays : (j : ℕ) → 0 < j → (j ≡ 1 + c → ⊥) → getD after j 0 ≡ getD before j 0
+    stays j l x = behind j l ∙ getD-set-other before (1 + c) j mark 0 x
 
 -- a further place that leads to a block of the book
-listed-same : (left : ℕ → Option (List ℕ)) (before after : List ℕ) (i : ℕ) (ds : List (List ℕ)) → ((j : ℕ) → i ≤ j → j < i + 2 * length ds → getD after j 0 ≡ getD before j 0) → Listed left before i ds → Listed left after i ds
-listed-same left before after i [] k h = tt
-listed-same left before after i (d ∷ ds) k h =
+listed-same : (left : ℕ → Option (List ℕ)) (before after : List ℕ) (i w : ℕ) (ds : List (List ℕ)) → ((j : ℕ) → i ≤ j → j < i + length ds → getD after j 0 ≡ getD before j 0) → Listed left before i w ds → Listed left after i w ds
+listed-same left before after i w [] k h = tt
+listed-same left before after i w (d ∷ ds) k h =
     let e = k i (omega arith) (omega arith) in
-    let f = k (i + 1) (omega arith) (omega arith) in
-    (e ∙ h .0, ap (λ (x : ℕ). x / 65536) f ∙ h .1, ap (λ (x : ℕ). left (x % 65536)) f ∙ h .2, listed-same left before after (i + 2) ds (λ j u v. k j (omega arith) (omega arith)) (h .3))
+    (ap (λ (x : ℕ). x / 65536) e ∙ h .0, ap (λ (x : ℕ). left (x % 65536)) e ∙ h .1, listed-same left before after (i + 1) (w + length d) ds (λ j u v. k j (omega arith) (omega arith)) (h .2))
 
 booked-further : {left : ℕ → Option (List ℕ)} (ds : List (List ℕ)) (b : List ℕ) {offset source : ℕ} {before after : List ℕ} → Booked left ds before → NotedPlace offset source before after → source < 65536 → left source ≡ some b → has b ds ≡ true
     → offset ≡ 2 * wordsBefore ds b → Booked left ds after
 booked-further {left} ds b {offset} {source} {before} {after} k n f o h e = record {
   count = n .kept 0 (omega arith) ∙ k .count;
   few = k .few;
-  listed = listed-same left before after 1 ds (λ j u v. n .kept j (omega (arith, k .count))) (k .listed);
+  listed = listed-same left before after 1 0 ds (λ j u v. n .kept j (omega (arith, k .count))) (k .listed);
   further = λ i u v. leads i (n .cells i u (omega (arith, k .count, n .same))) (omega (arith, n .same));
 }
   where
-    leads : (i : ℕ) → (getD after (length before - 2 - i) 0 ≡ offset / 2 * 65536 + source) ⊎ ((i < furtherIn before) × (getD after (length before - 2 - i) 0 ≡ getD before (length before - 2 - i) 0)) → 3 + 2 * length ds + i ≤ length before
+    leads : (i : ℕ) → (getD after (length before - 2 - i) 0 ≡ offset / 2 * 65536 + source) ⊎ ((i < furtherIn before) × (getD after (length before - 2 - i) 0 ≡ getD before (length before - 2 - i) 0)) → 3 + length ds + i ≤ length before
         → Leads left ds (getD after (length after - 2 - i) 0)
     leads i (inl q) l =
         let here : getD after (length after - 2 - i) 0 ≡ offset / 2 * 65536 + source = ap (λ (m : ℕ). getD after (m - 2 - i) 0) (n .same) ∙ q in
@@ -180,7 +190,7 @@ module _ {area : List ℕ} {first p : ℕ} (q source : ℕ) {book : List ℕ} wh
       plain left bs b a k u v = (a ∙ u, f .end ∙ omega (arith, u, v, ap length (blocks-next false first bs b), length-append (blocksIn false bs) b), k)
 
   -- what the search found, for a book of more
-  module _ (l : 1 < length book) {at n s : ℕ} (g : Found area book first p n s at) (w : s ≡ sumOf 0 (words area p n)) (m : n ≡ (q - p) / 2) where
+  module _ (l : 1 < length book) {at n : ℕ} (g : Found area book first p n at) (m : n ≡ (q - p) / 2) where
     e : packs book ≡ true
     e = lt-ltb 1 (length book) l
 
@@ -200,7 +210,7 @@ module _ {area : List ℕ} {first p : ℕ} (q source : ℕ) {book : List ℕ} wh
 
       found : at ≡ whereIn p first (firstOfEach (dropNull bs)) b
       unfolding sharedBlocks
-      found = g .is in-book (h .laid e) w ∙ ap (whereIn p first (firstOfEach (dropNull bs))) read
+      found = g .is in-book (h .laid e) place ∙ ap (whereIn p first (firstOfEach (dropNull bs))) read
 
       -- it is among them exactly if another place than p was found
       is-known : (at ≡ p → ⊥) → has b (firstOfEach (dropNull bs)) ≡ true
@@ -227,14 +237,13 @@ module _ {area : List ℕ} {first p : ℕ} (q source : ℕ) {book : List ℕ} wh
           let booked : Booked left ds after = booked-further ds b in-book o c (h .from) k (omega (arith, there, offset-words first ds b k)) in
           (rw k there, place ∙ ap (λ (x : List (List ℕ)). first + 2 * length (together x)) (sym same), subst (λ (x : List (List ℕ)). Booked left x after) (sym same) booked)
 
-      near-new : {after : List ℕ} {r : Spot} → at ≡ p → r .at ≡ p → r .end ≡ q → Noted n (65536 * s + source) book after → source < 65536 → p ≤ first + 65535 → NearIn true left bs b first after r
+      near-new : {after : List ℕ} {r : Spot} → at ≡ p → r .at ≡ p → r .end ≡ q → Noted (p - first) source book after → source < 65536 → p ≤ first + 65535 → NearIn true left bs b first after r
       unfolding placeIn sharedBlocks
       near-new {after} {r} z a f o c y =
           let k = is-new z in
           let more : firstOfEach (dropNull (bs ++ (some b ∷ []))) ≡ firstOfEach (dropNull bs) ++ (b ∷ []) = firsts-next true 0 bs b ∙ rw k refl in
           let words-more : together (firstOfEach (dropNull (bs ++ (some b ∷ [])))) ≡ together (firstOfEach (dropNull bs)) ++ b = blocks-next true 0 bs b ∙ rw k refl in
-          let noted : Noted (length b) (65536 * sumOf 0 b + source) book after = record { is = o .is ∙ ap₂ (λ (i j : ℕ). set (set (set book (1 + 2 * getD book 0 0) i) (2 + 2 * getD book 0 0) (65536 * j + source)) 0 (getD book 0 0 + 1)) (m ∙ omega (arith, h .end)) (w ∙ ap (sumOf 0) read) } in
-          (rw k (a ∙ place), f ∙ omega (arith, place, h .end, ap length words-more, length-append (together (firstOfEach (dropNull bs))) b), subst (λ (x : List (List ℕ)). Booked left x after) (sym more) (booked-more left (firstOfEach (dropNull bs)) b in-book noted c (h .from) (h .room e y) (h .few e y)))
+          (rw k (a ∙ place), f ∙ omega (arith, place, h .end, ap length words-more, length-append (together (firstOfEach (dropNull bs))) b), subst (λ (x : List (List ℕ)). Booked left x after) (sym more) (booked-more left (firstOfEach (dropNull bs)) b in-book o (omega arith) (omega (arith, place)) c (h .from) (h .room e y) (h .few e y)))
 
     pub settled-known : {after : List ℕ} → (at ≡ p → ⊥) → NotedPlace (at - first) source book after → source < 65536 → Settled area first p q source book after (record { at = at; end = p })
     settled-known {after} z o c =
@@ -247,7 +256,7 @@ module _ {area : List ℕ} {first p : ℕ} (q source : ℕ) {book : List ℕ} wh
           unknown = λ {left} bs b h a y. absurd (omega (arith, g .above));
         }
 
-    pub settled-new : {after : List ℕ} {r : Spot} → at ≡ p → Fresh first p q r → Noted n (65536 * s + source) book after → source < 65536 → length after ≡ length book → Settled area first p q source book after r
+    pub settled-new : {after : List ℕ} {r : Spot} → at ≡ p → Fresh first p q r → Noted (p - first) source book after → source < 65536 → length after ≡ length book → Settled area first p q source book after r
     settled-new {after} {r} z f o c v =
         let e' : packs after ≡ true = lt-ltb 1 (length after) (omega (arith, v)) in
         record {

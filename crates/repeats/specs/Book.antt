@@ -15,10 +15,9 @@ use Rattle.laws.specs.Repeats.{has}
 use Rattle.repeats.specs.Shared.{blocksIn, known, placeIn}
 use Rattle.repeats.specs.declared.Spot.{Spot}
 
--- a sum over words, less than 65,536
-unfoldable pub sumOf : ℕ → List ℕ → ℕ
-sumOf a [] = a
-sumOf a (w ∷ ws) = sumOf ((31 * a + w) % 65536) ws
+-- the cells of a book that is enough for blocks of two words or more of which none starts more than 65,535 bytes behind the first: these are 16,384 at most, with a cell before them and one behind
+abbrev pub bookCells : ℕ
+bookCells = 16386
 
 -- a book of more than one cell is for blocks that are packed
 abbrev pub packs : List ℕ → Bool
@@ -29,18 +28,17 @@ abbrev pub inBook : Bool → List (Option (List ℕ)) → List (List ℕ)
 inBook false bs = []
 inBook true bs = firstOfEach (dropNull bs)
 
--- the blocks `ds` have the cells from i on: their lengths, their sums, and places of which they are what is left
-abbrev pub Listed : (ℕ → Option (List ℕ)) → List ℕ → ℕ → List (List ℕ) → Type 0
-Listed left book i [] = Unit {0}
-Listed left book i (d ∷ ds) =
-    (getD book i 0 ≡ length d) × (getD book (i + 1) 0 / 65536 ≡ sumOf 0 d) × (left (getD book (i + 1) 0 % 65536) ≡ some d) × Listed left book (i + 2) ds
+-- the blocks `ds`, which stand behind `before` words, have the cells from i on: how many words stand before each, and a place of which it is what is left
+abbrev pub Listed : (ℕ → Option (List ℕ)) → List ℕ → ℕ → ℕ → List (List ℕ) → Type 0
+Listed left book i before [] = Unit {0}
+Listed left book i before (d ∷ ds) = (getD book i 0 / 65536 ≡ before) × (left (getD book i 0 % 65536) ≡ some d) × Listed left book (i + 1) (before + length d) ds
 
 -- how many words stand before the block b
 unfoldable pub wordsBefore : List (List ℕ) → List ℕ → ℕ
 wordsBefore [] b = 0
 wordsBefore (d ∷ ds) b = cond (eqList d b) 0 (length d + wordsBefore ds b)
 
--- a cell of a further place: what is left there is one of the blocks, which stands behind as many words as the cell says
+-- a cell leads to a block: what is left of its place is one of the blocks, which stands behind as many words as the cell says
 pub record Leads (left : ℕ → Option (List ℕ)) (ds : List (List ℕ)) (c : ℕ) : Type 0 where
   pub words : List ℕ
   pub is : left (c % 65536) ≡ some words
@@ -55,28 +53,32 @@ furtherIn book = getD book (length book - 1) 0
 pub record Booked (left : ℕ → Option (List ℕ)) (ds : List (List ℕ)) (book : List ℕ) : Type 0 where
   pub count : getD book 0 0 ≡ length ds
   pub few : length ds < 65536
-  pub listed : Listed left book 1 ds
-  pub further : (i : ℕ) → i < furtherIn book → 3 + 2 * length ds + i ≤ length book → Leads left ds (getD book (length book - 2 - i) 0)
+  pub listed : Listed left book 1 0 ds
+  pub further : (i : ℕ) → i < furtherIn book → 3 + length ds + i ≤ length book → Leads left ds (getD book (length book - 2 - i) 0)
 
 -- there is none in it
 pub record Begun (before after : List ℕ) : Type 0 where
   pub same : length after ≡ length before
   pub empty : (left : ℕ → Option (List ℕ)) → Booked left (inBook (packs after) []) after
 
--- one more is in it
-pub record Noted (n mark : ℕ) (before after : List ℕ) : Type 0 where
-  pub is : after ≡ set (set (set before (1 + 2 * getD before 0 0) n) (2 + 2 * getD before 0 0) mark) 0 (getD before 0 0 + 1)
+-- one more is in it, if it is not too far behind the first
+pub record Noted (offset source : ℕ) (before after : List ℕ) : Type 0 where
+  pub is : offset ≤ 65535 → after ≡ set (set before (1 + getD before 0 0) (offset / 2 * 65536 + source)) 0 (getD before 0 0 + 1)
 
 -- one further place more, if there was room for it; the cells of the blocks are as before
 pub record NotedPlace (offset source : ℕ) (before after : List ℕ) : Type 0 where
   pub same : length after ≡ length before
-  pub kept : (j : ℕ) → j < 1 + 2 * getD before 0 0 → getD after j 0 ≡ getD before j 0
-  pub cells : (i : ℕ) → i < furtherIn after → 3 + 2 * getD before 0 0 + i ≤ length before
+  pub kept : (j : ℕ) → j < 1 + getD before 0 0 → getD after j 0 ≡ getD before j 0
+  pub cells : (i : ℕ) → i < furtherIn after → 3 + getD before 0 0 + i ≤ length before
       → (getD after (length before - 2 - i) 0 ≡ offset / 2 * 65536 + source) ⊎ ((i < furtherIn before) × (getD after (length before - 2 - i) 0 ≡ getD before (length before - 2 - i) 0))
 
--- whether the i-th block, at `at`, has the length and the sum of the n words at p, and the same words
-unfoldable pub alike : List ℕ → List ℕ → ℕ → ℕ → ℕ → ℕ → ℕ → Bool
-alike area book i at p n s = eqb (getD book (1 + 2 * i) 0) n && (eqb (getD book (2 + 2 * i) 0 / 65536) s && eqList (words area at n) (words area p n))
+-- where the i-th block starts; p, where all of them end, if there is none
+unfoldable pub startOf : List ℕ → ℕ → ℕ → ℕ → ℕ
+startOf book first p i = cond (ltb i (getD book 0 0)) (first + 2 * (getD book (1 + i) 0 / 65536)) p
+
+-- whether the i-th block has n words, and those at p
+unfoldable pub alike : List ℕ → List ℕ → ℕ → ℕ → ℕ → ℕ → Bool
+alike area book first p n i = eqb (startOf book first p (i + 1)) (startOf book first p i + 2 * n) && eqList (words area (startOf book first p i) n) (words area p n)
 
 -- the place of the first of blocks from `at` on that is equal to b; p if none is
 unfoldable pub whereIn : ℕ → ℕ → List (List ℕ) → List ℕ → ℕ
@@ -84,9 +86,9 @@ whereIn p at [] b = p
 whereIn p at (d ∷ ds) b = cond (eqList d b) at (whereIn p (at + 2 * length d) ds b)
 
 -- r is that place, for the n words at p, and not before the first block
-pub record Found (area book : List ℕ) (first p n s r : ℕ) : Type 0 where
+pub record Found (area book : List ℕ) (first p n r : ℕ) : Type 0 where
   pub above : first ≤ r
-  pub is : {left : ℕ → Option (List ℕ)} {ds : List (List ℕ)} → Booked left ds book → Stands area first (together ds) → s ≡ sumOf 0 (words area p n) → r ≡ whereIn p first ds (words area p n)
+  pub is : {left : ℕ → Option (List ℕ)} {ds : List (List ℕ)} → Booked left ds book → Stands area first (together ds) → p ≡ first + 2 * length (together ds) → r ≡ whereIn p first ds (words area p n)
 
 -- a new block stands at p, up to q, unless that is too far behind the first
 pub record Fresh (first p q : ℕ) (r : Spot) : Type 0 where
@@ -114,7 +116,7 @@ pub record Behind (left : ℕ → Option (List ℕ)) (bs : List (Option (List �
   pub laid : packs book ≡ true → Stands area first (blocksIn true bs)
   pub last : packs book ≡ true → Stands area p b
   pub from : left source ≡ some b
-  pub room : packs book ≡ true → p ≤ first + 65535 → 3 + 2 * length (inBook true bs) ≤ length book
+  pub room : packs book ≡ true → p ≤ first + 65535 → 3 + length (inBook true bs) ≤ length book
   pub few : packs book ≡ true → p ≤ first + 65535 → length (inBook true bs) < 65535
 
 -- the block stands at r's place, or it is new and that is too far behind the first

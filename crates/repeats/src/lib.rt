@@ -1,6 +1,6 @@
 // Blocks of one kind that are written into the area one after the other, from `first` on, and a book of them, by which one that is equal to an earlier one is found.
-// The first cell of a book says how many blocks are in it. Two cells follow for each: how many words it has; and a sum over them, times 65,536, plus the place of the source that it came from.
-// The last cell says how many further places of the source are known to lead to one of them. From there on backwards each has a cell, as long as the blocks leave room: how many words stand before its block, times 65,536, plus the place.
+// The first cell of a book says how many blocks are in it. A cell follows for each: how many words stand before it, times 65,536, plus the place of the source that it came from.
+// The last cell says how many further places of the source are known to lead to one of them. From there on backwards each has a cell of the same form, as long as the blocks leave room.
 // A book of one cell has no block: then each is written, as the plain layout has them.
 use cells::cell;
 use cells::put_cell;
@@ -10,10 +10,10 @@ ghost use mathlib.Core.Path.{_≡_};
 ghost use Prim.Native.Nat.{_+_, _-_, _*_, _≤_, _<_};
 ghost use lib.ListN.{length, getD};
 ghost use Rattle.meaning.specs.Words.{words, eqList};
-ghost use Rattle.repeats.specs.Book.{sumOf, alike, Begun, Noted, NotedPlace, Found, Fresh, Again, Settled};
+ghost use Rattle.repeats.specs.Book.{startOf, alike, Begun, Noted, NotedPlace, Found, Fresh, Again, Settled};
 
 // The cells of a book that is enough for sets or coverages: none of these has less than two words, and none starts more than 65,535 bytes behind the first.
-pub const BOOK: usize = 32769;
+pub const BOOK: usize = 16386;
 
 // Where a block stands, which is 0 if that is too far behind the first, and the place after all blocks.
 pub struct Spot {
@@ -40,20 +40,6 @@ pub fn begin(book: &mut [u32])
     put_cell(book, z, 0);
 }
 
-// A sum over the `n` words from `p` on.
-fn sum(area: &[u8], p: usize, n: usize) -> usize
-    requires { ⌜ p + 2 * n < 0x1_0000_0000_0000 ⌝ }
-    ensures { λ r. ⌜ (r ≡ sumOf 0 (words (now (area .entry)) p n)) × (r < 65536) ⌝ }
-{
-    let mut s = 0;
-    let mut i = 0;
-    while i < n {
-        s = (31 * s + word_at(area, p + 2 * i)) % 65536;
-        i += 1;
-    }
-    s
-}
-
 // Whether the `n` words from `a` on are those from `b` on.
 fn same(area: &[u8], a: usize, b: usize, n: usize) -> bool
     requires { ⌜ (a + 2 * n < 0x4_0000_0000_0000) × (b + 2 * n < 0x4_0000_0000_0000) ⌝ }
@@ -69,46 +55,55 @@ fn same(area: &[u8], a: usize, b: usize, n: usize) -> bool
     true
 }
 
-// Whether the i-th block of the book, which stands at `at`, is equal to the `n` words at `p`, whose sum is `s`: their bytes are compared only if length and sum agree.
-fn is_equal(area: &[u8], book: &[u32], i: usize, at: usize, p: usize, n: usize, s: usize) -> bool
-    requires { ⌜ (i < 65536) × (at + 2 * n < 0x4_0000_0000_0000) × (p + 2 * n < 0x4_0000_0000_0000) ⌝ }
-    ensures { λ r. ⌜ r ≡ alike (now (area .entry)) (now (book .entry)) i at p n s ⌝ }
+// Where the i-th block starts; `p`, where all of them end, if there is none.
+fn start(book: &[u32], first: usize, p: usize, i: usize) -> usize
+    requires { ⌜ (first ≤ p) × (p < 0x1_0000_0000_0000) ⌝ }
+    ensures { λ r. ⌜ (r ≡ startOf (now (book .entry)) first p i) × (r < 0x2_0000_0000_0000) ⌝ }
 {
-    if cell(book, 1 + 2 * i) != n {
-        return false;
+    if i < cell(book, 0) {
+        return first + 2 * (cell(book, 1 + i) / 65536);
     }
-    if cell(book, 2 + 2 * i) / 65536 != s {
+    p
+}
+
+// Whether the i-th block is equal to the `n` words at `p`, where all of them end: it is if it has as many words, and the same.
+fn is_equal(area: &[u8], book: &[u32], first: usize, p: usize, n: usize, i: usize) -> bool
+    requires { ⌜ (first ≤ p) × (p + 2 * n < 0x1_0000_0000_0000) × (i < 65536) ⌝ }
+    ensures { λ r. ⌜ r ≡ alike (now (area .entry)) (now (book .entry)) first p n i ⌝ }
+{
+    let at = start(book, first, p, i);
+    if start(book, first, p, i + 1) != at + 2 * n {
         return false;
     }
     same(area, at, p, n)
 }
 
-// Where the first block of the book stands that is equal to the `n` words at `p`, whose sum is `s`; `p` if none is.
-fn find(area: &[u8], book: &[u32], first: usize, p: usize, n: usize, s: usize) -> usize
-    requires { ⌜ (getD (now book) 0 0 < 65536) × (first ≤ p) × (p + 2 * n < 0x1_0000_0000_0000) × (s ≡ sumOf 0 (words (now area) p n)) ⌝ }
-    ensures { λ r. ⌜ Found (now (area .entry)) (now (book .entry)) first p n s r ⌝ }
+// Where the first block of the book stands that is equal to the `n` words at `p`, where all of them end; `p` if none is.
+fn find(area: &[u8], book: &[u32], first: usize, p: usize, n: usize) -> usize
+    requires { ⌜ (getD (now book) 0 0 < 65536) × (first ≤ p) × (p + 2 * n < 0x1_0000_0000_0000) ⌝ }
+    ensures { λ r. ⌜ Found (now (area .entry)) (now (book .entry)) first p n r ⌝ }
 {
     let count = cell(book, 0);
-    let mut at = first;
     let mut i = 0;
     while i < count {
-        if is_equal(area, book, i, at, p, n, s) {
-            return at;
+        if is_equal(area, book, first, p, n, i) {
+            return start(book, first, p, i);
         }
-        at += 2 * cell(book, 1 + 2 * i);
         i += 1;
     }
     p
 }
 
-// One block more in the book, of `n` words, with its sum and the place that it came from in `mark`.
-fn note(book: &mut [u32], n: usize, mark: usize)
-    requires { ⌜ (getD (now book) 0 0 < 65536) × (n < 0x1_0000_0000) × (mark < 0x1_0000_0000) ⌝ }
-    ensures { λ _. ⌜ Noted n mark (now (book .entry)) (now (book .exit)) ⌝ }
+// One block more in the book, `offset` bytes behind the first, if that is not too far.
+fn note(book: &mut [u32], offset: usize, source: usize)
+    requires { ⌜ (getD (now book) 0 0 < 65536) × (source < 65536) ⌝ }
+    ensures { λ _. ⌜ Noted offset source (now (book .entry)) (now (book .exit)) ⌝ }
 {
+    if HIGHEST < offset {
+        return;
+    }
     let count = cell(book, 0);
-    put_cell(book, 1 + 2 * count, n);
-    put_cell(book, 2 + 2 * count, mark);
+    put_cell(book, 1 + count, offset / 2 * 65536 + source);
     put_cell(book, 0, count + 1);
 }
 
@@ -118,13 +113,12 @@ fn among(book: &[u32], first: usize, source: usize) -> usize
     ensures { λ r. ⌜ Again (now (book .entry)) first source r ⌝ }
 {
     let count = cell(book, 0);
-    let mut at = first;
     let mut i = 0;
     while i < count {
-        if cell(book, 2 + 2 * i) % 65536 == source {
-            return at;
+        let block = cell(book, 1 + i);
+        if block % 65536 == source {
+            return first + 2 * (block / 65536);
         }
-        at += 2 * cell(book, 1 + 2 * i);
         i += 1;
     }
     0
@@ -139,12 +133,12 @@ fn elsewhere(book: &[u32], first: usize, source: usize) -> usize
     let count = cell(book, last(book));
     let mut i = 0;
     while i < count {
-        if book.len() < 3 + 2 * blocks + i {
+        if book.len() < 3 + blocks + i {
             return 0;
         }
-        let c = cell(book, book.len() - 2 - i);
-        if c % 65536 == source {
-            return first + 2 * (c / 65536);
+        let further = cell(book, book.len() - 2 - i);
+        if further % 65536 == source {
+            return first + 2 * (further / 65536);
         }
         i += 1;
     }
@@ -180,7 +174,7 @@ fn note_place(book: &mut [u32], offset: usize, source: usize)
     if HIGHEST < n {
         return;
     }
-    if book.len() < 3 + 2 * count + n {
+    if book.len() < 3 + count + n {
         return;
     }
     put_cell(book, z - 1 - n, offset / 2 * 65536 + source);
@@ -214,12 +208,11 @@ pub fn settle(
         return fresh(first, p, q);
     }
     let n = (q - p) / 2;
-    let s = sum(area, p, n);
-    let at = find(area, book, first, p, n, s);
+    let at = find(area, book, first, p, n);
     if at != p {
         note_place(book, at - first, source);
         return Spot { at, end: p };
     }
-    note(book, n, 65536 * s + source);
+    note(book, p - first, source);
     fresh(first, p, q)
 }

@@ -4,6 +4,7 @@ use native.Mathlib.Omega.{arith}
 use borrow.Author.Needs.{needs}
 use borrow.Fn.Kinds.{In}
 use borrow.Fn.PlainCycle.{Measures, is, falls, and}
+use Rattle.repeats.specs.Book.{bookCells}
 use Rattle.class_layouts.proofs.Handing.{book-packed}
 use Rattle.class_layouts.proofs.write_packed.Reads as write-packed
 use Rattle.class_layouts.proofs.write_packed.Kinds as write-packed-kinds
@@ -30,7 +31,7 @@ write-packed-requires t c κs =
 write-booked-requires : (t : ℕ) → write-packed-lts.Need-write-booked-requires (write-packed-below t, write-packed.Post, write-booked-reads.Asked, write-booked-reads.Learnt) (write-packed-at t) write-packed.Post
 write-booked-requires t c κs =
     let p = c .before .before .before .before .before .before .before .before .before .before .pre .1 in
-    (p .0, p .1, book-packed 32769 (omega arith) (p .2))
+    (p .0, p .1, book-packed bookCells (omega arith) (p .2))
 
 pub +write-packed-spec : {M : Type 1} → statement M
 +write-packed-spec =

@@ -1,4 +1,5 @@
 use borrow.Author.Needs.{needs}
+use Rattle.repeats.specs.Book.{bookCells}
 use Rattle.kept_table.proofs.Booking.{book-roomy, wrote-packed}
 use Prim.Native.Nat.{ℕ, _<_}
 use native.Mathlib.Omega.{arith}
@@ -35,10 +36,10 @@ write-packed-write-packed-requires t c κs =
 write-packed-write-kept-requires : (t : ℕ) → write-packed-lts.Need-write-kept-requires (write-packed-below t, write-packed.Post, write-kept-reads.Asked, write-kept-reads.Learnt) (write-packed-at t) write-packed.Post
 write-packed-write-kept-requires t c κs =
     let p = c .before .before .before .before .before .before .before .before .before .pre .1 in
-    (p .0, p .2, p .1, book-roomy 32769 (omega arith))
+    (p .0, p .2, p .1, book-roomy bookCells (omega arith))
 
 write-packed-returns-2 : (t : ℕ) → write-packed-lts.Need-returns-2 (write-packed-below t, write-packed.Post, write-kept-reads.Asked, write-kept-reads.Learnt) (write-packed-at t) write-packed.Post
-write-packed-returns-2 t c = wrote-packed 32769 (omega arith) (c .before .before .before .before .before .before .before .write-kept .ensures)
+write-packed-returns-2 t c = wrote-packed bookCells (omega arith) (c .before .before .before .before .before .before .before .write-kept .ensures)
 
 pub +write-packed-spec : {M : Type 1} → statement M
 +write-packed-spec = close μ-write-packed λ t. write-packed-lts.spec (

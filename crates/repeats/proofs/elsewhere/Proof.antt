@@ -1,4 +1,4 @@
-use Rattle.repeats.proofs.Coming.{passing-end}
+use Rattle.repeats.proofs.Coming.{found-none}
 use Rattle.repeats.proofs.Further.{found-elsewhere}
 use borrow.Author.Needs.{needs}
 use Prim.Native.Nat.{_-_, _≤_}
@@ -13,13 +13,13 @@ abbrev μ-loop : tie.MeasureT-loop
 μ-loop book first source blocks count i₀ i = count - i
 
 returns : tie.Need-returns Inv-loop μ-loop
-returns c = passing-end
+returns c = found-none
 
 returns-2 : tie.Need-returns-2 Inv-loop μ-loop
 returns-2 c = found-elsewhere (c .before .before .before .before .loop .i) (rw (c .before .before .before .before .before .cell2 .ensures .0, c .before .before .before .before .before .before .last .ensures) at (c .before .before .before .loop-test .taken)) (omega (arith, c .before .before .before .before .before .before .before .cell .ensures .0)) (c .before .cell3 .ensures .0) (c .if2 .taken)
 
 returns-3 : tie.Need-returns-3 Inv-loop μ-loop
-returns-3 c = passing-end
+returns-3 c = found-none
 
 pub elsewhere-spec : {M : Type 1} → statement M
 elsewhere-spec =
@@ -30,7 +30,6 @@ elsewhere-spec =
     (λ c κs. search needs)
     (λ c κs. search needs)
     (λ c κs. search needs)
-    (λ c. search needs)
     (λ c. search needs)
     (λ c. search needs)
     (λ c. search needs)

@@ -30,7 +30,6 @@ note-place-spec =
     (λ c. search needs)
     (λ c. search needs)
     (λ c. search needs)
-    (λ c. search needs)
     returns-3
     (λ c. search needs)
     (λ c. search needs)

@@ -8,10 +8,10 @@ returns : tie.Need-returns
 returns c = settled-plain _ _ (c .fresh .ensures) (c .before .if1 .taken)
 
 returns-2 : tie.Need-returns-2
-returns-2 c = settled-known _ _ (c .before .before .before .before .before .before .before .before .if1 .left) (c .before .before .before .before .before .find .ensures) (c .before .before .before .before .before .before .before .sum .ensures .0) refl (c .before .before .before .before .if2 .taken) (c .before .before .note-place .ensures) (c .before .before .before .before .before .before .before .before .before .before .before .pre .4)
+returns-2 c = settled-known _ _ (c .before .before .before .before .before .before .before .if1 .left) (c .before .before .before .before .before .find .ensures) refl (c .before .before .before .before .if2 .taken) (c .before .before .note-place .ensures) (c .before .before .before .before .before .before .before .before .before .before .pre .4)
 
 returns-3 : tie.Need-returns-3
-returns-3 c = settled-new _ _ (c .before .before .before .before .before .before .before .before .before .if1 .left) (c .before .before .before .before .before .before .find .ensures) (c .before .before .before .before .before .before .before .before .sum .ensures .0) refl (c .before .before .before .before .before .if2 .left) (c .fresh2 .ensures) (c .before .before .before .note .ensures) (c .before .before .before .before .before .before .before .before .before .before .before .before .pre .4) (c .before .before .book2 .given)
+returns-3 c = settled-new _ _ (c .before .before .before .before .before .before .before .before .if1 .left) (c .before .before .before .before .before .before .find .ensures) refl (c .before .before .before .before .before .if2 .left) (c .fresh2 .ensures) (c .before .before .before .note .ensures) (c .before .before .before .before .before .before .before .before .before .before .before .pre .4) (c .before .before .book2 .given)
 
 pub settle-spec : {M : Type 1} → statement M
 settle-spec =
@@ -21,12 +21,10 @@ settle-spec =
     returns
     (λ c. search needs)
     (λ c κs. search needs)
-    (λ c κs. search needs)
     (λ c. search needs)
     (λ c κs. search needs)
     (λ c. search needs)
     returns-2
-    (λ c. search needs)
     (λ c. search needs)
     (λ c κs. search needs)
     (λ c κs. search needs)
