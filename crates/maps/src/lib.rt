@@ -22,10 +22,26 @@ pub fn good_lookups(m: &[u8]) -> bool
 fn good_pairs(m: &[u8]) -> bool
     ensures { λ r. ⌜ r ≡ goodGlyphs (now (m .entry)) ⌝ }
 {
-    if !good_lookups(m) {
+    if m.len() % 4 != 0 {
         return false;
     }
-    ascending(m, 2, m.len() / 4, 4)
+    let mut low = 0;
+    let mut least = 0;
+    let mut i = 0;
+    while i < m.len() / 4 {
+        let old = word_inside(m, 4 * i);
+        let new = word_inside(m, 4 * i + 2);
+        if old < low {
+            return false;
+        }
+        if new < least {
+            return false;
+        }
+        low = old + 1;
+        least = new + 1;
+        i += 1;
+    }
+    true
 }
 
 // Whether a run of `n` pairs may stand where `old` and `new` are the lowest numbers that are left.
