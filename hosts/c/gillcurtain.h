@@ -73,16 +73,16 @@ enum gillcurtain_answer {
   GILLCURTAIN_BAD_LAYOUT = 14   /* no layout has this mark */
 };
 
-/* The stack, in bytes, that a call may use at most: 3 MiB. hosts/c/limits.c
+/* The stack, in bytes, that a call may use at most: 1.5 MiB. hosts/c/limits.c
  * holds calls that go deep to it. */
-#define GILLCURTAIN_STACK (3u << 20)
+#define GILLCURTAIN_STACK (3u << 19)
 
 /* The same where GILLCURTAIN_SCRATCH bytes of scratch are lent. */
-#define GILLCURTAIN_LITTLE_STACK (5u << 16)
+#define GILLCURTAIN_LITTLE_STACK (1u << 17)
 
 /* The scratch that is enough for any call: so many cells of 32 bits, so many
  * bytes of area, and both in one piece. */
-#define GILLCURTAIN_CELLS 526336u
+#define GILLCURTAIN_CELLS 270338u
 #define GILLCURTAIN_AREA 655360u
 #define GILLCURTAIN_SCRATCH (4u * GILLCURTAIN_CELLS + GILLCURTAIN_AREA)
 

@@ -1,12 +1,12 @@
 /* Holds the calls to what gillcurtain.h says of pointers and of the stack.
  *
  * Each part in turn is empty and its pointer null; marks differ from good ones
- * by 2^32. Then tables of each kind, among them a chained context by class whose
- * classes share their rules, are cut in both layouts under maps of all glyphs, as
- * pairs, as two runs and as runs of one, and compared with themselves, with scratch of the
- * call's own, with lent scratch and with too little of it. Each call runs on as
- * much stack as the header says, above pages that nobody may touch, which was
- * filled before; the most that was used of it is printed. */
+ * by 2^32. Then tables of each kind, among them some whose slots share one set,
+ * are cut in both layouts under maps of all glyphs, as pairs, as two runs and as
+ * runs of one, and compared with themselves, with scratch of the call's own, with
+ * lent scratch and with too little of it. Each call runs on as much stack as the
+ * header says, above pages that nobody may touch, which was filled before; the
+ * most that was used of it is printed. */
 #define _GNU_SOURCE
 #include <pthread.h>
 #include <stdio.h>
@@ -32,9 +32,9 @@ static const uint8_t source[] = {
 };
 static const uint8_t lookup[] = { 0, 0, 0, 0 };
 
-/* The same with a slot for each of 300 classes, all of which have the one set, and four lookups. */
-enum { SLOTS = 300, BEFORE_SLOTS = 12, SHIFT = 2 * (SLOTS - 2) };
-static uint8_t shared[1024];
+/* Tables with 300 slots, all of which have the one set, and four lookups. */
+enum { SLOTS = 300, CROWDED = 1024 };
+static uint8_t shared[CROWDED], shared_by_glyph[CROWDED], shared_ligatures[CROWDED];
 static const uint8_t lookups[] = { 0, 0, 0, 0, 0, 1, 0, 1, 0, 2, 0, 2, 0, 3, 0, 3 };
 
 /* All glyphs keep their numbers: as pairs, in as few runs as they take, and in as many. */
@@ -58,16 +58,18 @@ static void expect (const char *what, uint64_t result, unsigned number, size_t l
 
 static void word (uint8_t *at, unsigned w) { at[0] = w >> 8; at[1] = w & 255; }
 
-static void share (void)
+/* The table `from`, whose `had` slots stand at `slots`, behind its offsets and their count, with SLOTS of them, which all
+ * lead to what stood right behind the slots. */
+static void share (uint8_t *to, const uint8_t *from, size_t len, unsigned slots, unsigned had)
 {
-  const size_t set = BEFORE_SLOTS + 2 * SLOTS;
-  memcpy (shared, source, BEFORE_SLOTS);
-  memcpy (shared + set, source + BEFORE_SLOTS + 4, sizeof source - BEFORE_SLOTS - 4);
-  for (unsigned at = 2; at <= 8; at += 2)
-    word (shared + at, source[at + 1] + SHIFT);
-  word (shared + BEFORE_SLOTS - 2, SLOTS);
+  const unsigned behind = slots + 2 * had, shift = 2 * (SLOTS - had);
+  memcpy (to, from, slots);
+  memcpy (to + behind + shift, from + behind, len - behind);
+  for (unsigned at = 2; at < slots - 2; at += 2)
+    word (to + at, from[at + 1] + shift);
+  word (to + slots - 2, SLOTS);
   for (unsigned i = 0; i < SLOTS; i++)
-    word (shared + BEFORE_SLOTS + 2 * i, set);
+    word (to + slots + 2 * i, behind + shift);
 }
 
 static void fill_maps (void)
@@ -137,7 +139,9 @@ static const uint8_t singles[] = { 0, 1, 0, 6, 0, 0, 0, 1, 0, 1, 0, 1 };
 static const struct {
   const char *name; unsigned kind; const uint8_t *at; size_t len, kept, shorter; unsigned compared;
 } deep[] = {
-  { "chained by class", GILLCURTAIN_CHAINED, shared, sizeof shared, KEPT, KEPT - PACKED, GILLCURTAIN_KEPT },
+  { "chained by class", GILLCURTAIN_CHAINED, shared, CROWDED, KEPT, KEPT - PACKED, GILLCURTAIN_KEPT },
+  { "by glyph, shared", GILLCURTAIN_CONTEXT, shared_by_glyph, CROWDED, sizeof by_glyph, 0, GILLCURTAIN_KEPT },
+  { "ligatures, shared", GILLCURTAIN_LIGATURE, shared_ligatures, CROWDED, sizeof ligatures, 0, GILLCURTAIN_KEPT },
   { "by glyph", GILLCURTAIN_CONTEXT, by_glyph, sizeof by_glyph, sizeof by_glyph, 0, GILLCURTAIN_KEPT },
   { "by cover", GILLCURTAIN_CONTEXT, by_cover, sizeof by_cover, sizeof by_cover, 0, GILLCURTAIN_KEPT },
   { "ligatures", GILLCURTAIN_LIGATURE, ligatures, sizeof ligatures, sizeof ligatures, 0, GILLCURTAIN_KEPT },
@@ -253,7 +257,9 @@ int main (void)
   fill_maps ();
   empty_parts ();
   bad_marks ();
-  share ();
+  share (shared, source, sizeof source, 12, 2);
+  share (shared_by_glyph, by_glyph, sizeof by_glyph, 6, 1);
+  share (shared_ligatures, ligatures, sizeof ligatures, 6, 1);
   for (unsigned w = 0; w < sizeof ways / sizeof *ways; w++)
     good &= holds (&ways[w]);
   return faults || !good;

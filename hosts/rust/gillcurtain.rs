@@ -67,16 +67,15 @@ impl<'a> Glyphs<'a> {
     }
 }
 
-/// The stack, in bytes, that [`subset`] may use at most. The main thread has more on most systems; a
-/// thread that Rust starts has 2 MiB, so ask for more with `std::thread::Builder::stack_size` where
-/// fonts come from anywhere. With too little, the call ends the process at the stack's guard page.
-pub const STACK: usize = 3 << 20;
+/// The stack, in bytes, that [`subset`] may use at most: 1.5 MiB. A thread that Rust starts has 2 MiB
+/// unless it is asked for less. With too little, the call ends the process at the stack's guard page.
+pub const STACK: usize = 3 << 19;
 
 /// The stack, in bytes, that a call of [`Subsetter::new`] may use at most: less than any thread has.
-pub const LITTLE_STACK: usize = 5 << 16;
+pub const LITTLE_STACK: usize = 1 << 17;
 
 /// The scratch that is enough for any call: so many cells of 32 bits, and so many bytes of area.
-const CELLS: usize = 526_336;
+const CELLS: usize = 270_338;
 const AREA: usize = 655_360;
 
 /// What comes back. Where several refusals apply, the first of them in this order is given.
@@ -321,7 +320,7 @@ pub struct Subsetter {
 }
 
 impl Subsetter {
-    /// With scratch that is enough for any call: 3.125 MiB.
+    /// With scratch that is enough for any call: 1.66 MiB.
     pub fn new() -> Subsetter {
         Subsetter { cells: vec![0; CELLS], area: vec![0; AREA] }
     }

@@ -103,6 +103,10 @@ module _ (at x : ℕ) (t : List ℕ) where
     others = put-others;
   })
 
+-- where there is no cell, nothing is put
+pub put-none : (at x : ℕ) (t : List ℕ) → length t ≤ at + x / 32 → Put at x t t
+put-none at x t h = record { size = refl; cells = λ i n. refl; own = λ l. absurd (omega arith); others = λ y n. refl }
+
 -- the first i of the n cells are cleared
 pub record Clearing (at n : ℕ) (old t : List ℕ) (i : ℕ) : Type 0 where
   pub within : i ≤ n

@@ -8,10 +8,14 @@ ghost use Rattle.bits.specs.Bits.{marked, Put, Cleared};
 
 // Whether the number `x` has a mark.
 pub fn has_bit(t: &[u32], at: usize, x: usize) -> bool
-    requires { ⌜ at < 0x1_0000_0000_0000 ⌝ }
+    requires { ⌜ at < 0x4000_0000_0000_0000 ⌝ }
     ensures { λ r. ⌜ r ≡ marked (now (t .entry)) at x ⌝ }
 {
-    (cell(t, at + x / 32) >> (x % 32)) % 2 == 1
+    let i = at + x / 32;
+    if t.len() <= i {
+        return false;
+    }
+    (cell(t, i) >> (x % 32)) % 2 == 1
 }
 
 // The number `x` gets a mark, where its cell is there.
@@ -20,6 +24,9 @@ pub fn put_bit(t: &mut [u32], at: usize, x: usize)
     ensures { λ _. ⌜ Put at x (now (t .entry)) (now (t .exit)) ⌝ }
 {
     let i = at + x / 32;
+    if t.len() <= i {
+        return;
+    }
     let others = cell(t, i);
     put_cell(t, i, others | (1 << (x % 32)));
 }

@@ -8,10 +8,10 @@ use kept_table::write_table;
 use marks::Marks;
 use meet_runs::meet;
 use meet_runs::most;
-use member_sets::DEAD;
 use member_sets::crowded;
 use pair_formats::new_formats;
 use pair_sets::kept_places;
+use places::MEMBER_MARKS;
 use room::AREA;
 use room::LIMIT;
 use room::Laid;
@@ -61,7 +61,7 @@ fn write_shared(
     if rounds != 0 {
         return write_shared(sort, src, t, notes, maps, rounds - 1, area, out);
     }
-    let mut dead = [0u32; DEAD];
+    let mut dead = [0u32; MEMBER_MARKS];
     write_table(sort, src, &mut dead, t, notes, maps, area, out)
 }
 

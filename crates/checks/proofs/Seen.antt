@@ -1,19 +1,19 @@
--- Marks at the places of parts whose faults were counted: none at first, and one more.
+-- Marks of the places of parts whose faults were counted: none at first, and one more.
 use Prim.Native.Nat.{ℕ, _+_, _*_, _<_}
 use mathlib.Core.Path.{_≡_, refl, sym, ap, _∙_}
-use mathlib.Core.Bool.{Bool, true, false, cond}
+use mathlib.Core.Bool.{Bool, true, false, cond, true≢false}
 use mathlib.Core.Option.{Option, none, some}
 use mathlib.Core.List.{List}
 use native.Mathlib.Omega.{arith}
-use lib.ListN.{getD, set, replicate}
-use lib.Seq.{getD-set-other}
+use lib.ListN.{replicate}
 use lib.Dec.{eqb, leb}
 use borrow.Author.Tests.{eqb-true, eqb-false, leb-true, leb-false}
 use native.Mathlib.Nat.{zero-add}
 use Rattle.meaning.specs.Words.{word}
 use Rattle.meaning.specs.Fault.{lowest}
 use Rattle.laws.specs.FaultsLeft.{lowest-assoc}
-use Rattle.gsubgpos.specs.Marks.{zeros-read}
+use Rattle.bits.specs.Bits.{marked, Put}
+use Rattle.bits.specs.Reading.{none-marked}
 use Rattle.wire.specs.Fault.{faultOf, placeOf, place-fault}
 use Rattle.wire.specs.Reached.{Lowest, lowest-part}
 use Rattle.wire.specs.declared.Fault.{Fault}
@@ -63,22 +63,22 @@ seen-found faultAt low at f g = g ∙ ap (λ (x : Option ℕ). faultOf (lowest (
 module _ {faultAt : ℕ → Option ℕ} {low : Fault} where
   -- zeros mark no part
   pub none-seen : (n : ℕ) → Seen faultAt low (replicate n 0)
-  none-seen n = record { counted = λ p m. absurd (m (zeros-read n p)) }
+  none-seen n = record { counted = λ p m. absurd (true≢false (sym m ∙ none-marked n 0 p)) }
 
   -- a part with a mark does not change the lowest
-  pub seen-passed : {marks : List ℕ} → Seen faultAt low marks → (at : ℕ) → (getD marks at 0 ≡ 0 → ⊥) → low ≡ faultOf (lowest (placeOf low) (faultAt at))
+  pub seen-passed : {marks : List ℕ} → Seen faultAt low marks → (at : ℕ) → marked marks 0 at ≡ true → low ≡ faultOf (lowest (placeOf low) (faultAt at))
   seen-passed k at m = sym (fault-place low) ∙ ap faultOf (sym (k .counted at m))
 
   -- a part whose fault is counted gets a mark
-  pub seen-more : {marks next : List ℕ} {r : Fault} (at : ℕ) → Seen faultAt low marks → r ≡ faultOf (lowest (placeOf low) (faultAt at)) → next ≡ set marks at 1 → Seen faultAt r next
-  seen-more {marks} {next} {r} at k g e = record { counted = λ p m. step p (eqb p at) refl (λ z. m (rw e z)) }
+  pub seen-more : {marks next : List ℕ} {r : Fault} (at : ℕ) → Seen faultAt low marks → r ≡ faultOf (lowest (placeOf low) (faultAt at)) → Put 0 at marks next → Seen faultAt r next
+  seen-more {marks} {next} {r} at k g e = record { counted = λ p m. step p (eqb p at) refl m }
     where
       now-low : placeOf r ≡ lowest (placeOf low) (faultAt at)
       now-low = ap placeOf g ∙ place-fault (lowest (placeOf low) (faultAt at))
 
-      step : (p : ℕ) (b : Bool) → eqb p at ≡ b → (getD (set marks at 1) p 0 ≡ 0 → ⊥) → lowest (placeOf r) (faultAt p) ≡ placeOf r
+      step : (p : ℕ) (b : Bool) → eqb p at ≡ b → marked next 0 p ≡ true → lowest (placeOf r) (faultAt p) ≡ placeOf r
       step p true q m = rw (eqb-true p at q, now-low) (lowest-twice (placeOf low) (faultAt at))
-      step p false q m = rw now-low (lowest-kept (placeOf low) (faultAt p) (faultAt at) (k .counted p (λ z. m (getD-set-other marks at p 1 0 (eqb-false p at q) ∙ z))))
+      step p false q m = rw now-low (lowest-kept (placeOf low) (faultAt p) (faultAt at) (k .counted p (sym (e .others p (eqb-false p at q)) ∙ m)))
 
 -- a loop over offsets past a part that was counted
 pub reached-once : {faultAt : ℕ → Option ℕ} {s : List ℕ} {slot n : ℕ} {low : Fault} {i off : ℕ} → Lowest faultAt s 0 slot n low i → i < n → off ≡ word s (slot + 2 * i) → (off ≡ 0 → ⊥)

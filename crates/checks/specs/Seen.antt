@@ -1,13 +1,14 @@
--- Marks at the places of parts whose faults were counted.
+-- Marks of the places of parts whose faults were counted, one bit each.
 use Prim.Native.Nat.{ℕ}
 use mathlib.Core.Path.{_≡_}
+use mathlib.Core.Bool.{true}
 use mathlib.Core.Option.{Option}
 use mathlib.Core.List.{List}
-use lib.ListN.{getD}
 use Rattle.meaning.specs.Fault.{lowest}
 use Rattle.wire.specs.Fault.{placeOf}
 use Rattle.wire.specs.declared.Fault.{Fault}
+use Rattle.bits.specs.Bits.{marked}
 
 -- the fault of a part whose place has a mark is no lower than the lowest so far
 pub record Seen (faultAt : ℕ → Option ℕ) (low : Fault) (marks : List ℕ) : Type 0 where
-  pub counted : (p : ℕ) → (getD marks p 0 ≡ 0 → ⊥) → lowest (placeOf low) (faultAt p) ≡ placeOf low
+  pub counted : (p : ℕ) → marked marks 0 p ≡ true → lowest (placeOf low) (faultAt p) ≡ placeOf low

@@ -1,16 +1,17 @@
 // Malformed, over the whole source: the header of each kind and format, and through its offsets every part, retained or not. And a format that the kind has not.
+use bits::has_bit;
+use bits::put_bit;
 use class_counts::good_formats;
 use class_counts::good_header;
 use gsubgpos::Member;
-use gsubgpos::RULE_PLACES;
+use places::MEMBER_MARKS;
+use places::PART_MARKS;
 use view::header;
 use view::subtable_place;
 use wire::Fault;
-use wire::byte;
 use wire::found_before;
 use wire::inside;
 use wire::lowest;
-use wire::put_byte;
 use wire::word_at;
 ghost use mathlib.Core.Path.{_≡_};
 ghost use mathlib.Core.Bool.{true, false, _&&_, not};
@@ -25,9 +26,6 @@ ghost use Rattle.wire.specs.declared.Fault.the-variants.{Sound};
 ghost use Rattle.gsubgpos.specs.Marks.{Marked};
 ghost use Rattle.checks.specs.Seen.{Seen};
 ghost use Rattle.checks.specs.Parts.{faultOfPart, memberOfPart, byGlyphFault, byClassFault, ligaturesFault, pairFields, glyphPairsFault, classPairsFault};
-
-// The places that one offset leads to: a mark for each says what was visited.
-const PLACES: usize = 65536;
 
 // How many offsets pay for marks: fewer reach 2^26 members at most, which are soon checked.
 const MANY: usize = 2048;
@@ -76,7 +74,7 @@ pub enum Part {
 }
 
 // The lowest fault of the part at `at`, and of what it reaches. The value formats of pairs stand in the header. `sound` has marks of its members that were found sound.
-fn check_part(part: Part, src: &[u8], at: usize, sound: &mut [u8]) -> Fault
+fn check_part(part: Part, src: &[u8], at: usize, sound: &mut [u32]) -> Fault
     requires { ⌜ (at < 65536) × Marked (memberOfPart part (now src)) none (now sound) ⌝ }
     ensures { λ r. ⌜ (r ≡ faultOf (faultOfPart part (now (src .entry)) at)) × Marked (memberOfPart part (now (src .entry))) none (now (sound .exit)) ⌝ }
 {
@@ -97,31 +95,31 @@ fn check_once(
     src: &[u8],
     at: usize,
     low: Fault,
-    marks: &mut [u8],
-    sound: &mut [u8],
+    marks: &mut [u32],
+    sound: &mut [u32],
 ) -> Fault
     requires { ⌜ (at < 65536) × Seen (faultOfPart part (now src)) low (now marks) × Marked (memberOfPart part (now src)) none (now sound) ⌝ }
     ensures { λ r. ⌜ (r ≡ faultOf (lowest (placeOf low) (faultOfPart part (now (src .entry)) at))) × Seen (faultOfPart part (now (src .entry))) r (now (marks .exit)) × Marked (memberOfPart part (now (src .entry))) none (now (sound .exit)) ⌝ }
 {
-    if byte(marks, at) != 0 {
+    if has_bit(marks, 0, at) {
         return low;
     }
     if found_before(low, at) {
         return low;
     }
     let found = check_part(part, src, at, sound);
-    put_byte(marks, at, 1);
+    put_bit(marks, 0, at);
     lowest(low, found)
 }
 
-// The lowest fault among the parts that `n` offsets from `slot` on reach; a null offset reaches none. Where `marks` and `sound`, which have no mark yet, have a place for each that an offset can lead to, a part is checked once, however many offsets reach it.
+// The lowest fault among the parts that `n` offsets from `slot` on reach; a null offset reaches none. Where `marks` and `sound`, which have no mark yet, have a bit for each place that an offset can lead to, a part is checked once, however many offsets reach it.
 fn check_each(
     part: Part,
     src: &[u8],
     slot: usize,
     n: usize,
-    marks: &mut [u8],
-    sound: &mut [u8],
+    marks: &mut [u32],
+    sound: &mut [u32],
 ) -> Fault
     requires { ⌜ (slot + 2 * n < 0x1_0000_0000_0000) × Seen (faultOfPart part (now src)) Sound (now marks) × Marked (memberOfPart part (now src)) none (now sound) ⌝ }
     ensures { λ r. ⌜ r ≡ faultOf (faultThrough (faultOfPart part (now (src .entry))) (now (src .entry)) 0 slot n) ⌝ }
@@ -147,8 +145,8 @@ fn check_shared(part: Part, src: &[u8], slot: usize, n: usize, rounds: usize) ->
     if rounds != 0 {
         return check_shared(part, src, slot, n, rounds - 1);
     }
-    let mut marks = [0u8; PLACES];
-    let mut sound = [0u8; RULE_PLACES];
+    let mut marks = [0u32; PART_MARKS];
+    let mut sound = [0u32; MEMBER_MARKS];
     check_each(part, src, slot, n, &mut marks, &mut sound)
 }
 
@@ -160,8 +158,8 @@ fn check_through(part: Part, src: &[u8], slot: usize, n: usize) -> Fault
     if MANY <= n {
         return check_shared(part, src, slot, n, slot % 2);
     }
-    let mut no_marks = [0u8; 1];
-    let mut none_sound = [0u8; 1];
+    let mut no_marks = [0u32; 1];
+    let mut none_sound = [0u32; 1];
     check_each(part, src, slot, n, &mut no_marks, &mut none_sound)
 }
 

@@ -3,213 +3,284 @@ use Prim.Native.Nat.{ℕ, _+_, _/_, _%_, _≤_, _<_}
 use mathlib.Core.Path.{_≡_, refl, sym, ap, _∙_, subst}
 use mathlib.Core.Bool.{Bool, true, false, cond}
 use mathlib.Core.Option.{Option}
-use mathlib.Core.List.{List, [], _∷_, map}
+use mathlib.Core.List.{List, [], _∷_, _++_, map}
 use mathlib.Core.Logic.{_⊎_, inl, inr}
 use native.Mathlib.Decide.{decLt}
 use native.Mathlib.Omega.{arith}
-use lib.ListN.{length}
+use lib.ListN.{length, take, drop}
 use Rattle.meaning.specs.Words.{word}
-use Rattle.meaning.specs.Maps.{glyphEntries}
+use Rattle.meaning.specs.Maps.{mapEntries, glyphEntries}
 use Rattle.meaning.specs.Parts.{coverage}
 use Rattle.meaning.specs.Tables.{classContext}
-use Rattle.meaning.specs.Cut.{cut, cutSet, newCoverage}
+use Rattle.meaning.specs.Cut.{cut, cutSet, newClasses?, newCoverage}
 use Rattle.meaning.specs.Layout.{block, coverageWords, classWords, ruleWords, setWords}
 use Rattle.meaning.specs.Subset.{Outcome, limit, writtenIn}
-use Rattle.laws.specs.CutGood.{Values}
 use Rattle.laws.specs.SoundGood.{coverage-up}
 use Rattle.room.specs.Laid.{enoughArea}
 use Rattle.bits.specs.Reading.{same-cell}
-use Rattle.fold.specs.Cells.{Holds, kept-more}
+use Rattle.fold.specs.Cells.{Holds}
+use Rattle.fold.specs.Laid.{Laid}
 use Rattle.fold.specs.declared.Map.{Map}
-use Rattle.area.specs.Part.{news, notes}
+use Rattle.area.specs.Part.{news}
 use Rattle.numbers.specs.Alike.{holds-alike, set-alike}
 use Rattle.rule_sets.specs.Left.{mapsIn}
 use Rattle.class_slots.specs.Slots.{slotBlocks, present-few, slots-marked}
 use Rattle.tried.specs.Tries.{Tries, tries-less}
 use Rattle.tried.specs.declared.Tried.{Tried}
-use Rattle.tried.specs.declared.Tried.the-variants.{FewCells}
-use Rattle.class_tail.specs.Tail.{tableBlock, tableBlocks, coverOf}
+use Rattle.class_tail.specs.Front.{front-size, front-elsewhere, joined-holds}
+use Rattle.class_tail.specs.Made.{old-same, old-stays}
+use Rattle.class_tail.specs.Tail.{tableBlocks, coverOf}
 use Rattle.class_layouts.specs.Written.{Writes, leftInto}
 use Rattle.glyph_runs.specs.Runs.{form-is, map-good}
-use Rattle.class_maps.specs.Same.{Same, kept-same, part-alike, inside-same, holds-same, present-same}
-use Rattle.class_contexts.specs.Sides.{TableFor, markCells, Asks, SideIn, Sided, InputIn, InputLaid}
+use Rattle.class_lists.specs.Tables.{tableAt}
+use Rattle.class_lists.specs.Elsewhere.{Elsewhere}
+use Rattle.class_maps.specs.Present.{topOf, top-small}
+use Rattle.class_maps.specs.Mapped.{holds-null}
+use Rattle.class_maps.specs.Same.{Same, after-same, part-alike, present-same}
+use Rattle.class_contexts.specs.Sides.{markCells, Asks, SideIn, Sided, InputAsks, InputIn, InputLaid}
 use Rattle.class_contexts.specs.Meaning.{backAt, inputAt, aheadAt, rulesMaps, tablesOf, blocksOf, cut-words, slots-alike}
-use Rattle.class_contexts.specs.Cutting.{enoughCells, preparedOf, Cuts, CutsInto}
+use Rattle.class_contexts.specs.Cutting.{enoughCells, preparedOf, Begins, ClassesIn, ClassesLaid, Cuts}
 use Rattle.class_contexts.proofs.Smallness.{left-fits}
-use Rattle.class_tail.specs.declared.NewTable.{NewTable}
 use Rattle.class_tail.specs.declared.Noted.{Noted}
 use Rattle.class_contexts.specs.declared.Begun.{Begun}
 use Rattle.class_contexts.specs.declared.Side.{Side}
 use Rattle.class_contexts.specs.declared.Input.{Input}
+use Rattle.class_contexts.specs.declared.Classed.{Classed}
 use Rattle.class_layouts.specs.declared.Prepared.{Prepared}
 
--- What stands in cells stays where only cells behind it change.
-module _ {g : List (ℕ × ℕ)} {s : List ℕ} {at : ℕ} {t u : List ℕ} {end : ℕ} (k : Same 0 end t u) where
-  table-stays : {n : NewTable} → n .list + n .len ≤ end → TableFor g s at t n → TableFor g s at u n
-  unfolding tableBlock
-  table-stays {n} h a =
-      let e : notes u (n .list) (n .len) ≡ notes t (n .list) (n .len) = ap (map (λ c. (c / 65536, c % 65536))) (part-alike k (n .list) (n .len) (omega arith) h) in
-      record {
-        in-cells = record { inside = omega (arith, a .in-cells .inside, k .size); few = a .in-cells .few; ascend = rw e (a .in-cells .ascend); words = rw e (a .in-cells .words) };
-        is = rw e (a .is);
-      }
+-- What stands in cells stays where they are as before.
+input-stays : {g : List (ℕ × ℕ)} {s : List ℕ} {at : ℕ} {cov t u : List ℕ} {noted : Noted} {r : Input} {end : ℕ} → Same (noted .at) end t u → r .marks + markCells (r .map) ≤ end → InputIn g s at cov t noted r → InputIn g s at cov u noted r
+input-stays {t = t} {u} {r = r} k h a = record {
+  table = old-same k (omega (arith, a .behind)) (a .table);
+  place = a .place;
+  behind = a .behind;
+  inside = omega (arith, a .inside, k .size);
+  held = present-same k (r .map) (a .table .behind) (omega (arith, a .behind)) ∙ a .held;
+  count = a .count;
+  covered = λ c b. same-cell t u (r .marks) c (k .each (r .marks + c / 32) (omega (arith, a .behind, a .table .behind)) (omega arith)) ∙ a .covered c b;
+}
 
-  side-stays : {r : Side} → r .map .at + r .map .mask < end → r .table .list + r .table .len ≤ r .map .at → SideIn g s at t r → SideIn g s at u r
-  side-stays {r} h l a = record { holds = holds-same k (r .map) (omega arith) h (a .holds); table = table-stays (omega arith) (a .table) }
-
-  input-stays : {cov : List ℕ} {r : Input} → r .map .at + r .map .mask < end → r .marks + markCells (r .map) ≤ end → r .table .list + r .table .len ≤ r .map .at → InputIn g s at cov t r → InputIn g s at cov u r
-  input-stays {r = r} h m l a = record {
-    holds = holds-same k (r .map) (omega arith) h (a .holds);
-    held = present-same k (r .map) (omega arith) h ∙ a .held;
-    count = a .count;
-    covered = λ c b. same-cell t u (r .marks) c (k .each (r .marks + c / 32) (omega arith) (omega (arith, m))) ∙ a .covered c b;
-    table = table-stays (omega arith) (a .table);
-  }
+news-stay : {t u : List ℕ} {from end : ℕ} (at n : ℕ) → Same from end t u → from ≤ at → at + n ≤ end → news u at n ≡ news t at n
+news-stay at n k a b = ap (map (λ c. c % 65536)) (part-alike k at n a b)
 
 -- too few cells
-too-few : {n m : ℕ} → (m ≤ n → ⊥) → m ≤ enoughCells → n < enoughCells
-too-few {n} {m} h l = step (decLt n m)
+too-few : {n m : ℕ} → (m ≤ n → ⊥) → n < m
+too-few {n} {m} h = step (decLt n m)
   where
-    step : Dec (n < m) → n < enoughCells
-    step (yes d) = omega arith
+    step : Dec (n < m) → n < m
+    step (yes d) = d
     step (no d) = absurd (h (omega arith))
 
-pub few-cells : {chained : Bool} {s : List ℕ} {g : List (ℕ × ℕ)} {l : Map} {t area out : List ℕ} {packing : ℕ} → length t < enoughCells → CutsInto packing chained s g l t area FewCells out out
-few-cells h = record { cuts = λ {es = es} o v. (h, refl) }
-
-module _ {chained : Bool} {s : List ℕ} {form : ℕ} {glyphs : List ℕ} {begun : Begun} {t₀ area : List ℕ} (a : Cuts chained s form glyphs begun t₀ area) where
-  abbrev l : Map
-  l = begun .lookups
-
+-- The class tables, one after the other.
+module _ {s glyphs : List ℕ} {b : Begun} {t₀ : List ℕ} (a : Begins s glyphs b t₀) where
   abbrev noted : Noted
-  noted = begun .cover
+  noted = b .cover
 
   abbrev g : List (ℕ × ℕ)
-  g = glyphEntries form glyphs
+  g = glyphEntries (b .marks .form) glyphs
 
-  pub form-there : 0 < form
-  form-there = pick (form-is (a .map .form-good))
+  abbrev cov : List ℕ
+  cov = coverage s (word s 2)
+
+  pub input-asks : {at : ℕ} → at ≡ inputAt (b .chained) s → InputAsks s at (b .marks .form) glyphs noted t₀
+  input-asks e = record { sound = rw e (a .sound .input); map = a .map; inside = a .inside; near = a .cells }
+
+  module _ {ia : ℕ} (ei : ia ≡ inputAt (b .chained) s) {t₁ : List ℕ} {i : Input} (u : InputLaid s ia g noted t₀ t₁ i) where
+    -- too few cells for the input
+    pub input-short : (r : Classed) → i .map .mask ≡ 0 → r .input .map .mask ≡ 0 → ClassesLaid s glyphs b t₀ t₁ r
+    input-short r z y = record {
+      size = u .same .size;
+      room = λ x. too-few (λ h. u .room (omega (arith, a .enough h)) (omega (arith, a .enough h, a .few)) z);
+      laid = λ n. absurd (n y);
+    }
+
+    module _ (zi : i .map .mask ≡ 0 → ⊥) {cells : ℕ} (em : cells ≡ markCells (i .map)) where
+      input-in : InputIn g s ia cov t₁ noted i
+      input-in = u .side zi cov (coverage-up s (word s 2) (a .sound .cover (a .covers))) (a .noted)
+
+      few-marks : cells ≤ 2048
+      few-marks = omega (arith, em, top-small (i .map) (omega (arith, u .few)))
+
+      -- the marks end inside
+      pub marks-inside : i .marks + cells ≤ length t₁
+      marks-inside = omega (arith, input-in .inside)
+
+      first-end : i .marks + cells ≤ noted .at + noted .len + i .map .mask + 1 + 2048
+      first-end = omega (arith, input-in .behind, input-in .place, few-marks)
+
+      pub back-asks : {at : ℕ} → at ≡ backAt (b .chained) s → Asks s at (b .marks .form) glyphs t₁ (noted .at) (i .marks + cells)
+      back-asks e = record {
+        sound = rw e (a .sound .back);
+        map = a .map;
+        before = omega (arith, input-in .behind, input-in .place);
+        inside = marks-inside;
+        near = omega (arith, a .cells, u .same .size);
+      }
+
+      module _ {ba : ℕ} (eb : ba ≡ backAt (b .chained) s) {t₂ : List ℕ} {c : Side} (v : Sided s ba g t₁ t₂ (noted .at) (i .marks + cells) c) where
+        -- for the backtrack
+        pub back-short : (r : Classed) → c .classes .map .mask ≡ 0 → r .input .map .mask ≡ 0 → ClassesLaid s glyphs b t₀ t₂ r
+        back-short r z y = record {
+          size = v .same .size ∙ u .same .size;
+          room = λ x. too-few (λ h. v .room (omega (arith, a .enough h)) (omega (arith, a .enough h, a .few, first-end, u .few, u .same .size)) z);
+          laid = λ n. absurd (n y);
+        }
+
+        module _ (zb : c .classes .map .mask ≡ 0 → ⊥) where
+          back-in : SideIn g s ba t₂ (noted .at) (i .marks + cells) c
+          back-in = v .side zb
+
+          -- the class map ends inside
+          pub back-inside : c .classes .map .at + c .classes .map .mask + 1 ≤ length t₂
+          back-inside = omega (arith, back-in .classes .holds .inside .within)
+
+          pub ahead-asks : {at : ℕ} → at ≡ aheadAt (b .chained) s → Asks s at (b .marks .form) glyphs t₂ (noted .at) (c .classes .map .at + c .classes .map .mask + 1)
+          ahead-asks e = record {
+            sound = rw e (a .sound .ahead);
+            map = a .map;
+            before = omega (arith, back-in .table .behind);
+            inside = back-inside;
+            near = omega (arith, a .cells, u .same .size, v .same .size);
+          }
+
+          module _ {aa : ℕ} (ea : aa ≡ aheadAt (b .chained) s) {t₃ : List ℕ} {d : Side} (w : Sided s aa g t₂ t₃ (noted .at) (c .classes .map .at + c .classes .map .mask + 1) d) where
+            -- for the lookahead
+            pub ahead-short : (r : Classed) → d .classes .map .mask ≡ 0 → r .input .map .mask ≡ 0 → ClassesLaid s glyphs b t₀ t₃ r
+            ahead-short r z y = record {
+              size = w .same .size ∙ v .same .size ∙ u .same .size;
+              room = λ x. too-few (λ h. w .room (omega (arith, a .enough h)) (omega (arith, a .enough h, a .few, first-end, back-in .place, u .few, v .few, u .same .size, v .same .size)) z);
+              laid = λ n. absurd (n y);
+            }
+
+            pub classes-laid : (d .classes .map .mask ≡ 0 → ⊥) → ClassesLaid s glyphs b t₀ t₃ (record { input = i; back = c .classes .map; ahead = d .classes .map })
+            classes-laid zd = record {
+              size = w .same .size ∙ v .same .size ∙ u .same .size;
+              room = λ x. absurd (zi x);
+              laid = λ n. record {
+                input = rw ei at (input-stays (w .same) (omega (arith, back-in .place)) (input-stays (v .same) (omega arith) input-in));
+                few = u .few;
+                back = rw eb at (old-same (w .same) (omega arith) (back-in .table));
+                ahead = rw ea at (w .side zd .table);
+                noted = news-stay (noted .at) (noted .len) (w .same) (omega arith) (omega (arith, back-in .place, input-in .behind, input-in .place))
+                    ∙ news-stay (noted .at) (noted .len) (v .same) (omega arith) (omega (arith, input-in .behind, input-in .place))
+                    ∙ news-stay (noted .at) (noted .len) (u .same) (omega arith) (omega arith) ∙ a .noted;
+              };
+            }
+
+-- all of them stay where only cells before the notes change
+classes-stay : {s glyphs : List ℕ} {b : Begun} {t u : List ℕ} {c : Classed} → Elsewhere 0 (b .cover .at) t u → ClassesIn s glyphs b t c → ClassesIn s glyphs b u c
+classes-stay {b = b} {c = c} k a = record {
+  input = input-stays (after-same (c .input .marks + markCells (c .input .map)) k) (omega arith) (a .input);
+  few = a .few;
+  back = old-stays k (a .back);
+  ahead = old-stays k (a .ahead);
+  noted = news-stay (b .cover .at) (b .cover .len) (after-same (b .cover .at + b .cover .len) k) (omega arith) (omega arith) ∙ a .noted;
+}
+
+-- The lookup map, in the cells before the notes, and the cut.
+module _ {s glyphs lookups : List ℕ} {b : Begun} {t₀ area : List ℕ} (a : Cuts s glyphs lookups b t₀ area) where
+  abbrev x : ℕ
+  x = b .cover .at
+
+  pub form-there : 0 < b .marks .form
+  form-there = pick (form-is (a .begins .map .form-good))
     where
-      pick : (form ≡ 4) ⊎ (form ≡ 6) → 0 < form
+      pick : (b .marks .form ≡ 4) ⊎ (b .marks .form ≡ 6) → 0 < b .marks .form
       pick (inl e) = omega arith
       pick (inr e) = omega arith
 
-  -- the input
-  pub input-asks : {at : ℕ} → at ≡ inputAt chained s → Asks s at form glyphs (noted .at + noted .len)
-  input-asks e = record { sound = rw e (a .sound .input); map = a .map; near = omega (arith, a .near) }
+  module _ {t₁ : List ℕ} {c : Classed} (u : ClassesLaid s glyphs b t₀ t₁ c) where
+    pub front-inside : x ≤ length t₁
+    front-inside = omega (arith, a .begins .inside, u .size)
 
-  module _ {ia : ℕ} (ei : ia ≡ inputAt chained s) {t₁ : List ℕ} {i : Input} (u : InputLaid s ia g noted t₀ t₁ i) where
-    pub input-few : i .map .mask ≡ 0 → length t₀ < enoughCells
-    input-few z = too-few (λ h. u .room h z) (omega (arith, a .near))
+    module _ {front : List ℕ} {l : Map} (h : Laid lookups (take x t₁) front 0 l) where
+      -- too few cells for the lookups
+      pub few-lookups : l .mask ≡ 0 → length t₀ < enoughCells
+      few-lookups z = too-few (λ e. h .room (omega (arith, front-size x t₁ front front-inside (h .kept .size), h .kept .size, a .begins .enough e)) (a .ascend) z)
 
-    module _ (zi : i .map .mask ≡ 0 → ⊥) {cells : ℕ} (em : cells ≡ markCells (i .map)) where
-      first-end : i .marks + cells ≤ 264192
-      first-end = omega (arith, u .behind zi, u .near zi, u .few, a .near)
+      abbrev t₂ : List ℕ
+      t₂ = front ++ drop x t₁
 
-      pub marks-near : i .marks + cells ≤ 0x1_0000_0000
-      marks-near = omega (arith, first-end)
+      moved : Elsewhere 0 x t₁ t₂
+      moved = front-elsewhere x t₁ front front-inside (h .kept .size)
 
-      pub back-asks : {at : ℕ} → at ≡ backAt chained s → Asks s at form glyphs (i .marks + cells)
-      back-asks e = record { sound = rw e (a .sound .back); map = a .map; near = marks-near }
+      pub cells-same : length t₂ ≡ length t₀
+      cells-same = moved .size ∙ u .size
 
-      module _ {ba : ℕ} (eb : ba ≡ backAt chained s) {t₂ : List ℕ} {b : Side} (v : Sided s ba g t₁ t₂ (i .marks + cells) b) where
-        pub back-few : b .map .mask ≡ 0 → length t₀ < enoughCells
-        back-few z = omega (arith, too-few (λ h. v .room h z) (omega (arith, first-end)), u .kept .size)
+      module _ (zc : c .input .map .mask ≡ 0 → ⊥) (zl : l .mask ≡ 0 → ⊥) where
+        abbrev prepared : Prepared
+        prepared = preparedOf b s c l
 
-        module _ (zb : b .map .mask ≡ 0 → ⊥) where
-          second-end : b .map .at + b .map .mask + 1 ≤ 395264
-          second-end = omega (arith, v .near zb, v .few, first-end)
+        abbrev chained : Bool
+        chained = b .chained
 
-          pub back-near : b .map .at + b .map .mask + 1 ≤ 0x1_0000_0000
-          back-near = omega (arith, second-end)
+        held : ClassesIn s glyphs b t₂ c
+        held = classes-stay moved (u .laid zc)
 
-          pub ahead-asks : {at : ℕ} → at ≡ aheadAt chained s → Asks s at form glyphs (b .map .at + b .map .mask + 1)
-          ahead-asks e = record { sound = rw e (a .sound .ahead); map = a .map; near = back-near }
+        found : Holds t₂ l (mapEntries lookups)
+        found = joined-holds front (drop x t₁) (h .holds zl)
 
-          module _ {aa : ℕ} (ea : aa ≡ aheadAt chained s) {t₃ : List ℕ} {d : Side} (w : Sided s aa g t₂ t₃ (b .map .at + b .map .mask + 1) d) where
-            pub ahead-few : d .map .mask ≡ 0 → length t₀ < enoughCells
-            ahead-few z = omega (arith, too-few (λ h. w .room h z) (omega (arith, second-end)), u .kept .size, v .kept .size)
+        writes : Writes s glyphs t₂ prepared area
+        unfolding limit
+        writes = record {
+          ready = record {
+            short = a .begins .sound .short;
+            header = a .begins .sound .header;
+            sets = a .begins .sound .sets;
+            inside = record { back = held .back .holds .inside; input = held .input .table .holds .inside; ahead = held .ahead .holds .inside; lookups = found .inside };
+            near = omega (arith, held .input .inside, cells-same, a .begins .cells);
+            few = omega (arith, held .few);
+            number = held .input .count ∙ sym (ap length (held .input .held));
+            words = λ at k {ws} e m. left-fits chained s (a .bytes) t₂ (prepared .maps) at e m;
+          };
+          few = omega (arith, held .input .count, ap length (held .input .held), present-few t₂ (c .input .map) 0 (topOf (c .input .map) + 1), top-small (c .input .map) (omega (arith, held .few)));
+          tail-in = record {
+            cover = omega (arith, a .begins .inside, cells-same);
+            covered = a .covered;
+            few = a .begins .few;
+            map = a .begins .map;
+            back = held .back;
+            input = held .input .table;
+            ahead = held .ahead;
+          };
+          short = a .short;
+        }
 
-            module _ (zd : d .map .mask ≡ 0 → ⊥) (packing : ℕ) where
-              abbrev prepared : Prepared
-              prepared = preparedOf l noted i b d packing
+        pub may-write : {p : Prepared} → p ≡ preparedOf b s c l → Writes s glyphs t₂ p area
+        may-write e = rw e writes
 
-              abbrev cov : List ℕ
-              cov = coverage s (word s 2)
+        abbrev es : List (ℕ × ℕ)
+        es = mapEntries lookups
 
-              -- the cells up to the marks, and up to the map of backtrack
-              low : Same 0 (i .marks + cells) t₁ t₃
-              low = kept-same (kept-more (v .kept) (record { size = w .kept .size; same = λ j h. w .kept .same j (omega (arith, v .low zb)) }))
+        abbrev gm : List (ℕ × ℕ)
+        gm = glyphEntries (b .marks .form) glyphs
 
-              high : Same 0 (b .map .at + b .map .mask + 1) t₂ t₃
-              high = kept-same (w .kept)
+        -- the blocks of the slots, and what follows the sets
+        blocks-are : slotBlocks chained s t₂ (prepared .maps) (c .input .marks) ≡ blocksOf chained s gm es
+        blocks-are =
+            let m = rulesMaps chained s gm es in
+            let F = block (setWords (ruleWords chained)) in
+            let same = set-alike {m = mapsIn t₂ (prepared .maps)} {n = m} (holds-alike (holds-null gm s (backAt chained s) (held .back .holds))) (holds-alike (held .input .table .holds)) (holds-alike (holds-null gm s (aheadAt chained s) (held .ahead .holds))) (holds-alike found) chained in
+            rw (slots-marked (cutSet chained (mapsIn t₂ (prepared .maps))) t₂ (c .input .marks) (c .input .map) _ _ (held .input .covered), held .input .held) (ap (map F) (slots-alike (cutSet chained (mapsIn t₂ (prepared .maps))) (cutSet chained m) same _ _ _))
 
-              all : Same 0 (noted .at + noted .len) t₀ t₃
-              all = kept-same (kept-more (u .kept) (record { size = low .size; same = λ j h. low .each j (omega arith) (omega (arith, u .behind zi, u .low zi)) }))
+        cover-is : coverOf t₂ (prepared .tail) ≡ coverageWords (newCoverage gm (coverage s (word s 2)))
+        cover-is = ap coverageWords (held .noted)
 
-              input-in : InputIn g s ia cov t₃ i
-              input-in =
-                  input-stays low (omega (arith, u .behind zi)) (omega arith) (u .before zi)
-                  (u .side zi cov (coverage-up s (word s 2) (a .sound .cover (a .covers))) (a .glyphs-noted))
+        tables-are : tableBlocks chained s glyphs (prepared .tail) ≡ tablesOf chained s gm
+        tables-are = step chained
+          where
+            i : Option (List (ℕ × ℕ))
+            i = newClasses? gm (tableAt s (inputAt chained s))
 
-              back-in : SideIn g s ba t₃ b
-              back-in = side-stays high (omega arith) (v .before zb) (v .side zb)
+            step : (k : Bool) → tableBlocks k s glyphs (prepared .tail) ≡ map (block classWords) (cond k (newClasses? gm (tableAt s (backAt chained s)) ∷ i ∷ newClasses? gm (tableAt s (aheadAt chained s)) ∷ []) (i ∷ []))
+            step true = refl
+            step false = refl
 
-              ahead-in : SideIn g s aa t₃ d
-              ahead-in = w .side zd
-
-              news-same : news t₃ (noted .at) (noted .len) ≡ newCoverage g cov
-              news-same = ap (map (λ c. c % 65536)) (part-alike all (noted .at) (noted .len) (omega arith) (omega arith)) ∙ a .glyphs-noted
-
-              writes : Writes chained s t₃ prepared area
-              unfolding limit
-              writes = record {
-                ready = record {
-                  short = a .sound .short;
-                  header = a .sound .header;
-                  sets = a .sound .sets;
-                  inside = record { back = back-in .holds .inside; input = input-in .holds .inside; ahead = ahead-in .holds .inside; lookups = inside-same all l (omega arith) (omega (arith, a .before)) (a .lookups) };
-                  near = omega (arith, first-end);
-                  few = u .few;
-                  number = input-in .count ∙ sym (ap length (input-in .held));
-                  words = λ at k {ws} e h. left-fits chained s (a .bytes) t₃ (prepared .maps) at e h;
-                };
-                few = omega (arith, input-in .count, ap length (input-in .held), present-few t₃ (i .map .at) 0 (i .map .mask + 1), u .few);
-                tail-in = record {
-                  cover = omega (arith, a .inside, all .size);
-                  covered = a .covered;
-                  few = a .few;
-                  back = back-in .table .in-cells;
-                  input = input-in .table .in-cells;
-                  ahead = ahead-in .table .in-cells;
-                };
-                short = a .short;
-              }
-
-              pub may-write : {p : Prepared} → p ≡ preparedOf l noted i b d packing → Writes chained s t₃ p area
-              may-write e = rw e writes
-
-              -- the blocks of the slots, and what follows the sets
-              blocks-are : {es : List (ℕ × ℕ)} → Holds t₀ l es → slotBlocks chained s t₃ (prepared .maps) (i .marks) ≡ blocksOf chained s g es
-              blocks-are {es} h =
-                  let m = rulesMaps chained s g es in
-                  let F = block (setWords (ruleWords chained)) in
-                  let same = set-alike {m = mapsIn t₃ (prepared .maps)} {n = m} (holds-alike (rw eb at (back-in .holds))) (holds-alike (rw ei at (input-in .holds))) (holds-alike (rw ea at (ahead-in .holds))) (holds-alike (holds-same all l (omega arith) (omega (arith, a .before)) h)) chained in
-                  rw (slots-marked (cutSet chained (mapsIn t₃ (prepared .maps))) t₃ (i .marks) (i .map) _ _ (input-in .covered), input-in .held, ei) (ap (map F) (slots-alike (cutSet chained (mapsIn t₃ (prepared .maps))) (cutSet chained m) same _ _ _))
-
-              cover-is : coverOf t₃ (prepared .tail) ≡ coverageWords (newCoverage g cov)
-              cover-is = ap coverageWords news-same
-
-              tables-are : tableBlocks chained t₃ (prepared .tail) ≡ tablesOf chained s g
-              tables-are = step chained _ _ _ (rw eb at (back-in .table .is)) (rw ei at (input-in .table .is)) (rw ea at (ahead-in .table .is))
-                where
-                  step : (c : Bool) (x y z : Option (List (ℕ × ℕ))) → tableBlock t₃ (b .table) ≡ block classWords x → tableBlock t₃ (i .table) ≡ block classWords y → tableBlock t₃ (d .table) ≡ block classWords z
-                      → tableBlocks c t₃ (record { cover = noted; back = b .table; input = i .table; ahead = d .table }) ≡ map (block classWords) (cond c (x ∷ y ∷ z ∷ []) (y ∷ []))
-                  step true x y z p q r = rw (p, q, r)
-                  step false x y z p q r = rw q
-
-              pub cut-into : {p : Prepared} (r : Tried) (out after : List ℕ) → p ≡ preparedOf l noted i b d packing → Tries ⊥ (length area < enoughArea) r out after (leftInto out chained s t₃ p) → CutsInto packing chained s g l t₀ area r out after
-              cut-into r out after e h = record { cuts = λ {es = es} o v. tries-less ⊥ (length area < enoughArea) (length t₀ < enoughCells) (length area < enoughArea) r out after (writtenIn packing out (cut g es (classContext chained s))) (λ f. absurd f) (λ f. f) (subst (λ (x : Outcome). Tries ⊥ (length area < enoughArea) r out after x) (ap (λ (q : Prepared). leftInto out chained s t₃ q) e ∙ said es o v) h) }
-                where
-                  said : (es : List (ℕ × ℕ)) → Holds t₀ l es → Values es → leftInto out chained s t₃ prepared ≡ writtenIn packing out (cut g es (classContext chained s))
-                  said es o v = rw (cover-is, tables-are, blocks-are o) (sym (cut-words chained s g es (a .good) (map-good (a .map)) v (a .covers) (a .classed) packing out))
+        pub cut-into : {p : Prepared} (r : Tried) (out after : List ℕ) → p ≡ preparedOf b s c l → Tries ⊥ (length area < enoughArea) r out after (leftInto out s glyphs t₂ p)
+            → Tries (length t₀ < enoughCells) (length area < enoughArea) r out after (writtenIn (b .marks .layout) out (cut gm es (classContext chained s)))
+        cut-into r out after e k =
+            tries-less ⊥ (length area < enoughArea) (length t₀ < enoughCells) (length area < enoughArea) r out after (writtenIn (b .marks .layout) out (cut gm es (classContext chained s))) (λ f. absurd f) (λ f. f)
+            (subst (λ (y : Outcome). Tries ⊥ (length area < enoughArea) r out after y) (ap (λ (q : Prepared). leftInto out s glyphs t₂ q) e ∙ said) k)
+          where
+            said : leftInto out s glyphs t₂ prepared ≡ writtenIn (b .marks .layout) out (cut gm es (classContext chained s))
+            said = rw (cover-is, tables-are, blocks-are) (sym (cut-words chained s gm es (a .good) (map-good (a .begins .map)) (a .values) (a .begins .covers) (a .classed) (b .marks .layout) out))

@@ -1,15 +1,15 @@
--- From the check and the maps' lists to the cells of both maps, and how many cells are enough.
-use Prim.Native.Nat.{ℕ, suc, _+_, _-_, _*_, _%_, _≤_, _<_}
-use mathlib.Core.Path.{_≡_, refl, sym, ap, _∙_}
+-- From the check and the maps' lists to the notes of the covered glyphs, and how many cells are enough.
+use Prim.Native.Nat.{ℕ, suc, _+_, _*_, _≤_, _<_}
+use mathlib.Core.Path.{_≡_, refl, sym, ap, _∙_, subst}
 use mathlib.Core.Bool.{Bool, true, false, cond, _&&_}
 use mathlib.Core.Option.{Option, none, some}
-use mathlib.Core.List.{List, [], _∷_, _++_, map}
+use mathlib.Core.List.{List, [], _∷_, map}
 use native.Mathlib.Decide.{decLt}
 use native.Mathlib.Nat.{zero-add}
 use native.Mathlib.Numerals.{add-one}
 use native.Mathlib.Omega.{arith}
-use lib.ListN.{length, getD, take, drop, length-append, length-drop, List·getD-append}
-use lib.Seq.{length-take-le, getD-append-add, getD-drop}
+use lib.ListN.{length, take}
+use lib.Seq.{length-take-le}
 use lib.Dec.{eqb}
 use borrow.Author.Tests.{ne-eqb}
 use Rattle.meaning.specs.Words.{word, inside, find, push, mapSome, isSome, keys, member}
@@ -26,12 +26,9 @@ use Rattle.laws.specs.ReadsBack.{Good}
 use Rattle.laws.specs.CallBack.{map-values}
 use Rattle.laws.specs.SoundGood.{Bytes, part-sound, one-good, header-good, coverage-up, class-context-good}
 use Rattle.room.specs.Laid.{enoughArea}
-use Rattle.fold.specs.Cells.{answerIn, Holds, entry-same}
-use Rattle.fold.specs.Laid.{Laid}
 use Rattle.fold.specs.Runs.{LaidGlyphs}
 use Rattle.fold.specs.declared.Map.{Map}
 use Rattle.area.specs.Part.{part, news}
-use Rattle.area.specs.Stored.{part-same}
 use Rattle.member_sets.specs.Sound.{inside-is, through-sound}
 use Rattle.meet.specs.Met.{Met, met-news, met-count, met-few}
 use Rattle.meet_runs.specs.Either.{Most, MeetsGlyphs}
@@ -41,11 +38,10 @@ use Rattle.class_lists.specs.Tables.{classesAt, NullOrSound}
 use Rattle.class_maps.specs.SlotWalk.{trim-blocks}
 use Rattle.tried.specs.Tries.{Tries, tries-less}
 use Rattle.tried.specs.declared.Tried.{Tried}
-use Rattle.tried.specs.declared.Tried.the-variants.{Became}
-use Rattle.room.specs.declared.Laid.the-variants.{Nothing}
 use Rattle.class_layouts.specs.Table.{tableInto}
 use Rattle.class_contexts.specs.Meaning.{inputAt, setsOf, SoundContext, rulesMaps, tablesOf, cut-words}
-use Rattle.class_contexts.specs.Cutting.{enoughCells, Sound, Behind, Covers, Covered, NotesCovered, Cuts, CutsInto, Least}
+use Rattle.class_contexts.specs.Cutting.{enoughCells, Sound, Behind, Covers, NotesCovered, Cuts, Least}
+use Rattle.marks.specs.declared.Marks.{Marks}
 use Rattle.class_tail.specs.declared.Noted.{Noted}
 
 -- the part that an offset leads to is sound, if the offset is not null
@@ -142,16 +138,17 @@ module _ {s : List ℕ} {form : ℕ} {glyphs : List ℕ} (a : Covers s form glyp
       step (yes h) = omega arith
       step (no h) = absurd (b .room (omega arith) z)
 
-  pub mask-few : m .mask < 65536
-  mask-few = b .few
-
   module _ {at cover : ℕ} (e : Behind (m .mask) (length t₁) at) (f : cover ≡ word s 2) where
     pub may-bound : (coverageSound s cover ≡ true) × GlyphMap form glyphs
     may-bound = (rw f (a .sound), a .map)
 
     module _ {n : ℕ} (k : Most form glyphs s cover n) where
       pub notes-few : length t₁ ≤ at + n → NotesCovered s g t₀ t₁ (record { at = 0; len = 0 })
-      notes-few h = no-notes (omega (arith, e .near, k .small, b .kept .size))
+      notes-few h = no-notes (step (decLt (length t₀) enoughCells))
+        where
+          step : Dec (length t₀ < enoughCells) → length t₀ < enoughCells
+          step (yes d) = d
+          step (no d) = absurd (omega (arith, e .enough (omega (arith, b .kept .size)), k .small, b .kept .size))
 
       pub may-meet : (m .mask ≡ 0 → ⊥) → at + n < length t₁ → MeetsGlyphs form s cover glyphs m t₁ at
       may-meet z h = record { sound = may-bound .0; map = a .map; holds = b .holds z; behind = omega (arith, b .place, e .behind); room = omega (arith, k .number) }
@@ -161,34 +158,12 @@ module _ {s : List ℕ} {form : ℕ} {glyphs : List ℕ} (a : Covers s form glyp
       size = h .kept .size ∙ b .kept .size;
       room = λ z. absurd (omega (arith, e .behind));
       covered = λ z. record {
-        near = e .near;
         enough = λ l. e .enough (omega (arith, h .kept .size));
         inside = omega (arith, h .fits, h .kept .size);
         few = omega (arith, met-count h, met-few g (coverage s cover) (rw f (coverage-up s (word s 2) (a .sound))), entries-few (a .map));
         noted = met-news g h ∙ ap (λ (c : ℕ). newCoverage g (coverage s c)) f;
       };
     }
-
--- Cells of a front that changes, and those behind it.
-module _ (at : ℕ) (t front : List ℕ) (h : at ≤ length t) (k : length front ≡ length (take at t)) where
-  pub front-size : length front ≡ at
-  front-size = k ∙ length-take-le at t h
-
-  pub joined-size : length (front ++ drop at t) ≡ length t
-  joined-size = omega (arith, length-append front (drop at t), front-size, length-drop at t)
-
-  pub joined-after : (i : ℕ) → at ≤ i → getD (front ++ drop at t) i 0 ≡ getD t i 0
-  joined-after i l =
-      let e : length front + (i - at) ≡ i = omega (arith, front-size) in
-      let f : at + (i - at) ≡ i = omega arith in
-      sym (ap (λ (j : ℕ). getD (front ++ drop at t) j 0) e) ∙ getD-append-add front (drop at t) (i - at) 0 ∙ getD-drop at t (i - at) 0 ∙ ap (λ (j : ℕ). getD t j 0) f
-
--- a map in the front holds the same in all cells
-joined-holds : (front rest : List ℕ) {m : Map} {es : List (ℕ × ℕ)} → Holds front m es → Holds (front ++ rest) m es
-joined-holds front rest {m} o = record {
-  inside = record { within = omega (arith, o .inside .within, length-append front rest) };
-  answers = λ x. ap (λ (e : ℕ). answerIn e x) (entry-same front (front ++ rest) m (λ i a b. List·getD-append front rest 0 i (omega (arith, o .inside .within))) x) ∙ o .answers x;
-}
 
 module _ {chained : Bool} {s : List ℕ} {form : ℕ} {glyphs lookups : List ℕ} (o : Sound chained s form glyphs lookups) where
   good-map : Bytes glyphs → GlyphMap form glyphs
@@ -220,62 +195,34 @@ module _ {chained : Bool} {s : List ℕ} {form : ℕ} {glyphs lookups : List ℕ
         gone : tableInto (eqb packing 1) out (coverageWords (newCoverage g (coverage s (word s 2)))) (tablesOf chained s g) (trim (map (block (setWords (ruleWords chained))) (slots (cutSet chained (rulesMaps chained s g es)) (heldBy (classesAt s (inputAt chained s)) (retained g (coverage s (word s 2)))) (setsOf chained s) (heldBy (classesAt s (inputAt chained s)) (keys g))))) ≡ refused out 8
         gone = rw (retained-none g (coverage s (word s 2)) empty, ← (trim-blocks (setWords (ruleWords chained)) (slots (cutSet chained (rulesMaps chained s g es)) [] (setsOf chained s) (heldBy (classesAt s (inputAt chained s)) (keys g)))), no-slots (cutSet chained (rulesMaps chained s g es)) (setsOf chained s) (heldBy (classesAt s (inputAt chained s)) (keys g))) refl
 
-    module _ (z : cover .at ≡ 0 → ⊥) where
-      covered : Covered s (glyphEntries form glyphs) t₁ cover
-      covered = n .covered z
-
-      pub before-end : cover .at ≤ length t₁
-      before-end = omega (arith, covered .inside)
-
-      module _ {front : List ℕ} {l : Map} (a : Laid lookups (take (cover .at) t₁) front 0 l) where
-        size : length front ≡ cover .at
-        size = front-size (cover .at) t₁ front before-end (a .kept .size)
-
-        -- too few cells for the lookups
-        pub few-lookups : l .mask ≡ 0 → length t₀ < enoughCells
-        few-lookups w = step (decLt (length t₀) enoughCells)
-          where
-            step : Dec (length t₀ < enoughCells) → length t₀ < enoughCells
-            step (yes h) = h
-            step (no h) = absurd (a .room (omega (arith, size, a .kept .size, covered .enough (omega (arith, n .size)))) (o .lookups-ascend) w)
-
-        module _ (w : l .mask ≡ 0 → ⊥) where
-          abbrev t₂ : List ℕ
-          t₂ = front ++ drop (cover .at) t₁
-
-          whole : length t₂ ≡ length t₁
-          whole = joined-size (cover .at) t₁ front before-end (a .kept .size)
-
-          lookups-held : Holds t₂ l (mapEntries lookups)
-          lookups-held = joined-holds front (drop (cover .at) t₁) (a .holds w)
-
-          notes-stay : news t₂ (cover .at) (cover .len) ≡ news t₁ (cover .at) (cover .len)
-          notes-stay = ap (map (λ c. c % 65536)) (part-same t₂ t₁ (cover .at) (cover .len) (λ j b d. joined-after (cover .at) t₁ front before-end (a .kept .size) j b))
-
-          pub may-cut : {area : List ℕ} {x ia : ℕ} → Bytes s → Bytes glyphs → x ≡ word s 2 → (x ≡ 0 → ⊥) → ia ≡ inputAt chained s → (ia ≡ 0 → ⊥) → (cover .len ≡ 0 → ⊥) → length t₀ ≤ 0x1_0000_0000 → length area ≤ 0x1_0000_0000
-              → Cuts chained s form glyphs (record { lookups = l; cover = cover }) t₂ area
-          may-cut bs bg e y f v c k h = record {
+    -- they are noted
+    pub may-cut : {marks : Marks} {area : List ℕ} {x ia : ℕ} → marks .form ≡ form → Bytes s → Bytes glyphs → Bytes lookups → x ≡ word s 2 → (x ≡ 0 → ⊥) → ia ≡ inputAt chained s → (ia ≡ 0 → ⊥) → (cover .at ≡ 0 → ⊥) → (cover .len ≡ 0 → ⊥) → length t₀ ≤ 0x1_0000_0000 → length area ≤ 0x1_0000_0000
+        → Cuts s glyphs lookups (record { chained = chained; marks = marks; cover = cover }) t₁ area
+    may-cut m bs bg bl e y f v z c k h =
+        let q = n .covered z in
+        record {
+          begins = record {
             sound = sound;
-            bytes = bs;
-            good = context-good chained s bs (o .sound) (o .format);
-            map = good-map bg;
-            lookups = lookups-held .inside;
-            before = omega (arith, a .holds w .inside .within, size);
-            near = omega (arith, covered .near, covered .few);
-            inside = omega (arith, covered .inside, whole);
-            covered = omega arith;
-            few = covered .few;
-            covers = λ q. y (e ∙ q);
-            classed = λ q. v (f ∙ q);
-            glyphs-noted = notes-stay ∙ covered .noted;
-            short = h;
-            cells = omega (arith, whole, n .size);
-          }
+            map = rw m (good-map bg);
+            covers = λ w. y (e ∙ w);
+            enough = q .enough;
+            inside = q .inside;
+            few = q .few;
+            noted = rw m (q .noted);
+            cells = omega (arith, n .size);
+          };
+          bytes = bs;
+          good = context-good chained s bs (o .sound) (o .format);
+          covered = omega arith;
+          classed = λ w. v (f ∙ w);
+          ascend = o .lookups-ascend;
+          values = map-values lookups bl;
+          short = h;
+        }
 
-          pub lookups-cut : {area : List ℕ} {packing : ℕ} (r : Tried) (out after : List ℕ) → Bytes lookups → CutsInto packing chained s (glyphEntries form glyphs) l t₂ area r out after
-              → Tries (length t₀ < enoughCells) (length area < enoughArea) r out after (writtenIn packing out (cut (glyphEntries form glyphs) (mapEntries lookups) (classContext chained s)))
-          lookups-cut {area} {packing} r out after bl c =
-              tries-less (length t₂ < enoughCells) (length area < enoughArea) (length t₀ < enoughCells) (length area < enoughArea) r out after (writtenIn packing out (cut (glyphEntries form glyphs) (mapEntries lookups) (classContext chained s))) (λ f. omega (arith, f, whole, n .size)) (λ f. f) (c .cuts lookups-held (map-values lookups bl))
+    -- the cells are as many
+    pub noted-cut : (area : List ℕ) (r : Tried) (out after : List ℕ) (made : Outcome) → Tries (length t₁ < enoughCells) (length area < enoughArea) r out after made → Tries (length t₀ < enoughCells) (length area < enoughArea) r out after made
+    noted-cut area r out after made h = subst (λ (i : ℕ). Tries (i < enoughCells) (length area < enoughArea) r out after made) (n .size) h
 
 -- A front of the scratch that is long enough, or all of it.
 pub front-length : {n c : ℕ} (t : List ℕ) → Least (length t) c n → n ≡ length (take n t)

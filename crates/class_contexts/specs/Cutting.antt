@@ -1,5 +1,5 @@
 -- What a cut of a context by class asks and answers.
-use Prim.Native.Nat.{ℕ, _+_, _≤_, _<_}
+use Prim.Native.Nat.{ℕ, _+_, _*_, _/_, _≤_, _<_}
 use mathlib.Core.Path.{_≡_}
 use mathlib.Core.Bool.{Bool, true}
 use mathlib.Core.Option.{none}
@@ -10,28 +10,26 @@ use Rattle.meaning.specs.Maps.{mapEntries, goodForm, glyphEntries, goodGlyphMap
 use Rattle.meaning.specs.Parts.{coverage, coverageSound}
 use Rattle.meaning.specs.Tables.{classContext}
 use Rattle.meaning.specs.Fault.{contextFault}
-use Rattle.meaning.specs.Cut.{cut, newCoverage}
-use Rattle.meaning.specs.Subset.{limit, writtenIn}
+use Rattle.meaning.specs.Cut.{newCoverage}
+use Rattle.meaning.specs.Subset.{limit}
 use Rattle.laws.specs.ReadsBack.{Good}
 use Rattle.laws.specs.CutGood.{Values}
 use Rattle.laws.specs.SoundGood.{Bytes}
-use Rattle.room.specs.Laid.{enoughArea}
-use Rattle.fold.specs.Cells.{Inside, Holds}
 use Rattle.fold.specs.declared.Map.{Map}
 use Rattle.area.specs.Part.{news}
-use Rattle.tried.specs.Tries.{Tries}
 use Rattle.glyph_runs.specs.Runs.{GlyphMap}
-use Rattle.tried.specs.declared.Tried.{Tried}
-use Rattle.class_contexts.specs.Meaning.{inputAt, SoundContext}
+use Rattle.class_maps.specs.Present.{mostCells}
+use Rattle.class_tail.specs.Made.{OldIn}
 use Rattle.class_tail.specs.declared.Noted.{Noted}
+use Rattle.class_contexts.specs.Meaning.{backAt, inputAt, aheadAt, SoundContext}
+use Rattle.class_contexts.specs.Sides.{InputIn}
 use Rattle.class_contexts.specs.declared.Begun.{Begun}
-use Rattle.class_contexts.specs.declared.Side.{Side}
-use Rattle.class_contexts.specs.declared.Input.{Input}
+use Rattle.class_contexts.specs.declared.Classed.{Classed}
 use Rattle.class_layouts.specs.declared.Prepared.{Prepared}
 
--- cells that are enough for any source: 65,536 for both maps in turn and for the notes, twice as many for each of three class tables, and 2,048 for the marks
+-- cells that are enough for any source: 65,536 for the maps and the lists of classes in turn, and for the notes, three class maps, and 2,048 for the marks
 abbrev pub enoughCells : ℕ
-enoughCells = 526336
+enoughCells = 2 * 65536 + 3 * mostCells + 2048
 
 -- what a cut asks: the source is a context of format 2 without a fault and is not over the limit, the glyph map is good, and the old numbers of the lookup map ascend
 pub record Sound (chained : Bool) (s : List ℕ) (form : ℕ) (glyphs lookups : List ℕ) : Type 0 where
@@ -42,20 +40,27 @@ pub record Sound (chained : Bool) (s : List ℕ) (form : ℕ) (glyphs lookups : 
   pub glyphs-good : goodGlyphMap form glyphs ≡ true
   pub lookups-ascend : ascends (keys (mapEntries lookups)) ≡ true
 
--- all that the cells hold for a cut, and the mark of the layout
-abbrev pub preparedOf : Map → Noted → Input → Side → Side → ℕ → Prepared
-preparedOf l noted i b a packing = record {
-  maps = record { back = b .map; input = i .map; ahead = a .map; lookups = l };
-  marks = i .marks;
-  classes = i .classes;
-  tail = record { cover = noted; back = b .table; input = i .table; ahead = a .table };
-  packing = packing;
+-- all that a cut needs, from its parts
+abbrev pub preparedOf : Begun → List ℕ → Classed → Map → Prepared
+preparedOf b s c l = record {
+  maps = record { back = c .back; input = c .input .map; ahead = c .ahead; lookups = l };
+  marks = c .input .marks;
+  classes = c .input .classes;
+  tail = record {
+    chained = b .chained;
+    form = b .marks .form;
+    cover = b .cover;
+    back = record { at = backAt (b .chained) s; map = c .back };
+    input = record { at = inputAt (b .chained) s; map = c .input .map };
+    ahead = record { at = aheadAt (b .chained) s; map = c .ahead };
+  };
+  packing = b .marks .layout;
 }
 
--- r lies behind the cells of a map of this mask, is not past 65,536, and is that number where `all` cells are enough for any source
+-- r lies behind the cells of a map of this mask, not past 65,536 and a quarter of all cells, and is 65,536 where `all` cells are enough for any source
 pub record Behind (mask all r : ℕ) : Type 0 where
   pub behind : mask < r
-  pub near : r ≤ 65536
+  pub near : r ≤ 65536 + all / 4
   pub enough : enoughCells ≤ all → r ≡ 65536
 
 -- the coverage is there and sound, and the glyph map is good
@@ -65,7 +70,6 @@ pub record Covers (s : List ℕ) (form : ℕ) (glyphs : List ℕ) : Type 0 where
 
 -- the retained glyphs of the coverage are noted in r's cells, behind 65,536 others where the cells are enough for any source
 pub record Covered (s : List ℕ) (g : List (ℕ × ℕ)) (t : List ℕ) (r : Noted) : Type 0 where
-  pub near : r .at ≤ 65536
   pub enough : enoughCells ≤ length t → r .at ≡ 65536
   pub inside : r .at + r .len ≤ length t
   pub few : r .len ≤ 65536
@@ -77,27 +81,41 @@ pub record NotesCovered (s : List ℕ) (g : List (ℕ × ℕ)) (t₀ t : List �
   pub room : r .at ≡ 0 → length t₀ < enoughCells
   pub covered : (r .at ≡ 0 → ⊥) → Covered s g t r
 
--- what is asked where the covered glyphs are noted in cells: there is one, and the cells of the lookup map stand before them
-pub record Cuts (chained : Bool) (s : List ℕ) (form : ℕ) (glyphs : List ℕ) (b : Begun) (t area : List ℕ) : Type 0 where
-  pub sound : SoundContext chained s
-  pub bytes : Bytes s
-  pub good : Good (classContext chained s)
-  pub map : GlyphMap form glyphs
-  pub lookups : Inside t (b .lookups)
-  pub before : b .lookups .at + b .lookups .mask < b .cover .at
-  pub near : b .cover .at + b .cover .len ≤ 131072
-  pub inside : b .cover .at + b .cover .len ≤ length t
-  pub covered : 0 < b .cover .len
-  pub few : b .cover .len ≤ 65536
+-- what is asked to lay the class maps: the source is a sound context, and the retained glyphs of its coverage are noted in cells, behind 65,536 others where the cells are enough for any source
+pub record Begins (s glyphs : List ℕ) (b : Begun) (t : List ℕ) : Type 0 where
+  pub sound : SoundContext (b .chained) s
+  pub map : GlyphMap (b .marks .form) glyphs
   pub covers : word s 2 ≡ 0 → ⊥
-  pub classed : inputAt chained s ≡ 0 → ⊥
-  pub glyphs-noted : news t (b .cover .at) (b .cover .len) ≡ newCoverage (glyphEntries form glyphs) (coverage s (word s 2))
-  pub short : length area ≤ 0x1_0000_0000
+  pub enough : enoughCells ≤ length t → b .cover .at ≡ 65536
+  pub inside : b .cover .at + b .cover .len ≤ length t
+  pub few : b .cover .len ≤ 65536
+  pub noted : news t (b .cover .at) (b .cover .len) ≡ newCoverage (glyphEntries (b .marks .form) glyphs) (coverage s (word s 2))
   pub cells : length t ≤ 0x1_0000_0000
 
--- whatever lookup map of words the cells of l hold, what is left of the context under the glyph map g is handed over in the layout with the mark `packing`
-pub record CutsInto (packing : ℕ) (chained : Bool) (s : List ℕ) (g : List (ℕ × ℕ)) (l : Map) (t area : List ℕ) (r : Tried) (out after : List ℕ) : Type 0 where
-  pub cuts : {es : List (ℕ × ℕ)} → Holds t l es → Values es → Tries (length t < enoughCells) (length area < enoughArea) r out after (writtenIn packing out (cut g es (classContext chained s)))
+-- The class maps are in cells, so that each new class table can be made, and the notes are as they were.
+pub record ClassesIn (s glyphs : List ℕ) (b : Begun) (t : List ℕ) (c : Classed) : Type 0 where
+  pub input : InputIn (glyphEntries (b .marks .form) glyphs) s (inputAt (b .chained) s) (coverage s (word s 2)) t (b .cover) (c .input)
+  pub few : c .input .map .mask < mostCells
+  pub back : OldIn (glyphEntries (b .marks .form) glyphs) s t (b .cover .at) (record { at = backAt (b .chained) s; map = c .back })
+  pub ahead : OldIn (glyphEntries (b .marks .form) glyphs) s t (b .cover .at) (record { at = aheadAt (b .chained) s; map = c .ahead })
+  pub noted : news t (b .cover .at) (b .cover .len) ≡ newCoverage (glyphEntries (b .marks .form) glyphs) (coverage s (word s 2))
+
+-- They are, or the mask of the input's is 0, since there are too few cells.
+pub record ClassesLaid (s glyphs : List ℕ) (b : Begun) (t₀ t : List ℕ) (c : Classed) : Type 0 where
+  pub size : length t ≡ length t₀
+  pub room : c .input .map .mask ≡ 0 → length t₀ < enoughCells
+  pub laid : (c .input .map .mask ≡ 0 → ⊥) → ClassesIn s glyphs b t c
+
+-- what is asked where the covered glyphs are noted: there is one, and the lookup map is good
+pub record Cuts (s glyphs lookups : List ℕ) (b : Begun) (t area : List ℕ) : Type 0 where
+  pub begins : Begins s glyphs b t
+  pub bytes : Bytes s
+  pub good : Good (classContext (b .chained) s)
+  pub covered : 0 < b .cover .len
+  pub classed : inputAt (b .chained) s ≡ 0 → ⊥
+  pub ascend : ascends (keys (mapEntries lookups)) ≡ true
+  pub values : Values (mapEntries lookups)
+  pub short : length area ≤ 0x1_0000_0000
 
 -- r is the lesser of a and b
 pub record Least (a b r : ℕ) : Type 0 where

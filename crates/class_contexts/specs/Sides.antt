@@ -1,92 +1,71 @@
--- Class tables in cells: the class map of one, and the entries of the new one; for the input, also the marks of the classes that covered glyphs hold.
+-- Class tables in cells: the classes of one after the other are listed in the first cells, and the class map of each is laid behind the notes of the covered glyphs; for the input, also the marks of the classes that these hold.
 use Prim.Native.Nat.{ℕ, _+_, _/_, _≤_, _<_}
-use mathlib.Core.Path.{_≡_, refl, sym, ap, _∙_}
-use mathlib.Core.Bool.{Bool, true, false}
-use mathlib.Core.Option.{Option, some}
+use mathlib.Core.Path.{_≡_}
 use mathlib.Core.List.{List}
 use lib.ListN.{length}
-use lib.Dec.{eqb}
-use borrow.Author.Tests.{eqb-true, eqb-false}
 use Rattle.meaning.specs.Words.{keys, member}
-use Rattle.meaning.specs.Parts.{classes}
-use Rattle.meaning.specs.Cut.{heldBy, classMap, classMap?, newClasses, newClasses?, newCoverage, retained}
-use Rattle.meaning.specs.Layout.{block, classWords}
+use Rattle.meaning.specs.Cut.{heldBy, classMap, newCoverage, retained}
 use Rattle.laws.specs.Runs.{Up}
 use Rattle.bits.specs.Bits.{marked}
-use Rattle.fold.specs.Cells.{Holds, Kept}
 use Rattle.fold.specs.declared.Map.{Map}
-use Rattle.area.specs.Part.{news, notes}
+use Rattle.area.specs.Part.{news}
 use Rattle.glyph_runs.specs.Runs.{GlyphMap}
-use Rattle.class_lists.specs.Tables.{tableAt, classesAt, NullOrSound, null-table, table-there, lists-there}
-use Rattle.class_maps.specs.Present.{present}
-use Rattle.class_tail.specs.Tail.{tableBlock, block-null, block-there, TableIn}
-use Rattle.class_tail.specs.declared.NewTable.{NewTable}
+use Rattle.class_lists.specs.Tables.{classesAt, NullOrSound}
+use Rattle.class_maps.specs.Present.{mostCells, topOf, present}
+use Rattle.class_maps.specs.Mapped.{Lists, Classes}
+use Rattle.class_maps.specs.Same.{Same}
+use Rattle.class_tail.specs.Made.{OldIn}
 use Rattle.class_tail.specs.declared.Noted.{Noted}
 use Rattle.class_contexts.specs.declared.Side.{Side}
 use Rattle.class_contexts.specs.declared.Input.{Input}
 
--- the block of the new class table, by the definitions; null if the old one is
-abbrev pub newTable : List (ℕ × ℕ) → List ℕ → ℕ → Option (List ℕ)
-newTable g s at = block classWords (newClasses? g (tableAt s at))
-
--- n has the entries of the new class table for the one at `at`, under the glyph map g
-pub record TableFor (g : List (ℕ × ℕ)) (s : List ℕ) (at : ℕ) (t : List ℕ) (n : NewTable) : Type 0 where
-  pub in-cells : TableIn t n
-  pub is : tableBlock t n ≡ newTable g s at
-
--- the block is the one of these entries
-pub table-is : (g : List (ℕ × ℕ)) (s : List ℕ) (at : ℕ) (t : List ℕ) (n : NewTable) → n .old ≡ at → notes t (n .list) (n .len) ≡ newClasses g (classesAt s at) → tableBlock t n ≡ newTable g s at
-unfolding newClasses? block
-table-is g s at t n o e = step (eqb at 0) refl
-  where
-    step : (b : Bool) → eqb at 0 ≡ b → tableBlock t n ≡ block classWords (newClasses? g (tableAt s at))
-    step true q =
-        let z = eqb-true at 0 q in
-        block-null t n (o ∙ z) ∙ sym (rw (null-table s z) refl)
-    step false q =
-        let z : at ≡ 0 → ⊥ = eqb-false at 0 q in
-        block-there t n (λ w. z (sym o ∙ w)) ∙ ap (λ (es : List (ℕ × ℕ)). some (classWords es)) (e ∙ ap (newClasses g) (lists-there s z)) ∙ sym (rw (table-there s z) refl)
-
--- what is asked to lay a class table into cells from `list` on
-pub record Asks (s : List ℕ) (at form : ℕ) (glyphs : List ℕ) (list : ℕ) : Type 0 where
+-- what is asked to list the classes of a class table in the first `front` cells, and to lay its class map into those from `to` on
+pub record Asks (s : List ℕ) (at form : ℕ) (glyphs t : List ℕ) (front to : ℕ) : Type 0 where
   pub sound : NullOrSound s at
   pub map : GlyphMap form glyphs
-  pub near : list ≤ 0x1_0000_0000
+  pub before : front ≤ to
+  pub inside : to ≤ length t
+  pub near : length t ≤ 0x1_0000_0000
 
--- the class map of the class table at `at`, and the entries of the new one
-pub record SideIn (g : List (ℕ × ℕ)) (s : List ℕ) (at : ℕ) (t : List ℕ) (r : Side) : Type 0 where
-  pub holds : Holds t (r .map) (classMap? g (tableAt s at))
-  pub table : TableFor g s at t (r .table)
+-- the classes of the class table at `at` are listed, and its class map stands from `to` on, so that the new one can be made
+pub record SideIn (g : List (ℕ × ℕ)) (s : List ℕ) (at : ℕ) (t : List ℕ) (front to : ℕ) (r : Side) : Type 0 where
+  pub table : OldIn g s t front (record { at = at; map = r .classes .map })
+  pub place : r .classes .map .at ≡ to
+  pub fits : r .len ≤ front
+  pub lists : Lists (classesAt s at) g t 0 (r .len)
+  pub classes : Classes (classMap g (classesAt s at)) t (r .classes)
 
--- They are laid into cells from `list` on, or the mask is 0, since there are too few cells; the cells before `list` are as before.
-pub record Sided (s : List ℕ) (at : ℕ) (g : List (ℕ × ℕ)) (t₀ t : List ℕ) (list : ℕ) (r : Side) : Type 0 where
-  pub kept : Kept list t₀ t
-  pub few : r .map .mask < 65536
-  pub room : list + 131072 ≤ length t₀ → r .map .mask ≡ 0 → ⊥
-  pub low : (r .map .mask ≡ 0 → ⊥) → list ≤ r .map .at
-  pub near : (r .map .mask ≡ 0 → ⊥) → r .map .at ≤ list + 65536
-  pub before : (r .map .mask ≡ 0 → ⊥) → r .table .list + r .table .len ≤ r .map .at
-  pub side : (r .map .mask ≡ 0 → ⊥) → SideIn g s at t r
+-- They are, or the mask is 0, since there are too few cells; the cells from `front` up to `to` are as before.
+pub record Sided (s : List ℕ) (at : ℕ) (g : List (ℕ × ℕ)) (t₀ t : List ℕ) (front to : ℕ) (r : Side) : Type 0 where
+  pub same : Same front to t₀ t
+  pub few : r .classes .map .mask < mostCells
+  pub room : 65536 ≤ front → to + mostCells ≤ length t₀ → r .classes .map .mask ≡ 0 → ⊥
+  pub side : (r .classes .map .mask ≡ 0 → ⊥) → SideIn g s at t front to r
 
--- how many cells marks take, one bit for each class that the map has a cell for
+-- how many cells marks take, one bit for each class that can have an entry
 abbrev pub markCells : Map → ℕ
-markCells m = m .mask / 32 + 1
+markCells m = topOf m / 32 + 1
 
--- the same for the input, with marks of the classes that the retained glyphs of a coverage hold
-pub record InputIn (g : List (ℕ × ℕ)) (s : List ℕ) (at : ℕ) (cov t : List ℕ) (r : Input) : Type 0 where
-  pub holds : Holds t (r .map) (classMap g (classesAt s at))
+-- what is asked for the input: the notes lie inside
+pub record InputAsks (s : List ℕ) (at form : ℕ) (glyphs : List ℕ) (noted : Noted) (t : List ℕ) : Type 0 where
+  pub sound : NullOrSound s at
+  pub map : GlyphMap form glyphs
+  pub inside : noted .at + noted .len ≤ length t
+  pub near : length t ≤ 0x1_0000_0000
+
+-- The class map of the input stands behind the notes, and behind it the marks of the classes that the retained glyphs of a coverage hold.
+pub record InputIn (g : List (ℕ × ℕ)) (s : List ℕ) (at : ℕ) (cov t : List ℕ) (noted : Noted) (r : Input) : Type 0 where
+  pub table : OldIn g s t (noted .at) (record { at = at; map = r .map })
+  pub place : noted .at + noted .len ≡ r .map .at
+  pub behind : r .marks ≡ r .map .at + r .map .mask + 1
+  pub inside : r .marks + markCells (r .map) ≤ length t
   pub held : present t (r .map) ≡ heldBy (classesAt s at) (keys g)
   pub count : r .classes ≡ length (heldBy (classesAt s at) (keys g))
-  pub covered : (c : ℕ) → c ≤ r .map .mask → marked t (r .marks) c ≡ member c (heldBy (classesAt s at) (retained g cov))
-  pub table : TableFor g s at t (r .table)
+  pub covered : (c : ℕ) → c ≤ topOf (r .map) → marked t (r .marks) c ≡ member c (heldBy (classesAt s at) (retained g cov))
 
--- The cells up to the notes of the coverage's glyphs are as before; the mask is 0 where there are too few cells.
+-- They do, or the mask is 0, since there are too few cells; the notes are as before.
 pub record InputLaid (s : List ℕ) (at : ℕ) (g : List (ℕ × ℕ)) (noted : Noted) (t₀ t : List ℕ) (r : Input) : Type 0 where
-  pub kept : Kept (noted .at + noted .len) t₀ t
-  pub few : r .map .mask < 65536
-  pub room : noted .at + noted .len + 133120 ≤ length t₀ → r .map .mask ≡ 0 → ⊥
-  pub low : (r .map .mask ≡ 0 → ⊥) → noted .at + noted .len ≤ r .map .at
-  pub near : (r .map .mask ≡ 0 → ⊥) → r .map .at ≤ noted .at + noted .len + 65536
-  pub behind : (r .map .mask ≡ 0 → ⊥) → r .marks ≡ r .map .at + r .map .mask + 1
-  pub before : (r .map .mask ≡ 0 → ⊥) → r .table .list + r .table .len ≤ r .map .at
-  pub side : (r .map .mask ≡ 0 → ⊥) → (cov : List ℕ) → Up 0 cov → news t₀ (noted .at) (noted .len) ≡ newCoverage g cov → InputIn g s at cov t r
+  pub same : Same (noted .at) (noted .at + noted .len) t₀ t
+  pub few : r .map .mask < mostCells
+  pub room : 65536 ≤ noted .at → noted .at + noted .len + mostCells + 2048 ≤ length t₀ → r .map .mask ≡ 0 → ⊥
+  pub side : (r .map .mask ≡ 0 → ⊥) → (cov : List ℕ) → Up 0 cov → news t₀ (noted .at) (noted .len) ≡ newCoverage g cov → InputIn g s at cov t noted r

@@ -35,12 +35,15 @@ table-is packed cover tables bs more {n} {q} {f} e g h k =
     rw (start, k, ← h, ← e)
     (sym (ap (λ (l : List ℕ). 2 ∷ l) (append-assoc (ot ++ (n ∷ [])) (offsetsIn packed f bs) (more ++ tailWords packed cover tables) ∙ append-assoc ot (n ∷ []) (offsetsIn packed f bs ++ (more ++ tailWords packed cover tables)))))
 
-module _ (packed : Bool) {chained : Bool} {t : List ℕ} {tail : Tail} {r : Slots} {classes : ℕ} {a₀ : List ℕ} (a : Finishes chained t tail r classes a₀) {slots : ℕ} (s : slots ≡ slotsAt chained) where
+module _ (packed : Bool) {src glyphs t : List ℕ} {tail : Tail} {r : Slots} {classes : ℕ} {a₀ : List ℕ} (a : Finishes src glyphs t tail r classes a₀) {slots : ℕ} (s : slots ≡ slotsAt (tail .chained)) where
+  abbrev chained : Bool
+  chained = tail .chained
+
   abbrev cover : List ℕ
   cover = coverOf t tail
 
   abbrev tables : List (Option (List ℕ))
-  tables = tableBlocks chained t tail
+  tables = tableBlocks chained src glyphs tail
 
   -- the words that follow the sets
   abbrev tw : List ℕ
@@ -56,7 +59,7 @@ module _ (packed : Bool) {chained : Bool} {t : List ℕ} {tail : Tail} {r : Slot
   gap = 2 * (classes - count)
 
   near : (8 ≤ slots) × (slots ≤ 12) × (slots ≡ 6 + 2 * length tables)
-  near = (omega (arith, s, slots-near chained .0), omega (arith, s, slots-near chained .1), s ∙ tail-many chained t tail)
+  near = (omega (arith, s, slots-near chained .0), omega (arith, s, slots-near chained .1), s ∙ tail-many chained src glyphs tail)
 
   module _ {a₁ : List ℕ} (settle : a₁ ≡ sets a₀ slots (flat (map (settled (slots + 2 * count)) (words a₀ slots count)))) where
     same₁ : length a₁ ≡ length a₀

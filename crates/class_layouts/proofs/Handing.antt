@@ -128,7 +128,10 @@ module _ (packed : Bool) (cover : List ℕ) (tables bs : List (Option (List ℕ)
       step true h = absurd (h refl)
       step false h = laid-unfit out (flat (classTable packed cover tables (trim bs)))
 
-module _ {chained : Bool} {s t : List ℕ} {p : Prepared} {area₀ : List ℕ} (a : Writes chained s t p area₀) {area : List ℕ} {r : Slots} (w : WroteSlots (eqb (p .packing) 1) chained s t (p .maps) (p .marks) area₀ area r) (out : List ℕ) where
+module _ {s glyphs t : List ℕ} {p : Prepared} {area₀ : List ℕ} (a : Writes s glyphs t p area₀) {area : List ℕ} {r : Slots} (w : WroteSlots (eqb (p .packing) 1) (p .tail .chained) s t (p .maps) (p .marks) area₀ area r) (out : List ℕ) where
+  abbrev chained : Bool
+  chained = p .tail .chained
+
   abbrev packed : Bool
   packed = eqb (p .packing) 1
 
@@ -139,17 +142,17 @@ module _ {chained : Bool} {s t : List ℕ} {p : Prepared} {area₀ : List ℕ} (
   cover = coverOf t (p .tail)
 
   abbrev tables : List (Option (List ℕ))
-  tables = tableBlocks chained t (p .tail)
+  tables = tableBlocks chained s glyphs (p .tail)
 
   many : length bs ≡ p .classes
   many = blocks-many chained s t (p .maps) (p .marks) ∙ sym (a .ready .number)
 
   -- there is no room for the sets
-  pub short-slots : length area < r .end → enoughArea ≤ length area → refused out 9 ≡ leftInto out chained s t p
+  pub short-slots : length area < r .end → enoughArea ≤ length area → refused out 9 ≡ leftInto out s glyphs t p
   short-slots l b =
       let u : 65526 ≤ 2 * length (blocksIn packed bs) = w .full (omega (arith, w .same)) (omega (arith, w .same)) in
       let some-left = trim-some packed cover tables bs (omega (arith, u)) in
-      left-unfit packed cover tables bs out some-left (λ q. omega (arith, u, some-left, tail-fit packed (coverPlace packed tables (trim bs)) cover tables q .0, ap length (trim-blocks packed bs), tail-many chained t (p .tail), slots-near chained))
+      left-unfit packed cover tables bs out some-left (λ q. omega (arith, u, some-left, tail-fit packed (coverPlace packed tables (trim bs)) cover tables q .0, ap length (trim-blocks packed bs), tail-many chained s glyphs (p .tail), slots-near chained))
 
   module _ (l : r .end ≤ length area) where
     filled : Filled chained s t (p .maps) (p .marks) packed area r
@@ -159,7 +162,7 @@ module _ {chained : Bool} {s t : List ℕ} {p : Prepared} {area₀ : List ℕ} (
     long = ap length (filled .head) ∙ length-take-le (r .count) bs (filled .few)
 
     -- no slot is left
-    pub none-left : r .count ≡ 0 → refused out 8 ≡ leftInto out chained s t p
+    pub none-left : r .count ≡ 0 → refused out 8 ≡ leftInto out s glyphs t p
     none-left z = sym (left-none packed cover tables bs out (long ∙ z))
 
     module _ (z : r .count ≡ 0 → ⊥) where
@@ -167,7 +170,7 @@ module _ {chained : Bool} {s t : List ℕ} {p : Prepared} {area₀ : List ℕ} (
       ends = omega (arith, filled .noted .place, many)
 
       -- the table can be put together
-      pub may-finish : Finishes chained t (p .tail) r (p .classes) area
+      pub may-finish : Finishes s glyphs t (p .tail) r (p .classes) area
       may-finish = record {
         tail-in = a .tail-in;
         some-slot = omega arith;
@@ -180,10 +183,10 @@ module _ {chained : Bool} {s t : List ℕ} {p : Prepared} {area₀ : List ℕ} (
       module _ {after : List ℕ} {end : ℕ} (f : Finished packed chained cover tables r (p .classes) area after end) where
         -- where the coverage stands
         cover-is : coverPlace packed tables (trim bs) ≡ r .end - 2 * (p .classes - r .count)
-        cover-is = omega (arith, ends, long, filled .few, many, ap length (trim-blocks packed bs), tail-many chained t (p .tail))
+        cover-is = omega (arith, ends, long, filled .few, many, ap length (trim-blocks packed bs), tail-many chained s glyphs (p .tail))
 
         -- there is no room for what follows the sets
-        pub short-table : length after < end → enoughArea ≤ length after → refused out 9 ≡ leftInto out chained s t p
+        pub short-table : length after < end → enoughArea ≤ length after → refused out 9 ≡ leftInto out s glyphs t p
         short-table k b =
             left-unfit packed cover tables bs out (omega (arith, long)) (λ q. omega (arith, f .full (omega (arith, f .same)) (rw cover-is at q), a .few, f .same))
 
@@ -196,7 +199,7 @@ module _ {chained : Bool} {s t : List ℕ} {p : Prepared} {area₀ : List ℕ} (
           first-near = omega (arith, ends-at, ends)
 
           -- what is handed over is the table
-          pub table-laid : {at : ℕ} → at ≡ slotsAt chained → {o : Outcome} → o ≡ laidAs true out (part after 0 (at + 2 * r .count) ++ part after (at + 2 * p .classes) (end - (at + 2 * p .classes))) → o ≡ leftInto out chained s t p
+          pub table-laid : {at : ℕ} → at ≡ slotsAt chained → {o : Outcome} → o ≡ laidAs true out (part after 0 (at + 2 * r .count) ++ part after (at + 2 * p .classes) (end - (at + 2 * p .classes))) → o ≡ leftInto out s glyphs t p
           table-laid {at} e h =
               let fits = f .near (omega (arith, f .same, k)) in
               let low = tail-fit packed (r .end - 2 * (p .classes - r .count)) cover tables fits .0 in

@@ -30,13 +30,13 @@ unfoldable pub tableInto : Bool → List ℕ → List ℕ → List (Option (List
 tableInto packed out cover tables [] = refused out 8
 tableInto packed out cover tables (b ∷ bs) = laidAs (tailFit packed (coverPlace packed tables (b ∷ bs)) cover tables) out (flat (classTable packed cover tables (b ∷ bs)))
 
--- what is asked to put the table together: there are slots, of which `count` are left, and what follows them is in cells
-pub record Finishes (chained : Bool) (t : List ℕ) (tail : Tail) (r : Slots) (classes : ℕ) (area : List ℕ) : Type 0 where
-  pub tail-in : TailIn t tail
+-- what is asked to put the table together: there are slots, of which `count` are left, and what follows them can be written
+pub record Finishes (s glyphs t : List ℕ) (tail : Tail) (r : Slots) (classes : ℕ) (area : List ℕ) : Type 0 where
+  pub tail-in : TailIn s glyphs t tail
   pub some-slot : 0 < r .count
   pub few : r .count ≤ classes
   pub low : classes ≤ 65536
-  pub start : slotsAt chained + 2 * classes ≤ r .end
+  pub start : slotsAt (tail .chained) + 2 * classes ≤ r .end
   pub room : r .end ≤ length area
 
 -- Whatever slots are noted there: the head of their table stands at the front and the rest from the first set up to r, if it isn't too long by far; or the area is too short for what follows the sets, or an offset or a count of that doesn't fit a word.

@@ -1,7 +1,7 @@
 -- What is left of a context by class, written into the area and handed over.
 use Prim.Native.Nat.{ℕ, _≤_, _<_}
 use mathlib.Core.Path.{_≡_}
-use mathlib.Core.Bool.{Bool, true}
+use mathlib.Core.Bool.{true}
 use mathlib.Core.List.{List}
 use lib.ListN.{length}
 use lib.Dec.{eqb}
@@ -30,12 +30,12 @@ pub record NoRoom (n : ℕ) (r : Tried) : Type 0 where
   pub told : (out : List ℕ) (made : Outcome) → (enoughArea ≤ n → refused out 9 ≡ made) → Tries ⊥ (n < enoughArea) r out out made
 
 -- what the writer asks: the cells have all that is needed for the sets and for what follows them, and there are not too many classes
-pub record Writes (chained : Bool) (s t : List ℕ) (p : Prepared) (area : List ℕ) : Type 0 where
-  pub ready : Ready chained s t (p .maps) (record { marks = p .marks; count = p .classes })
+pub record Writes (s glyphs t : List ℕ) (p : Prepared) (area : List ℕ) : Type 0 where
+  pub ready : Ready (p .tail .chained) s t (p .maps) (record { marks = p .marks; count = p .classes })
   pub few : p .classes ≤ mostClasses
-  pub tail-in : TailIn t (p .tail)
+  pub tail-in : TailIn s glyphs t (p .tail)
   pub short : length area ≤ 0x1_0000_0000
 
--- what is left, as the cells say it, laid into the buffer
-abbrev pub leftInto : List ℕ → Bool → List ℕ → List ℕ → Prepared → Outcome
-leftInto out chained s t p = tableInto (eqb (p .packing) 1) out (coverOf t (p .tail)) (tableBlocks chained t (p .tail)) (trim (slotBlocks chained s t (p .maps) (p .marks)))
+-- what is left, as the cells and the source say it, laid into the buffer
+abbrev pub leftInto : List ℕ → List ℕ → List ℕ → List ℕ → Prepared → Outcome
+leftInto out s glyphs t p = tableInto (eqb (p .packing) 1) out (coverOf t (p .tail)) (tableBlocks (p .tail .chained) s glyphs (p .tail)) (trim (slotBlocks (p .tail .chained) s t (p .maps) (p .marks)))

@@ -130,7 +130,7 @@ pub fn class_of(src: &[u8], at: usize, glyph: usize) -> usize
 }
 
 // The greater of two numbers.
-fn greater(a: usize, b: usize) -> usize
+pub fn greater(a: usize, b: usize) -> usize
     ensures { λ r. ⌜ Greater a b r ⌝ }
 {
     if a < b {

@@ -141,7 +141,7 @@ held-none : (cs : List (ℕ × ℕ)) (x : ℕ) → member x (heldBy cs []) ≡ f
 unfolding heldBy member
 held-none cs x = refl
 
-or-none : (a : Bool) → a || false ≡ a
+pub or-none : (a : Bool) → a || false ≡ a
 or-none true = refl
 or-none false = refl
 
@@ -154,7 +154,7 @@ first-up : (low v : ℕ) (vs l : List ℕ) → Up low l → l ≡ v ∷ vs → U
 first-up low v vs l u e = subst (Up low) e u .1
 
 -- One bit more, where there is a cell for it.
-put-one : {at c : ℕ} {t u : List ℕ} → Put at c t u → (x : ℕ) → at + x / 32 < length t → marked u at x ≡ eqb c x || marked t at x
+pub put-one : {at c : ℕ} {t u : List ℕ} → Put at c t u → (x : ℕ) → at + x / 32 < length t → marked u at x ≡ eqb c x || marked t at x
 put-one {at} {c} {t} {u} p x h = step (eqb c x) refl
   where
     step : (b : Bool) → eqb c x ≡ b → marked u at x ≡ b || marked t at x
@@ -163,7 +163,7 @@ put-one {at} {c} {t} {u} p x h = step (eqb c x) refl
         ap (marked u at) (sym f) ∙ p .own (rw f h)
     step false e = p .others x (λ q. eqb-false c x e (sym q))
 
-put-kept : {at c : ℕ} {t u : List ℕ} → Put at c t u → Kept at t u
+pub put-kept : {at c : ℕ} {t u : List ℕ} → Put at c t u → Kept at t u
 put-kept p = record { size = p .size; same = λ i h. p .cells i (λ e. omega arith) }
 
 -- What the loop of `mark_met` keeps: the marked classes, and those of the notes from the j-th on, are all; the listed cells up to k are below these notes.

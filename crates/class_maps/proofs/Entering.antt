@@ -81,27 +81,27 @@ renamed-classed cs news (e ∷ g) z = step (eqb (classOf cs (e .0)) 0) refl (ren
     step false q k = ap (push (renamed news (e .1, classOf cs (e .0)))) k
 
 -- What the loop of `new_entries` keeps: k entries are noted, and those of the listed ones from the e-th on are left.
-pub record Entering (t₀ t : List ℕ) (list : ℕ) (m : Map) (n k e : ℕ) : Type 0 where
+pub record Entering (t₀ t : List ℕ) (list n : ℕ) (m : Map) (k e : ℕ) : Type 0 where
   pub inside : Inside t₀ m
-  pub place : list + n ≡ m .at
+  pub place : list + n ≤ m .at
   pub within : e ≤ n
   pub near : k ≤ e
   pub elsewhere : Elsewhere list (list + k) t₀ t
   pub left : (news : List (ℕ × ℕ)) → Holds t₀ m news → notes t list k ++ mapSome (renamed news) (notes t₀ (list + e) (n - e)) ≡ mapSome (renamed news) (notes t₀ list n)
 
-module _ {t₀ : List ℕ} {list : ℕ} {m : Map} {n : ℕ} where
-  pub entering-all : n ≡ m .at - list → Inside t₀ m × (list ≤ m .at) → Entering t₀ t₀ list m n 0 0
+module _ {t₀ : List ℕ} {list n : ℕ} {m : Map} where
+  pub entering-all : Inside t₀ m × (list + n ≤ m .at) → Entering t₀ t₀ list n m 0 0
   unfolding part
-  entering-all s h = record {
+  entering-all h = record {
     inside = h .0;
-    place = omega arith;
+    place = h .1;
     within = omega arith;
     near = omega arith;
     elsewhere = elsewhere-all;
     left = λ news o. rw (part-all t₀ list n) refl;
   }
 
-  module _ {t : List ℕ} {k e : ℕ} (w : Entering t₀ t list m n k e) (h : e < n) where
+  module _ {t : List ℕ} {k e : ℕ} (w : Entering t₀ t list n m k e) (h : e < n) where
     pub entering-inside : list + e < length t
     entering-inside = omega (arith, w .inside .within, w .place, w .elsewhere .size)
 
@@ -125,7 +125,7 @@ module _ {t₀ : List ℕ} {list : ℕ} {m : Map} {n : ℕ} where
       is-new news o = f .0 ∙ ap (λ (a : Option ℕ). Option·getD a 0) (folded-kept m (cell % 65536) (w .elsewhere) (omega (arith, w .place, w .near)) ∙ o .answers (cell % 65536))
 
       -- the glyph is not listed
-      pub entering-none : new ≡ 0 → Entering t₀ t list m n k (e + 1)
+      pub entering-none : new ≡ 0 → Entering t₀ t list n m k (e + 1)
       unfolding mapSome push
       entering-none z = record {
         inside = w .inside;
@@ -137,7 +137,7 @@ module _ {t₀ : List ℕ} {list : ℕ} {m : Map} {n : ℕ} where
       }
 
       -- it is
-      pub entering-one : (new ≡ 0 → ⊥) → Entering t₀ (set t (list + k) (cell / 65536 * 65536 + new)) list m n (k + 1) (e + 1)
+      pub entering-one : (new ≡ 0 → ⊥) → Entering t₀ (set t (list + k) (cell / 65536 * 65536 + new)) list n m (k + 1) (e + 1)
       unfolding mapSome push
       entering-one z = record {
         inside = w .inside;
@@ -149,13 +149,10 @@ module _ {t₀ : List ℕ} {list : ℕ} {m : Map} {n : ℕ} where
             ∙ rw (first, renamed-some news (cell / 65536) (cell % 65536) (is-new news o) z) at (w .left news o);
       }
 
-  pub entering-end : {t : List ℕ} {k e : ℕ} → Entering t₀ t list m n k e → n ≤ e → Entries t₀ t list m k
+  pub entering-end : {t : List ℕ} {k e : ℕ} → Entering t₀ t list n m k e → n ≤ e → Entries t₀ t list n m k
   unfolding mapSome
   entering-end {t} {k} {e} w h = record {
-    few = omega (arith, w .near, w .within, w .place);
-    elsewhere = elsewhere-wide (omega arith) (omega (arith, w .near, w .within, w .place)) (w .elsewhere);
-    entries = λ cs g news l o z. sym (append-nil (notes t list k)) ∙ rw (part-none t₀ list n e h) at (w .left news o) ∙ ap (mapSome (renamed news)) (rw size at (l .each)) ∙ renamed-classed cs news g z;
+    few = omega (arith, w .near, w .within);
+    elsewhere = elsewhere-wide (omega arith) (omega (arith, w .near, w .within)) (w .elsewhere);
+    entries = λ cs g news l o z. sym (append-nil (notes t list k)) ∙ rw (part-none t₀ list n e h) at (w .left news o) ∙ ap (mapSome (renamed news)) (l .each) ∙ renamed-classed cs news g z;
   }
-    where
-      size : m .at - list ≡ n
-      size = omega (arith, w .place)

@@ -1,29 +1,32 @@
 -- From the classes of the glyphs to their class map.
-use Prim.Native.Nat.{ℕ, zero, suc, _+_, _-_, _%_, _≤_, _<_}
+use Prim.Native.Nat.{ℕ, zero, suc, _+_, _-_, _%_, _^_, _≤_, _<_}
 use mathlib.Core.Path.{_≡_, refl, sym, ap, _∙_}
 use mathlib.Core.Bool.{Bool, true, false, cond, _||_}
 use mathlib.Core.Option.{none, some}
 use mathlib.Core.List.{List, [], _∷_, map}
+use native.Mathlib.Decide.{decLt}
 use native.Mathlib.Omega.{arith}
 use lib.ListN.{length, getD, set}
 use lib.Dec.{eqb}
+use lib.Pow.{pow-mono}
 use borrow.Author.Tests.{eqb-true}
 use Rattle.meaning.specs.Words.{keys, values, member, push, mapSome}
 use Rattle.meaning.specs.Parts.{classOf}
-use Rattle.meaning.specs.Cut.{insertUp, heldBy, classMap, secondMap}
+use Rattle.meaning.specs.Cut.{insertUp, heldBy, numbered, classMap, secondMap}
 use Rattle.laws.specs.Runs.{Up}
-use Rattle.laws.specs.Stands.{All}
-use Rattle.laws.specs.CutCells.{insert-up, held-up}
-use Rattle.fold.specs.Cells.{Inside, Odd, Holds, Kept, kept-all, kept-more}
+use Rattle.laws.specs.CutCells.{insert-up, held-up, numbered-length}
+use Rattle.fold.specs.Cells.{rankedMask, Holds, Kept, kept-all, kept-more}
 use Rattle.fold.specs.Laid.{Power, Next, power-even}
 use Rattle.fold.specs.declared.Map.{Map}
 use Rattle.area.specs.Part.{part, news, notes}
-use Rattle.class_lists.specs.Listed.{classed, holdsZero, Listed}
+use Rattle.area.specs.Stored.{part-same}
+use Rattle.class_lists.specs.Listed.{classed, holdsZero}
 use Rattle.class_lists.specs.declared.ClassList.{ClassList}
 use Rattle.class_maps.specs.Once.{eachOnce, once-up, same-members, insert-member, or-twice, or-swap}
-use Rattle.class_maps.specs.Present.{present, Direct}
-use Rattle.class_maps.specs.Mapped.{ToMark, Marked, Ranked, Lists, Holding, Held, Mapped, Pinned, lists-kept}
-use Rattle.class_maps.specs.declared.HeldMap.{HeldMap}
+use Rattle.class_maps.specs.Present.{mostCells, present, top-even}
+use Rattle.class_maps.specs.Mapped.{Direct, ToMark, Marked, Ranked, Lists, ToMap, Held, withZero, Numbers, Mapped}
+use Rattle.class_maps.specs.declared.ClassMap.{ClassMap}
+use Rattle.class_maps.proofs.Direct.{top-mask}
 use Rattle.class_maps.proofs.Marking.{cleared-direct, cleared-free, marked-one}
 
 -- the classes of notes
@@ -32,21 +35,7 @@ unfolding part values
 notes-values t list zero = refl
 notes-values t list (suc n) = ap (λ (l : List ℕ). getD t list 0 % 65536 ∷ l) (notes-values t (list + 1) n)
 
--- what holds of all notes holds of each cell
-notes-each : (b : ℕ) (t : List ℕ) (list n : ℕ) → All {A = ℕ × ℕ} (λ e. e .1 ≤ b) (notes t list n) → (j : ℕ) → j < n → getD t (list + j) 0 % 65536 ≤ b
-unfolding part
-notes-each b t list zero a j h = absurd (omega arith)
-notes-each b t list (suc n) a zero h =
-    let e : list + 0 ≡ list = omega arith in
-    rw e (a .0)
-notes-each b t list (suc n) a (suc j) h =
-    let e : list + suc j ≡ list + 1 + j = omega arith in
-    rw e (notes-each b t (list + 1) n (a .1) j (omega arith))
-
 -- The classes that glyphs hold: those that are listed, and class 0 if some glyph holds it.
-abbrev withZero : Bool → List ℕ → List ℕ
-withZero z l = cond z (insertUp 0 l) l
-
 in-zero : (x : ℕ) (z : Bool) (l : List ℕ) → member x (withZero z l) ≡ cond z (eqb 0 x || member x l) (member x l)
 in-zero x true l = insert-member x 0 l
 in-zero x false l = refl
@@ -67,7 +56,7 @@ module _ (cs : List (ℕ × ℕ)) (x : ℕ) where
           ∙ sym (insert-member x 0 (insertUp (classOf cs (e .0)) (eachOnce (values (classed cs g))))))
       step false q false k = rw k (sym (insert-member x (classOf cs (e .0)) (eachOnce (values (classed cs g)))))
 
-zero-up : (z : Bool) (l : List ℕ) → Up 0 l → Up 0 (withZero z l)
+pub zero-up : (z : Bool) (l : List ℕ) → Up 0 l → Up 0 (withZero z l)
 zero-up true l u = insert-up 0 0 l (omega arith) u
 zero-up false l u = u
 
@@ -86,156 +75,156 @@ pinned-is cs g =
     same-members 0 0 (insertUp 0 (eachOnce (values (classed cs g)))) (insertUp 0 (heldBy cs (keys g))) (zero-up true (eachOnce (values (classed cs g))) (once-up (values (classed cs g)))) (zero-up true (heldBy cs (keys g)) (held-up cs (keys g)))
     (λ x. twice-zero x (holdsZero cs g) (eachOnce (values (classed cs g))) ∙ ap (λ (l : List ℕ). eqb 0 x || member x l) (held-is cs g) ∙ sym (insert-member x 0 (heldBy cs (keys g))))
 
+-- the next power of two of what is at most 4,096 is so, too
+few-power : {n p : ℕ} → Next n p → n ≤ rankedMask → p ≤ rankedMask
+few-power {n} {p} w h = step (decLt 12 (suc (w .two .exponent)))
+  where
+    step : Dec (12 < suc (w .two .exponent)) → p ≤ rankedMask
+    step (yes l) =
+        let g : 2 ^ 13 ≤ 2 ^ suc (w .two .exponent) = pow-mono l in
+        absurd (omega (arith, w .two .power, w .least (omega (arith, w .two .power))))
+    step (no l) =
+        let g : 2 ^ suc (w .two .exponent) ≤ 2 ^ 12 = pow-mono {j = 12} (omega arith) in
+        omega (arith, w .two .power)
+
 -- the n cells from `at` on
 abbrev pub cellsFrom : ℕ → ℕ → Map
 cellsFrom at n = record { at = at; mask = n - 1 }
 
-module _ {cs g : List (ℕ × ℕ)} {t₀ t₁ : List ℕ} {list : ℕ} {r : ClassList} {p : ℕ} (l : Listed cs g t₀ t₁ list r) (n : Next (r .high + 1) p) where
+module _ {t₀ : List ℕ} {list : ℕ} {l : ClassList} {to p : ℕ} (a : ToMap t₀ list l to × (l .high < rankedMask)) (n : Next (l .high + 1) p) where
   abbrev m : Map
-  m = cellsFrom (list + r .len) p
+  m = cellsFrom to p
+
+  few-cells : p - 1 < mostCells
+  few-cells = omega (arith, few-power n (omega (arith, a .1)))
+
+  -- the last of them is not too far
+  pub held-near : to + (p - 1) < 0x2_0000_0000_0000
+  held-near = omega (arith, a .0 .near, few-cells)
 
   -- There are too few cells.
-  pub holding-short : {o : Map} → o .mask ≡ 0 → length t₁ ≤ list + r .len + (p - 1) → Held cs g t₀ t₁ list (record { map = o; zero = false })
-  holding-short z h = record {
-    kept = l .kept;
-    few = omega arith;
-    room = λ a e. omega (arith, n .few (omega (arith, l .small)), l .kept .size, l .few, power-even (n .two) .1);
-    holding = λ e. absurd (e z);
+  pub held-short : length t₀ ≤ to + (p - 1) → Held t₀ t₀ list l to (record { at = to; mask = 0 })
+  held-short h = record {
+    placed = record {
+      kept = kept-all to t₀;
+      at = refl;
+      few = omega arith;
+      top = omega (arith, top-even (record { at = to; mask = 0 }) refl, a .0 .small);
+      inside = λ e. absurd (e refl);
+      room = λ r z. omega (arith, few-cells);
+    };
+    marked = λ e. absurd (e refl);
   }
 
-  module _ (h : list + r .len + (p - 1) < length t₁) where
-    -- the cells may be cleared
-    pub holding-clear : Inside t₁ m × Odd m
-    holding-clear =
-        let e = power-even (n .two) in
-        (record { within = h }, record { odd = omega (arith, e .0, e .1) })
+  module _ (h : to + (p - 1) < length t₀) where
+    odd-mask : (p - 1) % 2 ≡ 1
+    odd-mask = let e = power-even (n .two) in omega (arith, e .0, e .1)
 
     power-mask : Power (p - 1 + 1)
     power-mask =
         let e : p - 1 + 1 ≡ p = omega (arith, power-even (n .two) .1) in
         rw e (n .two)
 
-    few-cells : p - 1 < 65536
-    few-cells = omega (arith, n .few (omega (arith, l .small)))
+    module _ {t₁ : List ℕ} (c : Holds t₁ m [] × Kept to t₀ t₁) where
+      low : (j : ℕ) → j < l .len → getD t₁ (list + j) 0 % 65536 ≤ p - 1
+      low j b = omega (arith, ap (λ (w : ℕ). w % 65536) (c .1 .same (list + j) (omega (arith, a .0 .place))), a .0 .low (omega (arith, a .0 .place)) j b, n .enough)
 
-    listed : notes t₁ list (r .len) ≡ classed cs g
-    listed = l .cells (omega (arith, l .kept .size))
+      pub held-ready : ToMark t₁ m list (l .len)
+      held-ready =
+          let d = cleared-direct (c .0) power-mask (omega (arith, few-cells)) in
+          record { direct = d; free = cleared-free (c .0) d; place = a .0 .place; low = low }
 
-    module _ {t₂ : List ℕ} (c : Holds t₂ m [] × Kept (list + r .len) t₁ t₂) where
-      lists : Lists cs g t₂ list (r .len)
-      lists = lists-kept (record { each = listed }) (c .1) (omega arith)
+      -- the marked classes are those that are listed
+      pub held-done : {t₂ : List ℕ} → Marked t₁ t₂ m (news t₁ list (l .len)) → Held t₀ t₂ list l to m
+      held-done {t₂} k = record {
+        placed = record {
+          kept = kept-more (c .1) (k .kept);
+          at = refl;
+          few = few-cells;
+          top = omega (arith, top-mask (k .direct), n .enough);
+          inside = λ z. k .direct .inside;
+          room = λ r z. omega (arith, odd-mask);
+        };
+        marked = λ z. record {
+          direct = k .direct;
+          classes = k .classes ∙ ap eachOnce stand;
+          kept = kept-more (c .1) (k .kept);
+        };
+      }
+        where
+          stand : news t₁ list (l .len) ≡ news t₀ list (l .len)
+          stand = ap (map (λ x. x % 65536)) (part-same t₁ t₀ list (l .len) (λ j b d. c .1 .same j (omega (arith, a .0 .place))))
 
-      low : (j : ℕ) → j < r .len → getD t₂ (list + j) 0 % 65536 ≤ p - 1
-      low j a = omega (arith, notes-each (r .high) t₂ list (r .len) (rw (lists .each) (l .most)) j a, n .enough)
+-- From cells with an entry for each listed class to their ranks.
+module _ {t₀ t₁ : List ℕ} {list : ℕ} {l : ClassList} {to : ℕ} {m : Map} (h : Held t₀ t₁ list l to m) where
+  pub listed-few : (z : Bool) → m .mask ≡ 0 → Numbers z t₀ t₁ list l to (record { map = m; count = 0 })
+  listed-few z e = record { placed = h .placed; numbers = λ n. absurd (n e) }
 
-      pub holding-ready : ToMark t₂ m list (r .len)
-      holding-ready =
-          let d = cleared-direct (c .0) power-mask few-cells in
-          record { direct = d; free = cleared-free (c .0) d; place = omega arith; low = low }
+  module _ (n : m .mask ≡ 0 → ⊥) where
+    pub marks-direct : Direct t₁ m
+    marks-direct = h .marked n .direct
 
-      module _ {t₃ : List ℕ} (k : Marked t₂ t₃ m (news t₂ list (r .len))) where
-        -- the marked classes are those that are listed
-        pub holding-done : Held cs g t₀ t₃ list (record { map = m; zero = r .zero })
-        holding-done =
-            let d : list + r .len - list ≡ r .len = omega arith in
-            record {
-              kept = kept-more (l .kept) (kept-more (near (c .1)) (near (k .kept)));
-              few = few-cells;
-              room = λ a z. omega (arith, power-even (n .two) .1);
-              holding = λ z. record {
-                place = omega arith;
-                near = omega (arith, l .few);
-                lists = rw d (lists-kept lists (k .kept) (omega arith));
-                low = λ j a. rw (k .kept .same (list + j) (omega arith)) (low j (omega arith));
-                direct = k .direct;
-                classes = k .classes ∙ ap eachOnce (sym (notes-values t₂ list (r .len)) ∙ ap values (lists .each));
-                zero = l .zero;
-              };
-            }
-          where
-            near : {a b : List ℕ} → Kept (list + r .len) a b → Kept list a b
-            near w = record { size = w .size; same = λ i h. w .same i (omega arith) }
-
--- From the marks to the map: the ranks of the classes, or of these and 0.
-module _ {cs g : List (ℕ × ℕ)} {t₀ t₁ : List ℕ} {list : ℕ} {o : HeldMap} (h : Held cs g t₀ t₁ list o) where
-  pub mapping-few : o .map .mask ≡ 0 → Mapped cs g t₀ t₁ list (record { map = o .map; count = 0 })
-  mapping-few z = record { kept = h .kept; few = h .few; room = h .room; mapped = λ n. absurd (n z) }
-
-  pub pinned-few : o .map .mask ≡ 0 → Pinned cs g t₀ t₁ list (record { map = o .map; count = 0 })
-  pinned-few z = record { kept = h .kept; few = h .few; room = h .room; mapped = λ n. absurd (n z) }
-
-  module _ (n : o .map .mask ≡ 0 → ⊥) where
-    holding : Holding cs g t₁ list o
-    holding = h .holding n
-
-    pub marks-direct : Direct t₁ (o .map)
-    marks-direct = holding .direct
-
-    -- the cells before the map's are as before
-    front : {t : List ℕ} → Kept (o .map .at) t₁ t → Kept list t₀ t
-    front k = kept-more (h .kept) (record { size = k .size; same = λ i l. k .same i (omega (arith, holding .place)) })
+    abbrev cs : List ℕ
+    cs = news t₀ list (l .len)
 
     -- an entry for class 0, if it is among the classes
-    marked-zero : (z : Bool) → Marked t₁ (cond z (set t₁ (o .map .at) 0) t₁) (o .map) (cond z (0 ∷ values (classed cs g)) (values (classed cs g)))
+    marked-zero : (z : Bool) → Marked t₀ (cond z (set t₁ (m .at) 0) t₁) m (cond z (0 ∷ cs) cs)
     marked-zero true =
-        let e : o .map .at + 0 ≡ o .map .at = omega arith in
-        rw e at (marked-one 0 (record { direct = holding .direct; classes = holding .classes; kept = kept-all (o .map .at) t₁ }) (omega arith))
-    marked-zero false = record { direct = holding .direct; classes = holding .classes; kept = kept-all (o .map .at) t₁ }
+        let e : m .at + 0 ≡ m .at = omega arith in
+        rw e at (marked-one 0 (h .marked n) (omega arith))
+    marked-zero false = h .marked n
 
-    once-zero : (z : Bool) → eachOnce (cond z (0 ∷ values (classed cs g)) (values (classed cs g))) ≡ withZero z (eachOnce (values (classed cs g)))
+    once-zero : (z : Bool) → eachOnce (cond z (0 ∷ cs) cs) ≡ withZero z (eachOnce cs)
     unfolding eachOnce
     once-zero true = refl
     once-zero false = refl
 
-    module _ {t₂ : List ℕ} (z : Bool) (e : t₂ ≡ cond z (set t₁ (o .map .at) 0) t₁) where
-      marked : Marked t₁ t₂ (o .map) (cond z (0 ∷ values (classed cs g)) (values (classed cs g)))
+    module _ {t₂ : List ℕ} (z : Bool) (e : t₂ ≡ cond z (set t₁ (m .at) 0) t₁) where
+      marked : Marked t₀ t₂ m (cond z (0 ∷ cs) cs)
       marked = rw e (marked-zero z)
 
-      pub zero-direct : Direct t₂ (o .map)
+      pub zero-direct : Direct t₂ m
       zero-direct = marked .direct
 
-      module _ {t : List ℕ} {r : ℕ} (q : Ranked t₂ t (o .map) r) where
-        kept-both : Kept (o .map .at) t₁ t
-        kept-both = kept-more (marked .kept) (q .kept)
+      pub listed-done : {t : List ℕ} {r : ℕ} → Ranked t₂ t m r → Numbers z t₀ t list l to (record { map = m; count = r })
+      listed-done {t} {r} q = record {
+        placed = record {
+          kept = rw (h .placed .at) at (kept-more (marked .kept) (q .kept));
+          at = h .placed .at;
+          few = h .placed .few;
+          top = h .placed .top;
+          inside = λ y. q .direct .inside;
+          room = h .placed .room;
+        };
+        numbers = λ y. record {
+          holds = holds;
+          above = λ x a. sym (holds .answers x) ∙ q .direct .above x (omega (arith, top-mask (q .direct)));
+          count = q .count ∙ ap length held ∙ sym (numbered-length 0 (withZero z (eachOnce cs)));
+        };
+      }
+        where
+          held : present t₂ m ≡ withZero z (eachOnce cs)
+          held = marked .classes ∙ once-zero z
 
-        still : Lists cs g t list (o .map .at - list)
-        still = lists-kept (holding .lists) kept-both (omega (arith, holding .place))
+          holds : Holds t m (numbered 0 (withZero z (eachOnce cs)))
+          holds = rw held at (q .holds)
 
-        pub mapping-done : z ≡ o .zero → Mapped cs g t₀ t list (record { map = o .map; count = r })
-        unfolding classMap
-        mapping-done f = record {
-          kept = front kept-both;
-          few = h .few;
-          room = h .room;
-          mapped = λ y. record {
-            place = holding .place;
-            near = holding .near;
-            lists = still;
-            low = λ j l. rw (kept-both .same (list + j) (omega arith)) (holding .low j l);
-            direct = q .direct;
-            holds = rw held at (q .holds);
-            count = q .count ∙ ap length held;
-          };
-        }
-          where
-            held : present t₂ (o .map) ≡ heldBy cs (keys g)
-            held = marked .classes ∙ once-zero z ∙ ap (λ (b : Bool). withZero b (eachOnce (values (classed cs g)))) (f ∙ holding .zero) ∙ held-is cs g
+-- The listed classes are those of the glyphs, if not 0.
+module _ {cs g : List (ℕ × ℕ)} {t : List ℕ} {list n : ℕ} (o : Lists cs g t list n) where
+  listed-classes : news t list n ≡ values (classed cs g)
+  listed-classes = sym (notes-values t list n) ∙ ap values (o .each)
 
-        pub pinned-done : z ≡ true → Pinned cs g t₀ t list (record { map = o .map; count = r })
-        unfolding secondMap
-        pinned-done f = record {
-          kept = front kept-both;
-          few = h .few;
-          room = h .room;
-          mapped = λ y. record {
-            place = holding .place;
-            near = holding .near;
-            lists = still;
-            direct = q .direct;
-            holds = rw held at (q .holds);
-            count = q .count ∙ ap length held;
-          };
-        }
-          where
-            held : present t₂ (o .map) ≡ insertUp 0 (heldBy cs (keys g))
-            held = marked .classes ∙ once-zero z ∙ ap (λ (b : Bool). withZero b (eachOnce (values (classed cs g)))) f ∙ pinned-is cs g
+  first-map : {z : Bool} → z ≡ holdsZero cs g → numbered 0 (withZero z (eachOnce (news t list n))) ≡ classMap g cs
+  unfolding classMap
+  first-map e = ap (numbered 0) (rw (e, listed-classes) (held-is cs g))
+
+  second-map : numbered 0 (insertUp 0 (eachOnce (news t list n))) ≡ secondMap g cs
+  unfolding secondMap
+  second-map = ap (numbered 0) (rw listed-classes (pinned-is cs g))
+
+module _ {t₀ t : List ℕ} {list : ℕ} {l : ClassList} {to : ℕ} {r : ClassMap} where
+  pub class-mapped : Numbers (l .zero) t₀ t list l to r → Mapped classMap t₀ t list l to r
+  class-mapped k = record { placed = k .placed; mapped = λ n cs g o z. rw (first-map o z) at (k .numbers n) }
+
+  pub pinned-mapped : Numbers true t₀ t list l to r → Mapped secondMap t₀ t list l to r
+  pinned-mapped k = record { placed = k .placed; mapped = λ n cs g o z. rw (second-map o) at (k .numbers n) }

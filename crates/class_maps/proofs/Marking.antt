@@ -9,14 +9,16 @@ use lib.ListN.{length, getD, set}
 use borrow.Author.Tests.{eq-eqb, ne-eqb}
 use Rattle.meaning.specs.Words.{find, isSome, member}
 use Rattle.meaning.specs.Cut.{insertUp, numbered}
+use Rattle.laws.specs.CutCells.{find-low}
 use Rattle.fold.specs.Cells.{answerIn, folded, Holds, kept-all, kept-more, kept-set, answer-own, answer-other}
 use Rattle.fold.specs.Laid.{Power}
 use Rattle.fold.specs.declared.Map.{Map}
 use Rattle.area.specs.Part.{part, news, part-all, part-left, part-none}
 use Rattle.class_lists.specs.Elsewhere.{Elsewhere, elsewhere-all, elsewhere-set, elsewhere-more, elsewhere-wide, elsewhere-kept}
 use Rattle.class_maps.specs.Once.{eachOnce, same-members}
-use Rattle.class_maps.specs.Present.{presentFrom, present, Direct, present-up, present-one, present-none, present-end, folded-own, class-inside, found-present, direct-set, cell-same, cell-other, present-set, numbered-low}
-use Rattle.class_maps.specs.Mapped.{ToMark, Marked, Ranked}
+use Rattle.class_maps.specs.Present.{topOf, presentFrom, present, present-up, present-one, present-none, present-end}
+use Rattle.class_maps.specs.Mapped.{Direct, ToMark, Marked, Ranked}
+use Rattle.class_maps.proofs.Direct.{top-mask, folded-own, class-inside, has-entry, has-none, entry-present, direct-set, cell-same, cell-other, present-set}
 
 nothing-found : (x : ℕ) → find [] x ≡ none
 unfolding find
@@ -29,7 +31,7 @@ module _ {t : List ℕ} {m : Map} (h : Holds t m []) where
 
   pub cleared-free : Direct t m → present t m ≡ []
   unfolding isSome member
-  cleared-free d = same-members 0 0 (present t m) [] (present-up t (m .at) 0 (m .mask + 1)) tt (λ x. sym (found-present d x) ∙ ap isSome (h .answers x ∙ nothing-found x))
+  cleared-free d = same-members 0 0 (present t m) [] (present-up t m 0 (topOf m + 1)) tt (λ x. sym (entry-present d x) ∙ ap isSome (h .answers x ∙ nothing-found x))
 
 -- no class is marked yet
 pub marked-none : {t : List ℕ} {m : Map} → Direct t m → present t m ≡ [] → Marked t t m []
@@ -84,13 +86,14 @@ module _ {t₀ : List ℕ} {m : Map} {list g : ℕ} where
 
 -- What the loop of `rank` keeps: the classes up to c have their ranks, and those that are left, with the ranks from `count` on, give the others.
 pub record Ranking (t₀ t : List ℕ) (m : Map) (count c : ℕ) : Type 0 where
+  pub begin : Direct t₀ m
   pub direct : Direct t m
   pub within : c ≤ m .mask + 1
   pub near : count ≤ c
   pub elsewhere : Elsewhere (m .at) (m .at + c) t₀ t
   pub done : (x : ℕ) → x < c → folded t m x ≡ find (numbered 0 (present t₀ m)) x
-  pub left : (x : ℕ) → c ≤ x → find (numbered count (presentFrom t₀ (m .at) c (m .mask + 1 - c))) x ≡ find (numbered 0 (present t₀ m)) x
-  pub total : count + length (presentFrom t₀ (m .at) c (m .mask + 1 - c)) ≡ length (present t₀ m)
+  pub left : (x : ℕ) → c ≤ x → find (numbered count (presentFrom t₀ m c (m .mask + 1 - c))) x ≡ find (numbered 0 (present t₀ m)) x
+  pub total : count + length (presentFrom t₀ m c (m .mask + 1 - c)) ≡ length (present t₀ m)
 
 -- a rank is found under its number, and not under another
 rank-own : (k c : ℕ) (l : List ℕ) → find (numbered k (c ∷ l)) c ≡ some k
@@ -108,8 +111,9 @@ no-rank k x = refl
 module _ {t₀ : List ℕ} {m : Map} where
   pub ranking-all : Direct t₀ m → Ranking t₀ t₀ m 0 0
   ranking-all d =
-      let z : m .mask + 1 - 0 ≡ m .mask + 1 = omega arith in
+      let z : m .mask + 1 - 0 ≡ topOf m + 1 = omega (arith, top-mask d) in
       record {
+        begin = d;
         direct = d;
         within = omega arith;
         near = omega arith;
@@ -131,17 +135,18 @@ module _ {t₀ : List ℕ} {m : Map} where
       abbrev after : List ℕ
       after = set t (m .at + c) (c * 65536 + count)
 
-      first : presentFrom t₀ (m .at) c (m .mask + 1 - c) ≡ c ∷ presentFrom t₀ (m .at) (c + 1) (m .mask + 1 - (c + 1))
-      first = present-one t₀ (m .at) (m .mask + 1) c h (ap (λ (w : ℕ). w / 65536) (sym cell-same₀) ∙ e)
+      first : presentFrom t₀ m c (m .mask + 1 - c) ≡ c ∷ presentFrom t₀ m (c + 1) (m .mask + 1 - (c + 1))
+      first = present-one t₀ m (m .mask + 1) c h (has-entry (k .begin) c (omega arith) (ap (λ (w : ℕ). w / 65536) (sym cell-same₀) ∙ e))
 
       pub ranking-one : Ranking t₀ after m (count + 1) (c + 1)
       ranking-one = record {
+        begin = k .begin;
         direct = d;
         within = omega arith;
         near = omega (arith, k .near);
         elsewhere = elsewhere-more (elsewhere-wide (omega arith) (omega arith) (k .elsewhere)) (elsewhere-set t (m .at + c) (c * 65536 + count) (omega arith) (omega arith));
         done = λ x l. step x l (decLt x c);
-        left = λ x l. sym (rank-other count c x (presentFrom t₀ (m .at) (c + 1) (m .mask + 1 - (c + 1))) (omega arith)) ∙ rw first at (k .left x (omega arith));
+        left = λ x l. sym (rank-other count c x (presentFrom t₀ m (c + 1) (m .mask + 1 - (c + 1))) (omega arith)) ∙ rw first at (k .left x (omega arith));
         total = omega (arith, k .total, ap length first);
       }
         where
@@ -163,11 +168,12 @@ module _ {t₀ : List ℕ} {m : Map} where
               rw q (
               folded-own d c (omega arith) ∙ ap (λ (w : ℕ). answerIn w c) (cell-same (k .direct) c count (omega arith) small)
               ∙ answer-own (c * 65536 + count) c (omega (arith, small)) ∙ ap some value
-              ∙ sym (rank-own count c (presentFrom t₀ (m .at) (c + 1) (m .mask + 1 - (c + 1)))) ∙ rw first at (k .left c (omega arith)))
+              ∙ sym (rank-own count c (presentFrom t₀ m (c + 1) (m .mask + 1 - (c + 1)))) ∙ rw first at (k .left c (omega arith)))
 
     -- it has none
     pub ranking-none : (getD t (m .at + c) 0 / 65536 ≡ c → ⊥) → Ranking t₀ t m count (c + 1)
     ranking-none e = record {
+      begin = k .begin;
       direct = k .direct;
       within = omega arith;
       near = omega (arith, k .near);
@@ -177,8 +183,8 @@ module _ {t₀ : List ℕ} {m : Map} where
       total = rw rest at (k .total);
     }
       where
-        rest : presentFrom t₀ (m .at) c (m .mask + 1 - c) ≡ presentFrom t₀ (m .at) (c + 1) (m .mask + 1 - (c + 1))
-        rest = present-none t₀ (m .at) (m .mask + 1) c h (λ q. e (ap (λ (w : ℕ). w / 65536) cell-same₀ ∙ q))
+        rest : presentFrom t₀ m c (m .mask + 1 - c) ≡ presentFrom t₀ m (c + 1) (m .mask + 1 - (c + 1))
+        rest = present-none t₀ m (m .mask + 1) c h (has-none (k .begin) c (omega arith) (λ q. e (ap (λ (w : ℕ). w / 65536) cell-same₀ ∙ q)))
 
         step : (x : ℕ) → x < c + 1 → Dec (x < c) → folded t m x ≡ find (numbered 0 (present t₀ m)) x
         step x l (yes p) = k .done x p
@@ -186,7 +192,7 @@ module _ {t₀ : List ℕ} {m : Map} where
             let q : x ≡ c = omega arith in
             rw q (
             folded-own (k .direct) c (omega arith) ∙ answer-other (getD t (m .at + c) 0) c e
-            ∙ sym (numbered-low count c (c + 1) (presentFrom t₀ (m .at) (c + 1) (m .mask + 1 - (c + 1))) (present-up t₀ (m .at) (c + 1) (m .mask + 1 - (c + 1))) (omega arith))
+            ∙ sym (find-low count c (presentFrom t₀ m (c + 1) (m .mask + 1 - (c + 1))) (c + 1) (present-up t₀ m (c + 1) (m .mask + 1 - (c + 1))) (omega arith))
             ∙ rw rest at (k .left c (omega arith)))
 
   pub ranking-end : {t : List ℕ} {count c : ℕ} → Ranking t₀ t m count c → m .mask + 1 ≤ c → Ranked t₀ t m count
@@ -197,8 +203,8 @@ module _ {t₀ : List ℕ} {m : Map} where
     kept = elsewhere-kept (k .elsewhere);
   }
     where
-      rest : presentFrom t₀ (m .at) c (m .mask + 1 - c) ≡ []
-      rest = present-end t₀ (m .at) (m .mask + 1) c h
+      rest : presentFrom t₀ m c (m .mask + 1 - c) ≡ []
+      rest = present-end t₀ m (m .mask + 1) c h
 
       step : (x : ℕ) → Dec (m .mask < x) → folded t m x ≡ find (numbered 0 (present t₀ m)) x
       step x (yes p) = k .direct .above x p ∙ sym (no-rank count x) ∙ rw rest at (k .left x (omega (arith, k .within)))

@@ -1,17 +1,17 @@
 -- Ascending lists that have each number once: their members say which list it is.
 use Prim.Native.Nat.{ℕ, _+_, _≤_, _<_}
-use mathlib.Core.Path.{_≡_, refl, sym, ap, ap₂, _∙_}
+use mathlib.Core.Path.{_≡_, refl, sym, ap₂, _∙_}
 use mathlib.Core.Bool.{Bool, true, false, cond, _||_, true≢false}
-use mathlib.Core.List.{List, [], _∷_, map}
+use mathlib.Core.List.{List, [], _∷_}
 use native.Mathlib.Decide.{decLt}
 use native.Mathlib.Omega.{arith}
 use lib.Dec.{ltb, eqb}
-use borrow.Author.Tests.{eq-eqb, ne-eqb, eqb-true}
+use borrow.Author.Tests.{eq-eqb, eqb-true}
 use Rattle.meaning.specs.Words.{member}
-use Rattle.meaning.specs.Parts.{classOf}
-use Rattle.meaning.specs.Cut.{insertUp, heldBy}
+use Rattle.meaning.specs.Cut.{insertUp}
 use Rattle.laws.specs.Runs.{Up}
 use Rattle.laws.specs.CutCells.{insert-up}
+use Rattle.ranks.specs.Listed.{low-none}
 
 -- the numbers of a list, ascending, each once
 unfoldable pub eachOnce : List ℕ → List ℕ
@@ -23,23 +23,12 @@ unfolding eachOnce
 once-up [] = tt
 once-up (c ∷ r) = insert-up 0 c (eachOnce r) (omega arith) (once-up r)
 
--- the classes that glyphs hold are so
-pub once-held : (cs : List (ℕ × ℕ)) (gs : List ℕ) → eachOnce (map (classOf cs) gs) ≡ heldBy cs gs
-unfolding eachOnce heldBy
-once-held cs [] = refl
-once-held cs (g ∷ gs) = ap (insertUp (classOf cs g)) (once-held cs gs)
-
 -- from a lower number on
 pub up-less : {low high : ℕ} (l : List ℕ) → low ≤ high → Up high l → Up low l
 up-less [] h u = tt
 up-less (c ∷ l) h u = (omega arith, u .1)
 
--- a number below all is no member; the first is one
-pub low-none : (low x : ℕ) (l : List ℕ) → Up low l → x < low → member x l ≡ false
-unfolding member
-low-none low x [] u h = refl
-low-none low x (c ∷ l) u h = rw (ne-eqb c x (λ e. omega arith)) (low-none (c + 1) x l (u .1) (omega arith))
-
+-- the first is a member
 first-in : (c : ℕ) (l : List ℕ) → member c (c ∷ l) ≡ true
 unfolding member
 first-in c l = rw (eq-eqb c c refl)

@@ -1,46 +1,45 @@
--- Format 2's slots by a walk over the cells of the input's class map: one for each class that has an entry there, without the nulls at the end.
-use Prim.Native.Nat.{ℕ, _+_, _-_, _/_, _≤_, _<_}
+-- Format 2's slots by a walk over the numbers that the input's class map can have an entry for: one for each class that has one, without the nulls at the end.
+use Prim.Native.Nat.{ℕ, _+_, _-_, _≤_, _<_}
 use mathlib.Core.Path.{_≡_, refl, sym, ap, _∙_}
-use mathlib.Core.Bool.{cond}
+use mathlib.Core.Bool.{true, false, cond}
 use mathlib.Core.Option.{Option, none, some}
 use mathlib.Core.List.{List, [], _∷_, _++_, map, append-assoc, append-nil}
 use native.Mathlib.Omega.{arith}
 use lib.ListN.{length, getD, take, length-append}
 use lib.Seq.{take-append-le, take-all}
-use Rattle.meaning.specs.Words.{bind, member, keys}
+use Rattle.meaning.specs.Words.{bind, isSome, member}
 use Rattle.meaning.specs.Tables.{Rule}
-use Rattle.meaning.specs.Cut.{heldBy, classMap, slots, keepSlot, trim}
+use Rattle.meaning.specs.Cut.{slots, keepSlot, trim}
 use Rattle.meaning.specs.Layout.{blocks, block}
-use Rattle.fold.specs.Cells.{Holds}
+use Rattle.fold.specs.Cells.{folded}
 use Rattle.fold.specs.declared.Map.{Map}
-use Rattle.class_maps.specs.Present.{presentFrom, Direct, present-one, present-none, present-end, present-held}
+use Rattle.class_maps.specs.Present.{topOf, presentFrom, present, present-one, present-none, present-end}
 
--- The slots of the classes from c on, in a loop over the n cells from `at` on.
-module _ (cutOne : List Rule → Option (List Rule)) (covered : List ℕ) (sets : List (Option (List Rule))) (t : List ℕ) (at n : ℕ) where
+module _ (cutOne : List Rule → Option (List Rule)) (covered : List ℕ) (sets : List (Option (List Rule))) where
   -- the slot of a class
   abbrev pub slotOf : ℕ → Option (List Rule)
   slotOf c = cond (member c covered) (bind (getD sets c none) cutOne) none
 
-  abbrev pub slotsFrom : ℕ → List (Option (List Rule))
-  slotsFrom c = slots cutOne covered sets (presentFrom t at c (n - c))
+  -- The slots of the classes from c on, in a loop over the numbers up to the map's top.
+  module _ (t : List ℕ) (m : Map) where
+    abbrev pub slotsFrom : ℕ → List (Option (List Rule))
+    slotsFrom c = slots cutOne covered sets (presentFrom t m c (topOf m + 1 - c))
 
-  pub walk-one : (c : ℕ) → c < n → getD t (at + c) 0 / 65536 ≡ c → slotsFrom c ≡ slotOf c ∷ slotsFrom (c + 1)
-  unfolding slots
-  walk-one c h e = ap (slots cutOne covered sets) (present-one t at n c h e)
+    pub walk-all : slotsFrom 0 ≡ slots cutOne covered sets (present t m)
+    walk-all =
+        let z : topOf m + 1 - 0 ≡ topOf m + 1 = omega arith in
+        rw z
 
-  pub walk-none : (c : ℕ) → c < n → (getD t (at + c) 0 / 65536 ≡ c → ⊥) → slotsFrom c ≡ slotsFrom (c + 1)
-  walk-none c h e = ap (slots cutOne covered sets) (present-none t at n c h e)
+    pub walk-one : (c : ℕ) → c ≤ topOf m → isSome (folded t m c) ≡ true → slotsFrom c ≡ slotOf c ∷ slotsFrom (c + 1)
+    unfolding slots
+    walk-one c h e = ap (slots cutOne covered sets) (present-one t m (topOf m + 1) c (omega arith) e)
 
-  pub walk-end : (c : ℕ) → n ≤ c → slotsFrom c ≡ []
-  unfolding slots
-  walk-end c h = ap (slots cutOne covered sets) (present-end t at n c h)
+    pub walk-none : (c : ℕ) → c ≤ topOf m → isSome (folded t m c) ≡ false → slotsFrom c ≡ slotsFrom (c + 1)
+    walk-none c h e = ap (slots cutOne covered sets) (present-none t m (topOf m + 1) c (omega arith) e)
 
--- all of them, if the cells hold the class map
-pub walk-all : (cutOne : List Rule → Option (List Rule)) (covered : List ℕ) (sets : List (Option (List Rule))) {t : List ℕ} {m : Map} (g cs : List (ℕ × ℕ))
-    → Direct t m → Holds t m (classMap g cs) → slotsFrom cutOne covered sets t (m .at) (m .mask + 1) 0 ≡ slots cutOne covered sets (heldBy cs (keys g))
-walk-all cutOne covered sets {t} {m} g cs d h =
-    let z : m .mask + 1 - 0 ≡ m .mask + 1 = omega arith in
-    ap (λ (k : ℕ). slots cutOne covered sets (presentFrom t (m .at) 0 k)) z ∙ ap (slots cutOne covered sets) (present-held g cs d h)
+    pub walk-end : (c : ℕ) → topOf m < c → slotsFrom c ≡ []
+    unfolding slots
+    walk-end c h = ap (slots cutOne covered sets) (present-end t m (topOf m + 1) c (omega arith))
 
 -- Nulls at the end.
 module _ {A : Type 0} where

@@ -1,35 +1,35 @@
-// Class maps: which classes survive and their new numbers, laid into cells with one for each class; the entries of the new class table; and the classes that covered glyphs hold.
+// Class maps: the classes that survive, which are listed in cells, and their new numbers, laid into other cells: one for each class, or ranks where the highest class is too high for that; the entries of the new class table; and the classes that covered glyphs hold.
 use bits::clear_bits;
 use bits::put_bit;
-use class_lists::list_classes;
+use class_lists::ClassList;
 use fold::Map;
+use fold::RANKED;
 use fold::clear;
 use fold::entry;
 use fold::power;
+use ranks::CELLS;
+use ranks::count_marks;
 ghost use mathlib.Core.Path.{_≡_};
 ghost use mathlib.Core.Bool.{cond};
+ghost use mathlib.Core.List.{[]};
 ghost use mathlib.Core.Option.{Option·getD};
 ghost use Prim.Native.Nat.{_+_, _-_, _≤_, _<_};
 ghost use lib.ListN.{length, set};
-ghost use Rattle.meaning.specs.Maps.{glyphEntries};
-ghost use Rattle.fold.specs.Cells.{Inside, folded};
+ghost use Rattle.meaning.specs.Cut.{classMap, secondMap};
+ghost use Rattle.ranks.specs.Ranks.{markCells};
+ghost use Rattle.fold.specs.Cells.{Inside, folded, rankedMask};
 ghost use Rattle.area.specs.Part.{news, notes};
-ghost use Rattle.glyph_runs.specs.Runs.{GlyphMap};
-ghost use Rattle.class_lists.specs.Tables.{classesAt, NullOrSound};
-ghost use Rattle.class_maps.specs.Present.{Direct};
-ghost use Rattle.class_maps.specs.Mapped.{ToMark, Marked, Ranked, Held, Mapped, Pinned, Entries};
+ghost use Rattle.class_maps.specs.Present.{topOf};
+ghost use Rattle.class_maps.specs.Mapped.{Direct, ToMark, Marked, Ranked, ToMap, Held, ToPut, PutToo, withZero, Numbers, Mapped, Entries};
 ghost use Rattle.class_maps.specs.Covered.{firstClass, Passes, Coverable, Met, Covered};
+
+// The most cells that a class map takes: one for each class are at most 4,096, and ranks take 4,097, of which one is spare.
+pub const MOST: usize = RANKED + 1;
 
 // The cells of a class map, and how many classes survive.
 pub struct ClassMap {
     pub map: Map,
     pub count: usize,
-}
-
-// The cells with an entry for each class that is listed, and whether a retained glyph holds class 0, which is not.
-pub struct HeldMap {
-    pub map: Map,
-    pub zero: bool,
 }
 
 // An entry for each class in the `g` cells from `list` on, with the new number 0 for now.
@@ -64,42 +64,21 @@ fn rank(t: &mut [u32], m: Map) -> usize
     count
 }
 
-// What is answered where there are too few cells.
-fn no_map(list: usize) -> Map
-    ensures { λ r. ⌜ r .mask ≡ 0 ⌝ }
+// The cells from `to` on, one for each class, with an entry for each that is listed in the `l.len` cells from `list` on. The mask is 0 where there are too few cells.
+fn held_map(t: &mut [u32], list: usize, l: ClassList, to: usize) -> Map
+    requires { ⌜ ToMap (now t) list l to × (l .high < rankedMask) ⌝ }
+    ensures { λ r. ⌜ Held (now (t .entry)) (now (t .exit)) list l to r ⌝ }
 {
-    Map { at: list, mask: 0 }
-}
-
-// The classes of the retained glyphs in the class table at `at`, which may be null, at 0: they are listed from `list` on, and cells with an entry for each of them follow. The mask is 0 where there are too few cells.
-fn held_map(
-    src: &[u8],
-    at: usize,
-    glyphs: &[u8],
-    form: usize,
-    t: &mut [u32],
-    list: usize,
-) -> HeldMap
-    requires { ⌜ NullOrSound (now src) at × GlyphMap form (now glyphs) × (list < 0x1_0000_0000_0000) ⌝ }
-    ensures { λ r. ⌜ Held (classesAt (now (src .entry)) at) (glyphEntries form (now (glyphs .entry))) (now (t .entry)) (now (t .exit)) list r ⌝ }
-{
-    let l = list_classes(src, at, glyphs, form, t, list);
     let m = Map {
-        at: list + l.len,
+        at: to,
         mask: power(l.high + 1) - 1,
     };
-    if t.len() <= m.at + m.mask {
-        return HeldMap {
-            map: no_map(list),
-            zero: false,
-        };
+    if t.len() <= to + m.mask {
+        return Map { at: to, mask: 0 };
     }
     clear(t, m);
     mark_held(t, list, l.len, m);
-    HeldMap {
-        map: m,
-        zero: l.zero,
-    }
+    m
 }
 
 // An entry for class 0, if it is among the classes.
@@ -113,48 +92,102 @@ fn mark_zero(t: &mut [u32], m: Map, zero: bool)
     }
 }
 
-// The class map of the class table at `at`, which may be null, at 0. The classes of the retained glyphs, if not 0, are listed from `list` on, and the map's cells follow them. The mask is 0 where there are too few cells.
-pub fn class_map(
-    src: &[u8],
-    at: usize,
-    glyphs: &[u8],
-    form: usize,
-    t: &mut [u32],
-    list: usize,
-) -> ClassMap
-    requires { ⌜ NullOrSound (now src) at × GlyphMap form (now glyphs) × (list < 0x1_0000_0000_0000) ⌝ }
-    ensures { λ r. ⌜ Mapped (classesAt (now (src .entry)) at) (glyphEntries form (now (glyphs .entry))) (now (t .entry)) (now (t .exit)) list r ⌝ }
+// The map of the classes that are listed in the `l.len` cells from `list` on, and of class 0 if `zero` says so, where the highest class is not too high for a cell for each: its cells stand from `to` on. The mask is 0 where there are too few cells.
+fn direct_map(t: &mut [u32], list: usize, l: ClassList, to: usize, zero: bool) -> ClassMap
+    requires { ⌜ ToMap (now t) list l to × (l .high < rankedMask) ⌝ }
+    ensures { λ r. ⌜ Numbers zero (now (t .entry)) (now (t .exit)) list l to r ⌝ }
 {
-    let h = held_map(src, at, glyphs, form, t, list);
-    let m = h.map;
+    let m = held_map(t, list, l, to);
     if m.mask == 0 {
         return ClassMap { map: m, count: 0 };
     }
-    mark_zero(t, m, h.zero);
+    mark_zero(t, m, zero);
     let count = rank(t, m);
     ClassMap { map: m, count }
 }
 
-// The same map with class 0 always among the classes, as second classes of pairs are counted.
-pub fn pinned_map(
-    src: &[u8],
-    at: usize,
-    glyphs: &[u8],
-    form: usize,
-    t: &mut [u32],
-    list: usize,
-) -> ClassMap
-    requires { ⌜ NullOrSound (now src) at × GlyphMap form (now glyphs) × (list < 0x1_0000_0000_0000) ⌝ }
-    ensures { λ r. ⌜ Pinned (classesAt (now (src .entry)) at) (glyphEntries form (now (glyphs .entry))) (now (t .entry)) (now (t .exit)) list r ⌝ }
+// A mark, in the cells from `marks` on, for each class in the `n` cells from `list` on.
+fn put_listed(t: &mut [u32], list: usize, n: usize, marks: usize)
+    requires { ⌜ ToPut (now t) list n marks ⌝ }
+    ensures { λ _. ⌜ PutToo (now (t .entry)) (now (t .exit)) marks (news (now (t .entry)) list n) ⌝ }
 {
-    let h = held_map(src, at, glyphs, form, t, list);
-    let m = h.map;
-    if m.mask == 0 {
-        return ClassMap { map: m, count: 0 };
+    let mut e = n;
+    while 0 < e {
+        e -= 1;
+        let class = t[list + e] as usize % 65536;
+        put_bit(t, marks, class);
     }
-    mark_zero(t, m, true);
-    let count = rank(t, m);
-    ClassMap { map: m, count }
+}
+
+// A mark for class 0, if it is among the classes.
+fn put_zero(t: &mut [u32], marks: usize, zero: bool)
+    requires { ⌜ (marks < 0x1_0000_0000_0000) × (marks + markCells ≤ length (now t)) ⌝ }
+    ensures { λ _. ⌜ PutToo (now (t .entry)) (now (t .exit)) marks (withZero zero []) ⌝ }
+{
+    if zero {
+        put_bit(t, marks, 0);
+    }
+}
+
+// The same map as ranks, whatever the highest class is.
+fn ranked_map(t: &mut [u32], list: usize, l: ClassList, to: usize, zero: bool) -> ClassMap
+    requires { ⌜ ToMap (now t) list l to ⌝ }
+    ensures { λ r. ⌜ Numbers zero (now (t .entry)) (now (t .exit)) list l to r ⌝ }
+{
+    if t.len() <= to + RANKED {
+        return ClassMap {
+            map: Map { at: to, mask: 0 },
+            count: 0,
+        };
+    }
+    clear_bits(t, to, CELLS);
+    put_listed(t, list, l.len, to);
+    put_zero(t, to, zero);
+    let count = count_marks(t, to);
+    ClassMap {
+        map: Map {
+            at: to,
+            mask: RANKED,
+        },
+        count,
+    }
+}
+
+// The same map in the form that takes fewer cells.
+fn listed_map(t: &mut [u32], list: usize, l: ClassList, to: usize, zero: bool) -> ClassMap
+    requires { ⌜ ToMap (now t) list l to ⌝ }
+    ensures { λ r. ⌜ Numbers zero (now (t .entry)) (now (t .exit)) list l to r ⌝ }
+{
+    if l.high < RANKED {
+        return direct_map(t, list, l, to, zero);
+    }
+    ranked_map(t, list, l, to, zero)
+}
+
+// The class map of the classes that are listed in the `l.len` cells from `list` on: its cells stand from `to` on, behind the list. The mask is 0 where there are too few cells.
+pub fn class_map(t: &mut [u32], list: usize, l: ClassList, to: usize) -> ClassMap
+    requires { ⌜ ToMap (now t) list l to ⌝ }
+    ensures { λ r. ⌜ Mapped classMap (now (t .entry)) (now (t .exit)) list l to r ⌝ }
+{
+    listed_map(t, list, l, to, l.zero)
+}
+
+// The same map with class 0 always among the classes, as second classes of pairs are counted.
+pub fn pinned_map(t: &mut [u32], list: usize, l: ClassList, to: usize) -> ClassMap
+    requires { ⌜ ToMap (now t) list l to ⌝ }
+    ensures { λ r. ⌜ Mapped secondMap (now (t .entry)) (now (t .exit)) list l to r ⌝ }
+{
+    listed_map(t, list, l, to, true)
+}
+
+// The highest number that a class map can have an entry for: its mask, or 65,535 where the mask is even.
+pub fn top(m: Map) -> usize
+    ensures { λ r. ⌜ r ≡ topOf m ⌝ }
+{
+    if m.mask % 2 == 0 {
+        return 65535;
+    }
+    m.mask
 }
 
 // The new number of a class, by one reading; 0 if it has none.
@@ -169,12 +202,11 @@ fn new_class(t: &[u32], m: Map, class: usize) -> usize
     e % 65536
 }
 
-// The entries of the new class table, from `list` on, in the place of the classes that are listed there, up to the cells of the class map `m`: the new number and the new class of each retained glyph whose new class is not 0, in order; how many.
-pub fn new_entries(t: &mut [u32], list: usize, m: Map) -> usize
-    requires { ⌜ Inside (now t) m × (list ≤ m .at) ⌝ }
-    ensures { λ r. ⌜ Entries (now (t .entry)) (now (t .exit)) list m r ⌝ }
+// The entries of the new class table, from `list` on, in the place of the `n` classes that are listed there: the new number and the new class of each retained glyph whose new class is not 0, in order; how many. The class map `m` stands behind the list.
+pub fn new_entries(t: &mut [u32], list: usize, n: usize, m: Map) -> usize
+    requires { ⌜ Inside (now t) m × (list + n ≤ m .at) ⌝ }
+    ensures { λ r. ⌜ Entries (now (t .entry)) (now (t .exit)) list n m r ⌝ }
 {
-    let n = m.at - list;
     let mut k = 0;
     let mut e = 0;
     while e < n {

@@ -1,14 +1,14 @@
 -- The turns of the loop over the classes.
-use Prim.Native.Nat.{ℕ, _+_, _-_, _*_, _/_, _≤_, _<_}
+use Prim.Native.Nat.{ℕ, _+_, _*_, _≤_, _<_}
 use mathlib.Core.Path.{_≡_, refl, sym, ap, _∙_}
 use mathlib.Core.Bool.{Bool, true, false, cond}
-use mathlib.Core.Option.{Option, none}
+use mathlib.Core.Option.{Option, none, some}
 use mathlib.Core.List.{List, _∷_, map}
 use native.Mathlib.Omega.{arith}
-use lib.ListN.{length, getD}
+use lib.ListN.{length}
 use lib.Dec.{leb, ltb}
-use borrow.Author.Tests.{eq-eqb, leb-false}
-use Rattle.meaning.specs.Words.{word, member}
+use borrow.Author.Tests.{leb-false}
+use Rattle.meaning.specs.Words.{word, isSome, member}
 use Rattle.meaning.specs.Fault.{ruleFault, setFault}
 use Rattle.meaning.specs.Cut.{cutSet}
 use Rattle.meaning.specs.Layout.{block, ruleWords, setWords}
@@ -16,10 +16,15 @@ use Rattle.room.specs.Laid.{enoughArea}
 use Rattle.repeats.specs.Shared.{blocksIn}
 use Rattle.repeats.specs.Book.{bookCells, packs, Begun}
 use Rattle.bits.specs.Bits.{marked}
+use Rattle.fold.specs.Cells.{folded}
+use Rattle.fold.specs.Found.{foundOf, Answers}
+use Rattle.fold.specs.declared.Map.{Map}
+use Rattle.fold.specs.declared.Found.{Found}
+use Rattle.fold.specs.declared.Found.the-variants.{New, Gone}
 use Rattle.rule_sets.specs.Left.{mapsIn}
 use Rattle.rule_sets.specs.declared.Maps.{Maps}
-use Rattle.class_maps.specs.Present.{present, present-in}
-use Rattle.class_maps.specs.SlotWalk.{slotsFrom, walk-one, walk-none, walk-end}
+use Rattle.class_maps.specs.Present.{topOf, top-small, present, present-in}
+use Rattle.class_maps.specs.SlotWalk.{slotsFrom, walk-all, walk-one, walk-none, walk-end}
 use Rattle.class_slots.specs.Sets.{slotsAt, slots-near, countAt, setPlace, setLeft, SetSound, Asked, place-slot}
 use Rattle.class_slots.specs.Slots.{setsFull, markedOf, setsIn, slotBlocks, Ready, WroteSlots, blocks-many, present-few, marked-member}
 use Rattle.class_slots.specs.Placing.{SetAsked}
@@ -29,13 +34,30 @@ use Rattle.class_slots.proofs.Noting.{noted-moved}
 use Rattle.class_slots.proofs.Gathering.{gathered-count}
 use Rattle.class_slots.proofs.Filling.{Filling, filling-all, filling-said, filling-few, filling-end}
 
+-- a class has an entry just if it is found
+pub found-some : {t : List ℕ} {m : Map} {c n : ℕ} {r : Found} → Answers t m c r → r ≡ New n → isSome (folded t m c) ≡ true
+unfolding isSome
+found-some {t} {m} {c} {n} {r} a e = step (folded t m c) (a .answer)
+  where
+    step : (o : Option ℕ) → r ≡ foundOf o → isSome o ≡ true
+    step (some x) f = refl
+    step none f = cc
+
+pub found-none : {t : List ℕ} {m : Map} {c : ℕ} {r : Found} → Answers t m c r → r ≡ Gone → isSome (folded t m c) ≡ false
+unfolding isSome
+found-none {t} {m} {c} {r} a e = step (folded t m c) (a .answer)
+  where
+    step : (o : Option ℕ) → r ≡ foundOf o → isSome o ≡ false
+    step (some x) f = cc
+    step none f = refl
+
 -- the blocks of the slots of the classes from c on
 abbrev pub blocksFrom : Bool → List ℕ → List ℕ → Maps → ℕ → ℕ → List (Option (List ℕ))
-blocksFrom chained s t maps marks c = map (block (setWords (ruleWords chained))) (slotsFrom (cutSet chained (mapsIn t maps)) (markedOf t marks (present t (maps .input))) (setsIn chained s t maps marks) t (maps .input .at) (maps .input .mask + 1) c)
+blocksFrom chained s t maps marks c = map (block (setWords (ruleWords chained))) (slotsFrom (cutSet chained (mapsIn t maps)) (markedOf t marks (present t (maps .input))) (setsIn chained s t maps marks) t (maps .input) c)
 
 -- what the loop keeps
 pub record Turning (packed chained : Bool) (s t : List ℕ) (maps : Maps) (marks slots first : ℕ) (area₀ area : List ℕ) (h k p c : ℕ) (book : List ℕ) : Type 0 where
-  pub within : c ≤ maps .input .mask + 1
+  pub within : c ≤ topOf (maps .input) + 1
   pub few : k ≤ 65536
   pub filling : Filling packed chained s t maps (slotBlocks chained s t maps marks) slots first (blocksFrom chained s t maps marks c) area₀ area h k p book
 
@@ -51,16 +73,16 @@ module _ {chained : Bool} {s t : List ℕ} {maps : Maps} {classes : Classes} (a 
   as-many = blocks-many chained s t maps marks ∙ sym (a .number)
 
   pub few-classes : classes .count ≤ 65536
-  few-classes = omega (arith, a .number, a .few, present-few t (maps .input .at) 0 (maps .input .mask + 1))
+  few-classes = omega (arith, a .number, top-small (maps .input) (a .few), present-few t (maps .input) 0 (topOf (maps .input) + 1))
 
   -- what is asked to find the set of a class, and that the set is sound
-  pub asked : {c : ℕ} → c ≤ maps .input .mask → Asked s slots marks c
+  pub asked : {c : ℕ} → c ≤ topOf (maps .input) → Asked s slots marks c
   asked h = record {
     header = rw e (a .header);
     count = omega (arith, e, slots-near chained);
     low = omega (arith, e, slots-near chained);
     near = a .near;
-    small = omega (arith, a .few);
+    small = omega (arith, top-small (maps .input) (a .few));
   }
 
   set-sound : (c : ℕ) {at : ℕ} → at ≡ setPlace s slots t marks c → SetSound chained s at
@@ -89,9 +111,7 @@ module _ {chained : Bool} {s t : List ℕ} {maps : Maps} {classes : Classes} (a 
         }
       where
         begins : blocksFrom chained s t maps marks 0 ≡ all
-        begins =
-            let z : maps .input .mask + 1 - 0 ≡ maps .input .mask + 1 = omega arith in
-            rw z
+        begins = ap (map (block (setWords (ruleWords chained)))) (walk-all (cutSet chained (mapsIn t maps)) (markedOf t marks (present t (maps .input))) (setsIn chained s t maps marks) t (maps .input))
 
     -- there is no room for the slots
     pub wrote-short : {area₀ : List ℕ} {end : ℕ} → length area₀ < first → length area₀ < end → WroteSlots packed chained s t maps marks area₀ area₀ (record { count = 0; end = end })
@@ -99,22 +119,22 @@ module _ {chained : Bool} {s t : List ℕ} {maps : Maps} {classes : Classes} (a 
 
     module _ {area₀ area : List ℕ} {h k p c : ℕ} {book : List ℕ} (i : Turning packed chained s t maps marks slots first area₀ area h k p c book) where
       -- a class that has no entry
-      pub turning-skip : c ≤ maps .input .mask → (getD t (maps .input .at + c) 0 / 65536 ≡ c → ⊥) → Turning packed chained s t maps marks slots first area₀ area h k p (c + 1) book
+      pub turning-skip : c ≤ topOf (maps .input) → isSome (folded t (maps .input) c) ≡ false → Turning packed chained s t maps marks slots first area₀ area h k p (c + 1) book
       turning-skip l n = record {
         within = omega arith;
         few = i .few;
         filling = filling-said packed chained s t maps all slots first (i .filling)
-            (ap (map (block (setWords (ruleWords chained)))) (walk-none (cutSet chained (mapsIn t maps)) (markedOf t marks (present t (maps .input))) (setsIn chained s t maps marks) t (maps .input .at) (maps .input .mask + 1) c (omega arith) n));
+            (ap (map (block (setWords (ruleWords chained)))) (walk-none (cutSet chained (mapsIn t maps)) (markedOf t marks (present t (maps .input))) (setsIn chained s t maps marks) t (maps .input) c l n));
       }
 
-      module _ (l : c ≤ maps .input .mask) (n : getD t (maps .input .at + c) 0 / 65536 ≡ c) {at : ℕ} (g : (at ≡ setPlace s slots t marks c) × (at < 65536)) where
+      module _ (l : c ≤ topOf (maps .input)) (n : isSome (folded t (maps .input) c) ≡ true) {at : ℕ} (g : (at ≡ setPlace s slots t marks c) × (at < 65536)) where
         -- one that has: its slot comes next
         pub turning-here : Filling packed chained s t maps all slots first (setLeft chained (mapsIn t maps) s at ∷ blocksFrom chained s t maps marks (c + 1)) area₀ area h k p book
         turning-here =
             let w : at ≡ setPlace s (slotsAt chained) t marks c = rw e at (g .0) in
-            let has : member c (present t (maps .input)) ≡ true = present-in t (maps .input .at) 0 (maps .input .mask + 1) c (omega arith) (omega arith) ∙ eq-eqb _ _ n in
+            let has : member c (present t (maps .input)) ≡ true = present-in t (maps .input) 0 (topOf (maps .input) + 1) c (omega arith) (omega arith) ∙ n in
             filling-said packed chained s t maps all slots first (i .filling)
-            (ap (map (block (setWords (ruleWords chained)))) (walk-one (cutSet chained (mapsIn t maps)) (markedOf t marks (present t (maps .input))) (setsIn chained s t maps marks) t (maps .input .at) (maps .input .mask + 1) c (omega arith) n)
+            (ap (map (block (setWords (ruleWords chained)))) (walk-one (cutSet chained (mapsIn t maps)) (markedOf t marks (present t (maps .input))) (setsIn chained s t maps marks) t (maps .input) c l n)
             ∙ ap (λ (o : Option (List ℕ)). o ∷ blocksFrom chained s t maps marks (c + 1)) (sym (ap (setLeft chained (mapsIn t maps) s) w ∙ place-slot chained (mapsIn t maps) s (slotsAt chained) t marks c (markedOf t marks (present t (maps .input))) (marked-member t marks c (present t (maps .input)) has))))
 
         -- what is asked to place its set
@@ -143,7 +163,7 @@ module _ {chained : Bool} {s t : List ℕ} {maps : Maps} {classes : Classes} (a 
               words = a .words at (set-sound c (g .0));
             }
 
-      pub turned : {next after : List ℕ} {g q : ℕ} → c ≤ maps .input .mask → Filling packed chained s t maps all slots first (blocksFrom chained s t maps marks (c + 1)) area₀ next g (k + 1) q after
+      pub turned : {next after : List ℕ} {g q : ℕ} → c ≤ topOf (maps .input) → Filling packed chained s t maps all slots first (blocksFrom chained s t maps marks (c + 1)) area₀ next g (k + 1) q after
           → Turning packed chained s t maps marks slots first area₀ next g (k + 1) q (c + 1) after
       turned l j = record { within = omega arith; few = done-few j; filling = j }
 
@@ -153,9 +173,9 @@ module _ {chained : Bool} {s t : List ℕ} {maps : Maps} {classes : Classes} (a 
       wrote-full w l g = record { same = w ∙ i .filling .same; done = λ k. absurd (omega (arith, w, i .filling .same)); full = λ k m. g m }
 
       -- all are written
-      pub wrote-all : maps .input .mask < c → WroteSlots packed chained s t maps marks area₀ area (record { count = h; end = p })
+      pub wrote-all : topOf (maps .input) < c → WroteSlots packed chained s t maps marks area₀ area (record { count = h; end = p })
       wrote-all l =
-          let none-left = ap (map (block (setWords (ruleWords chained)))) (walk-end (cutSet chained (mapsIn t maps)) (markedOf t marks (present t (maps .input))) (setsIn chained s t maps marks) t (maps .input .at) (maps .input .mask + 1) c (omega arith)) in
+          let none-left = ap (map (block (setWords (ruleWords chained)))) (walk-end (cutSet chained (mapsIn t maps)) (markedOf t marks (present t (maps .input))) (setsIn chained s t maps marks) t (maps .input) c l) in
           let w = filling-end packed chained s t maps all slots first (i .filling) none-left in
           let g : first ≡ slotsAt chained + 2 * length all = omega (arith, as-many, e, f) in
           record {

@@ -148,12 +148,12 @@ module _ (chained : Bool) (m : RuleMaps) (s : List ℕ) (slots : ℕ) (t : List 
   unfolding block
   none-block = refl
 
-  pub place-slot : (covered : List ℕ) → member c covered ≡ marked t marks c → setLeft chained m s (setPlace s slots t marks c) ≡ block F (slotOf (cutSet chained m) covered sets t 0 0 c)
+  pub place-slot : (covered : List ℕ) → member c covered ≡ marked t marks c → setLeft chained m s (setPlace s slots t marks c) ≡ block F (slotOf (cutSet chained m) covered sets c)
   unfolding setPlace bind
   place-slot covered asked = step (leb (countAt s slots) c) refl (marked t marks c) refl
     where
       step : (b : Bool) → leb (countAt s slots) c ≡ b → (d : Bool) → marked t marks c ≡ d
-          → setLeft chained m s (cond b 0 (cond d (word s (slots + 2 * c)) 0)) ≡ block F (slotOf (cutSet chained m) covered sets t 0 0 c)
+          → setLeft chained m s (cond b 0 (cond d (word s (slots + 2 * c)) 0)) ≡ block F (slotOf (cutSet chained m) covered sets c)
       step true e true f = null-left ∙ sym (rw (asked, f, past (leb-true _ _ e)) none-block)
       step true e false f = null-left ∙ sym (rw (asked, f) none-block)
       step false e true f = reached (leb-false _ _ e) ∙ sym (rw (asked, f))

@@ -6,10 +6,10 @@ use mathlib.Core.Option.{Option, none, some}
 use mathlib.Core.List.{List, [], _∷_, map}
 use native.Mathlib.Decide.{decLt}
 use native.Mathlib.Omega.{arith}
-use lib.ListN.{length, getD, take, length-map}
+use lib.ListN.{length, take, length-map}
 use lib.Dec.{eqb}
 use borrow.Author.Tests.{eq-eqb, eqb-true}
-use Rattle.meaning.specs.Words.{word, flat, member}
+use Rattle.meaning.specs.Words.{word, flat, isSome, member}
 use Rattle.meaning.specs.Tables.{Rule, reaches, ruleSet}
 use Rattle.meaning.specs.Fault.{ruleFault, setFault}
 use Rattle.meaning.specs.Cut.{cutSet, slots, trim}
@@ -19,11 +19,12 @@ use Rattle.laws.specs.Stands.{All, Word}
 use Rattle.room.specs.Laid.{enoughArea}
 use Rattle.repeats.specs.Shared.{offsetsIn, blocksIn}
 use Rattle.bits.specs.Bits.{marked}
+use Rattle.fold.specs.Cells.{folded}
 use Rattle.fold.specs.declared.Map.{Map}
 use Rattle.area.specs.Part.{part}
 use Rattle.rule_sets.specs.Left.{AllInside, mapsIn}
 use Rattle.rule_sets.specs.declared.Maps.{Maps}
-use Rattle.class_maps.specs.Present.{presentFrom, present, present-out}
+use Rattle.class_maps.specs.Present.{topOf, presentFrom, present, present-out}
 use Rattle.class_slots.specs.Sets.{slotsAt, countAt, setLeft, SetSound}
 use Rattle.class_slots.specs.declared.Classes.{Classes}
 use Rattle.class_slots.specs.declared.Slots.{Slots}
@@ -85,13 +86,13 @@ pub record WroteSlots (packed chained : Bool) (s t : List ℕ) (maps : Maps) (ma
   pub done : r .end ≤ length area₀ → Filled chained s t maps marks packed area r
   pub full : length area₀ < r .end → enoughArea ≤ length area₀ → setsFull ≤ 2 * length (blocksIn packed (slotBlocks chained s t maps marks))
 
--- there are no more classes than cells
-pub present-few : (t : List ℕ) (at c n : ℕ) → length (presentFrom t at c n) ≤ n
+-- there are no more classes than numbers that can have an entry
+pub present-few : (t : List ℕ) (m : Map) (c n : ℕ) → length (presentFrom t m c n) ≤ n
 unfolding presentFrom
-present-few t at c zero = omega arith
-present-few t at c (suc n) = step (eqb (getD t (at + c) 0 / 65536) c) (present-few t at (c + 1) n)
+present-few t m c zero = omega arith
+present-few t m c (suc n) = step (isSome (folded t m c)) (present-few t m (c + 1) n)
   where
-    step : (b : Bool) → length (presentFrom t at (c + 1) n) ≤ n → length (cond b (c ∷ presentFrom t at (c + 1) n) (presentFrom t at (c + 1) n)) ≤ suc n
+    step : (b : Bool) → length (presentFrom t m (c + 1) n) ≤ n → length (cond b (c ∷ presentFrom t m (c + 1) n) (presentFrom t m (c + 1) n)) ≤ suc n
     step true h = omega arith
     step false h = omega arith
 
@@ -139,11 +140,11 @@ slots-same cutOne one two sets (c ∷ cs) h = rw (h c (rw (eq-eqb c c refl)), sl
     or-true true = refl
     or-true false = refl
 
--- the slots by marks are those by any list of which each class that has a cell is marked just if it is there
-pub slots-marked : (cutOne : List Rule → Option (List Rule)) (t : List ℕ) (marks : ℕ) (m : Map) (held : List ℕ) (sets : List (Option (List Rule))) → ((c : ℕ) → c ≤ m .mask → marked t marks c ≡ member c held)
+-- the slots by marks are those by any list of which each class that can have an entry is marked just if it is there
+pub slots-marked : (cutOne : List Rule → Option (List Rule)) (t : List ℕ) (marks : ℕ) (m : Map) (held : List ℕ) (sets : List (Option (List Rule))) → ((c : ℕ) → c ≤ topOf m → marked t marks c ≡ member c held)
     → slots cutOne (markedOf t marks (present t m)) sets (present t m) ≡ slots cutOne held sets (present t m)
-slots-marked cutOne t marks m held sets h = slots-same cutOne (markedOf t marks (present t m)) held sets (present t m) (λ c e. marked-member t marks c (present t m) e ∙ h c (low c e (decLt (m .mask) c)))
+slots-marked cutOne t marks m held sets h = slots-same cutOne (markedOf t marks (present t m)) held sets (present t m) (λ c e. marked-member t marks c (present t m) e ∙ h c (low c e (decLt (topOf m) c)))
   where
-    low : (c : ℕ) → member c (present t m) ≡ true → Dec (m .mask < c) → c ≤ m .mask
-    low c e (yes d) = absurd (true≢false (sym e ∙ present-out t (m .at) 0 (m .mask + 1) c (omega arith)))
+    low : (c : ℕ) → member c (present t m) ≡ true → Dec (topOf m < c) → c ≤ topOf m
+    low c e (yes d) = absurd (true≢false (sym e ∙ present-out t m 0 (topOf m + 1) c (omega arith)))
     low c e (no d) = omega arith

@@ -2,6 +2,9 @@
 use area::over;
 use area::put;
 use bits::has_bit;
+use class_maps::top;
+use fold::Found;
+use fold::find;
 use repeats::again;
 use repeats::begin;
 use repeats::settle;
@@ -161,16 +164,17 @@ pub fn write_slots(
         };
     }
     begin(book);
+    let last = top(maps.input);
     let mut count = 0;
     let mut k = 0;
     let mut p = first;
     let mut class = 0;
-    while class <= maps.input.mask {
+    while class <= last {
         let here = class;
         class += 1;
-        if t[maps.input.at + here] as usize / 65536 != here {
+        let Found::New(_) = find(t, maps.input, here) else {
             continue;
-        }
+        };
         let turn = Turn {
             at: set_place(src, slots, t, classes.marks, here),
             slot: slots + 2 * k,

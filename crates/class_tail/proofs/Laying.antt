@@ -9,6 +9,7 @@ use lib.ListN.{length, getD, take, length-append, length-map}
 use lib.Seq.{sets, length-sets, take-all}
 use lib.Dec.{ltb}
 use Rattle.meaning.specs.Words.{bytes2, words, flat}
+use Rattle.meaning.specs.Maps.{glyphEntries}
 use Rattle.laws.specs.Stands.{flat-length}
 use Rattle.laws.specs.Written.{sets-one}
 use Rattle.area.specs.Extends.{Keeps, Extends, Tried, keeps-extends, extends-more}
@@ -17,14 +18,16 @@ use Rattle.area.specs.Stored.{extends-store}
 use Rattle.numbers.proofs.Fronts.{part-extends}
 use Rattle.repeats.specs.Shared.{offsetsIn, blocksIn}
 use Rattle.repeats.specs.Book.{bookCells, packs, Begun}
+use Rattle.class_lists.specs.Elsewhere.{Elsewhere, elsewhere-all, elsewhere-more}
 use Rattle.class_slots.specs.Slots.{settled, Noted}
 use Rattle.class_slots.specs.Placing.{Gathered}
 use Rattle.class_slots.specs.declared.Turn.{Turn}
 use Rattle.class_slots.proofs.Halves.{offsets-many}
 use Rattle.class_slots.proofs.Gathering.{gathered-all, gathered-count}
 use Rattle.class_slots.proofs.Offsets.{offsets-back, noted-settled}
-use Rattle.class_tail.specs.Tail.{coverOf, tableBlock, tableBlocks, cover-short, tablesFit, tailOffsets, TableIn, TailIn, Touches, TableAsked, PlacedTable, NotedTables, LaidTables, Lays, Places, TablesAsked}
-use Rattle.class_tail.specs.declared.NewTable.{NewTable}
+use Rattle.class_tail.specs.Made.{newTable, OldIn, old-stays, MakeAsked}
+use Rattle.class_tail.specs.Tail.{coverOf, tableBlocks, cover-short, tablesFit, tailOffsets, TailIn, Touches, BlockAsked, PlacedTable, NotedTables, LaidTables, Lays, Places, TablesAsked}
+use Rattle.class_tail.specs.declared.OldTable.{OldTable}
 use Rattle.class_tail.specs.declared.Tail.{Tail}
 use Rattle.class_tail.proofs.Fitting.{none-fits, front-fits, halves-fit, tail-fits, tail-fit}
 use Rattle.class_tail.proofs.Placing.{keeps-store, touches-none, touches-next, sets-again}
@@ -54,9 +57,8 @@ module _ {gap p : ℕ} {before book₀ : List ℕ} (a : TablesAsked before gap p
 
   module _ {packed : Bool} {bs : List (Option (List ℕ))} {area : List ℕ} {end : ℕ} {book : List ℕ} (h : Tabled packed all gap p bs before area end book) {at slot : ℕ} (few : length bs ≤ 2) (e : slot ≡ 4 + 2 * length bs) where
     -- one more may be written
-    pub table-asked : {t : List ℕ} {n : NewTable} → TableIn t n → at < 65536 → leftOf all at ≡ tableBlock t n → TableAsked t n (record { at = at; slot = slot; first = p; pos = end }) gap area book
-    table-asked i l from = record {
-      table-in = i;
+    pub block-asked : {o : Option (List ℕ)} → at < 65536 → leftOf all at ≡ o → BlockAsked o (record { at = at; slot = slot; first = p; pos = end }) gap area book
+    block-asked l from = record {
       turn-in = record {
         source = l;
         slot = omega (arith, a .places .before);
@@ -104,72 +106,84 @@ module _ {gap p : ℕ} {before book₀ : List ℕ} (a : TablesAsked before gap p
           whole l = sym (append-nil (bs ++ (o ∷ []))) ∙ ap (λ (l : List (Option (List ℕ))). (bs ++ (o ∷ [])) ++ l) (sym (last (inside l))) ∙ said
 
 -- The class tables of a chained context, or the one of a plain one.
-module _ {t : List ℕ} {r : Tail} {gap p : ℕ} {before book₀ book : List ℕ} (i : TailIn t r) (a : TablesAsked before gap p book₀) (k : Begun book₀ book) where
+module _ {s glyphs t : List ℕ} {r : Tail} {gap p : ℕ} {before book₀ book : List ℕ} (i : TailIn s glyphs t r) (a : TablesAsked before gap p book₀) (k : Begun book₀ book) where
   abbrev plain : List (Option (List ℕ))
-  plain = tableBlocks false t r
+  plain = tableBlocks false s glyphs r
 
   abbrev chain : List (Option (List ℕ))
-  chain = tableBlocks true t r
+  chain = tableBlocks true s glyphs r
+
+  -- the block of one of them
+  abbrev new : OldTable → Option (List ℕ)
+  new o = newTable (glyphEntries (r .form) glyphs) s (o .at)
+
+  -- the free cells
+  abbrev front : ℕ
+  front = r .cover .at
+
+  -- one of them can be made, where only these changed
+  make-asked : {o : OldTable} {u : List ℕ} → Elsewhere 0 front t u → OldIn (glyphEntries (r .form) glyphs) s t front o → MakeAsked s o glyphs (r .form) u front
+  make-asked w q = record { map = i .map; inside = omega (arith, i .cover, w .size); old-in = old-stays w q }
 
   abbrev first : Turn
   first = record { at = 1; slot = 4; first = p; pos = p }
 
-  pub plain-asked : TableAsked t (r .input) first gap before book
-  plain-asked = table-asked a plain (tabled-none a plain k) (omega arith) refl (i .input) (omega arith) refl
+  pub plain-asked : MakeAsked s (r .input) glyphs (r .form) t front × BlockAsked (new (r .input)) first gap before book
+  plain-asked = (make-asked elsewhere-all (i .input), block-asked a plain (tabled-none a plain k) (omega arith) refl (omega arith) refl)
 
-  pub plain-noted : {after next : List ℕ} {end : ℕ} → PlacedTable (tableBlock t (r .input)) first gap before book after next end → (chained : Bool) → chained ≡ false → NotedTables (packs book₀) gap p (tableBlocks chained t r) before after end
+  pub plain-noted : {after next : List ℕ} {end : ℕ} → PlacedTable (new (r .input)) first gap before book after next end → (chained : Bool) → chained ≡ false → NotedTables (packs book₀) gap p (tableBlocks chained s glyphs r) before after end
   plain-noted h chained e = rw e (tables-end a plain (tabled-none a plain k) (omega arith) refl refl h [] refl (λ l. refl))
 
-  pub back-asked : TableAsked t (r .back) first gap before book
-  back-asked = table-asked a chain (tabled-none a chain k) (omega arith) refl (i .back) (omega arith) refl
+  pub back-asked : MakeAsked s (r .back) glyphs (r .form) t front × BlockAsked (new (r .back)) first gap before book
+  back-asked = (make-asked elsewhere-all (i .back), block-asked a chain (tabled-none a chain k) (omega arith) refl (omega arith) refl)
 
-  module _ {one next : List ℕ} {q : ℕ} (h : PlacedTable (tableBlock t (r .back)) first gap before book one next q) where
-    pub back-over : length one < q → (chained : Bool) → chained ≡ true → NotedTables (packs book₀) gap p (tableBlocks chained t r) before one q
-    back-over l chained e = rw e (tables-end a chain (tabled-none a chain k) (omega arith) refl refl h (tableBlock t (r .input) ∷ tableBlock t (r .ahead) ∷ []) refl (λ m. absurd (omega arith)))
+  module _ {one next : List ℕ} {q : ℕ} (h : PlacedTable (new (r .back)) first gap before book one next q) where
+    pub back-over : length one < q → (chained : Bool) → chained ≡ true → NotedTables (packs book₀) gap p (tableBlocks chained s glyphs r) before one q
+    back-over l chained e = rw e (tables-end a chain (tabled-none a chain k) (omega arith) refl refl h (new (r .input) ∷ new (r .ahead) ∷ []) refl (λ m. absurd (omega arith)))
 
     module _ (l : q ≤ length one) where
       abbrev second : Turn
       second = record { at = 2; slot = 6; first = p; pos = q }
 
-      has-back : Tabled (packs book₀) chain gap p (tableBlock t (r .back) ∷ []) before one q next
+      has-back : Tabled (packs book₀) chain gap p (new (r .back) ∷ []) before one q next
       has-back = tabled-next a chain (tabled-none a chain k) (omega arith) refl refl h l
 
-      pub input-asked : TableAsked t (r .input) second gap one next
-      input-asked = table-asked a chain has-back (omega arith) refl (i .input) (omega arith) refl
+      pub input-asked : {t₁ : List ℕ} → Elsewhere 0 front t t₁ → MakeAsked s (r .input) glyphs (r .form) t₁ front × BlockAsked (new (r .input)) second gap one next
+      input-asked w = (make-asked w (i .input), block-asked a chain has-back (omega arith) refl (omega arith) refl)
 
-      module _ {two more : List ℕ} {v : ℕ} (g : PlacedTable (tableBlock t (r .input)) second gap one next two more v) where
-        pub input-over : length two < v → (chained : Bool) → chained ≡ true → NotedTables (packs book₀) gap p (tableBlocks chained t r) before two v
-        input-over m chained e = rw e (tables-end a chain has-back (omega arith) refl refl g (tableBlock t (r .ahead) ∷ []) refl (λ w. absurd (omega arith)))
+      module _ {two more : List ℕ} {v : ℕ} (g : PlacedTable (new (r .input)) second gap one next two more v) where
+        pub input-over : length two < v → (chained : Bool) → chained ≡ true → NotedTables (packs book₀) gap p (tableBlocks chained s glyphs r) before two v
+        input-over m chained e = rw e (tables-end a chain has-back (omega arith) refl refl g (new (r .ahead) ∷ []) refl (λ w. absurd (omega arith)))
 
         module _ (m : v ≤ length two) where
           abbrev third : Turn
           third = record { at = 3; slot = 8; first = p; pos = v }
 
-          has-input : Tabled (packs book₀) chain gap p (tableBlock t (r .back) ∷ tableBlock t (r .input) ∷ []) before two v more
+          has-input : Tabled (packs book₀) chain gap p (new (r .back) ∷ new (r .input) ∷ []) before two v more
           has-input = tabled-next a chain has-back (omega arith) refl refl g m
 
-          pub ahead-asked : TableAsked t (r .ahead) third gap two more
-          ahead-asked = table-asked a chain has-input (omega arith) refl (i .ahead) (omega arith) refl
+          pub ahead-asked : {t₁ t₂ : List ℕ} → Elsewhere 0 front t t₁ → Elsewhere 0 front t₁ t₂ → MakeAsked s (r .ahead) glyphs (r .form) t₂ front × BlockAsked (new (r .ahead)) third gap two more
+          ahead-asked w u = (make-asked (elsewhere-more w u) (i .ahead), block-asked a chain has-input (omega arith) refl (omega arith) refl)
 
-          pub ahead-noted : {three last : List ℕ} {end : ℕ} → PlacedTable (tableBlock t (r .ahead)) third gap two more three last end → (chained : Bool) → chained ≡ true → NotedTables (packs book₀) gap p (tableBlocks chained t r) before three end
+          pub ahead-noted : {three last : List ℕ} {end : ℕ} → PlacedTable (new (r .ahead)) third gap two more three last end → (chained : Bool) → chained ≡ true → NotedTables (packs book₀) gap p (tableBlocks chained s glyphs r) before three end
           ahead-noted f chained e = rw e (tables-end a chain has-input (omega arith) refl refl f [] refl (λ l. refl))
 
 -- there are three at most
-few-tables : (chained : Bool) (t : List ℕ) (r : Tail) → length (tableBlocks chained t r) ≤ 3
-few-tables false t r = omega arith
-few-tables true t r = omega arith
+few-tables : (chained : Bool) (s glyphs : List ℕ) (r : Tail) → length (tableBlocks chained s glyphs r) ≤ 3
+few-tables false s glyphs r = omega arith
+few-tables true s glyphs r = omega arith
 
 -- noted slots become offsets
-module _ {packed : Bool} {gap p : ℕ} {before book : List ℕ} (chained : Bool) (t : List ℕ) (r : Tail) (a : TablesAsked before gap p book) {one two : List ℕ} {end n : ℕ} (h : NotedTables packed gap p (tableBlocks chained t r) before one end) (e : n ≡ length (tableBlocks chained t r)) (f : two ≡ sets one 4 (flat (map (settled (p - gap)) (words one 4 n)))) where
+module _ {packed : Bool} {gap p : ℕ} {before book : List ℕ} (chained : Bool) (s glyphs : List ℕ) (r : Tail) (a : TablesAsked before gap p book) {one two : List ℕ} {end n : ℕ} (h : NotedTables packed gap p (tableBlocks chained s glyphs r) before one end) (e : n ≡ length (tableBlocks chained s glyphs r)) (f : two ≡ sets one 4 (flat (map (settled (p - gap)) (words one 4 n)))) where
   abbrev noted : List (Option (List ℕ))
-  noted = tableBlocks chained t r
+  noted = tableBlocks chained s glyphs r
 
   abbrev os : List ℕ
   os = offsetsIn packed (p - gap) noted
 
   laid : end ≤ length before → Extends (sets before 4 (flat os)) p (blocksIn packed noted) two end
   laid l =
-      let few = few-tables chained t r in
+      let few = few-tables chained s glyphs r in
       let apart : 4 + 2 * length noted ≤ p = omega (arith, few, a .places .before) in
       let back = offsets-back (h .noted l) (halves-fit packed (p - gap) noted (h .near l)) apart n (p - gap) (omega (arith, e)) in
       let all : take n noted ≡ noted = take-all n noted (omega (arith, e)) in
@@ -191,12 +205,12 @@ module _ {packed : Bool} {gap p : ℕ} {before book : List ℕ} (chained : Bool)
   }
 
 -- The coverage, and the class tables behind it.
-module _ (packed chained : Bool) {t : List ℕ} {r : Tail} {before : List ℕ} {gap p : ℕ} (i : TailIn t r) (a : Places before 2 4 gap p) where
+module _ (packed chained : Bool) {s glyphs t : List ℕ} {r : Tail} {before : List ℕ} {gap p : ℕ} (i : TailIn s glyphs t r) (a : Places before 2 4 gap p) where
   abbrev cover : List ℕ
   cover = coverOf t r
 
   abbrev tables : List (Option (List ℕ))
-  tables = tableBlocks chained t r
+  tables = tableBlocks chained s glyphs r
 
   -- no offset can say its place
   pub tail-past : {end : ℕ} → 65535 < p - gap → length before < end → Lays packed gap p cover tables before before end
@@ -244,7 +258,7 @@ module _ (packed chained : Bool) {t : List ℕ} {r : Tail} {before : List ℕ} {
             fits = λ g.
                 let y = rw d at (k .fits (omega (arith, same₂))) in
                 subst (λ (b : List ℕ). Extends b p (cover ++ blocksIn packed tables) three end) row
-                (extends-more (extends-store 4 (flat os) covered (omega (arith, flat-length os, offsets-many packed (p - gap + 2 * length cover) tables, few-tables chained t r, a .before))) y);
+                (extends-more (extends-store 4 (flat os) covered (omega (arith, flat-length os, offsets-many packed (p - gap + 2 * length cover) tables, few-tables chained s glyphs r, a .before))) y);
             near = λ g. tail-fits packed (p - gap) cover tables h (rw d at (k .near (omega (arith, same₂))));
             full = λ g f. omega (arith, k .full (omega (arith, same₂)) (rw d (tail-fit packed (p - gap) cover tables f .1)), same₂);
           }

@@ -1,3 +1,4 @@
 pub mod Fitting
 pub mod Placing
 pub mod Laying
+pub mod Making

@@ -21,7 +21,8 @@ use Rattle.class_slots.specs.Placing.{Gathered, TurnIn, SpotAsked, PlacedSpot}
 use Rattle.class_slots.specs.declared.Turn.{Turn}
 use Rattle.class_slots.proofs.Halves.{place-least}
 use Rattle.class_slots.proofs.Gathering.{gathered-null, set-behind, gathered-set}
-use Rattle.class_tail.specs.Tail.{tableBlock, block-null, block-there, tablesFit, Touches, TableAsked, PlacedTable}
+use Rattle.class_tail.specs.Made.{tableBlock, block-null, block-there, TableIn}
+use Rattle.class_tail.specs.Tail.{tablesFit, Touches, BlockAsked, PlacedTable}
 use Rattle.class_tail.specs.declared.NewTable.{NewTable}
 use Rattle.class_tail.proofs.Fitting.{class-two, null-fits, next-fits, next-fit, place-new, known-fits}
 
@@ -70,7 +71,7 @@ sets-again (x ∷ xs) (y ∷ ys) l i e =
     ∙ sets-again xs ys (set l i y) (suc i) (omega (arith, e))
 
 -- The ways through the placing of a class table.
-module _ {t : List ℕ} {n : NewTable} {turn : Turn} {gap : ℕ} {area book : List ℕ} (a : TableAsked t n turn gap area book) where
+module _ {t : List ℕ} {n : NewTable} {turn : Turn} {gap : ℕ} {area book : List ℕ} (in-cells : TableIn t n) (a : BlockAsked (tableBlock t n) turn gap area book) where
   abbrev b : List ℕ
   b = classWords (notes t (n .list) (n .len))
 
@@ -126,7 +127,7 @@ module _ {t : List ℕ} {n : NewTable} {turn : Turn} {gap : ℕ} {area book : Li
 
       module _ (h : q ≤ turn .pos + 131076) where
         small : All Word b
-        small = a .table-in .words (omega (arith, x .place))
+        small = in-cells .words (omega (arith, x .place))
 
         pub spot-asked : SpotAsked turn q one book
         spot-asked = record {

@@ -7,11 +7,12 @@ use mathlib.Core.List.{List, [], _∷_, _++_, map}
 use native.Mathlib.Omega.{arith}
 use lib.ListN.{length}
 use lib.Seq.{sets}
-use lib.Dec.{leb, eqb}
-use borrow.Author.Tests.{eq-eqb, ne-eqb, leb-false}
-use Rattle.meaning.specs.Words.{flat, threes, keys, ascends}
-use Rattle.meaning.specs.Layout.{runs, indexed, coverageWords, classWords, wordsFit}
-use Rattle.laws.specs.Stands.{All, Word, threes-length}
+use lib.Dec.{leb}
+use borrow.Author.Tests.{leb-false}
+use Rattle.meaning.specs.Words.{flat, threes}
+use Rattle.meaning.specs.Maps.{glyphEntries}
+use Rattle.meaning.specs.Layout.{runs, indexed, coverageWords, wordsFit}
+use Rattle.laws.specs.Stands.{threes-length}
 use Rattle.repeats.specs.Shared.{offsetsIn, blocksIn}
 use Rattle.repeats.specs.Book.{bookCells, packs}
 use Rattle.class_slots.specs.Sets.{slotsAt}
@@ -20,27 +21,16 @@ use Rattle.class_slots.specs.Placing.{Gathered, TurnIn}
 use Rattle.class_slots.specs.declared.Turn.{Turn}
 use Rattle.laws.specs.Runs.{indexed-length}
 use Rattle.area.specs.Extends.{Keeps, Extends}
-use Rattle.area.specs.Part.{news, notes}
-use Rattle.class_tail.specs.declared.NewTable.{NewTable}
+use Rattle.area.specs.Part.{news}
+use Rattle.glyph_runs.specs.Runs.{GlyphMap}
+use Rattle.class_tail.specs.Made.{newTable, OldIn}
 use Rattle.class_tail.specs.declared.Tail.{Tail}
 
--- the block of a new class table, whose entries are noted in cells; null if the old one is
-unfoldable pub tableBlock : List ℕ → NewTable → Option (List ℕ)
-tableBlock t n = cond (eqb (n .old) 0) none (some (classWords (notes t (n .list) (n .len))))
-
-module _ (t : List ℕ) (n : NewTable) where
-  pub block-null : n .old ≡ 0 → tableBlock t n ≡ none
-  unfolding tableBlock
-  block-null z = rw (eq-eqb (n .old) 0 z)
-
-  pub block-there : (n .old ≡ 0 → ⊥) → tableBlock t n ≡ some (classWords (notes t (n .list) (n .len)))
-  unfolding tableBlock
-  block-there z = rw (ne-eqb (n .old) 0 z)
-
--- the blocks of the class tables: those of backtrack, input and lookahead, or of the input alone
-abbrev pub tableBlocks : Bool → List ℕ → Tail → List (Option (List ℕ))
-tableBlocks false t r = tableBlock t (r .input) ∷ []
-tableBlocks true t r = tableBlock t (r .back) ∷ tableBlock t (r .input) ∷ tableBlock t (r .ahead) ∷ []
+-- the blocks of the new class tables: those of backtrack, input and lookahead, or of the input alone
+abbrev pub tableBlocks : Bool → List ℕ → List ℕ → Tail → List (Option (List ℕ))
+tableBlocks false s glyphs r = newTable (glyphEntries (r .form) glyphs) s (r .input .at) ∷ []
+tableBlocks true s glyphs r =
+    newTable (glyphEntries (r .form) glyphs) s (r .back .at) ∷ newTable (glyphEntries (r .form) glyphs) s (r .input .at) ∷ newTable (glyphEntries (r .form) glyphs) s (r .ahead .at) ∷ []
 
 -- the words of the coverage
 abbrev pub coverOf : List ℕ → Tail → List ℕ
@@ -53,21 +43,15 @@ tailOffsets packed q cover tables = q ∷ offsetsIn packed (q + 2 * length cover
 abbrev pub tailWords : Bool → List ℕ → List (Option (List ℕ)) → List ℕ
 tailWords packed cover tables = cover ++ blocksIn packed tables
 
--- the entries of a new class table stand in cells, and its glyphs ascend; its words fit, if its count does
-pub record TableIn (t : List ℕ) (n : NewTable) : Type 0 where
-  pub inside : n .list + n .len ≤ length t
-  pub few : n .len ≤ 65536
-  pub ascend : ascends (keys (notes t (n .list) (n .len))) ≡ true
-  pub words : length (classWords (notes t (n .list) (n .len))) ≤ 65538 → All Word (classWords (notes t (n .list) (n .len)))
-
--- the glyphs of the coverage, of which there is one, and the entries of the class tables stand in cells
-pub record TailIn (t : List ℕ) (r : Tail) : Type 0 where
+-- the glyphs of the coverage, of which there is one, stand in cells, behind those that are free; and each class table can be made again there
+pub record TailIn (s glyphs t : List ℕ) (r : Tail) : Type 0 where
   pub cover : r .cover .at + r .cover .len ≤ length t
   pub covered : 0 < r .cover .len
   pub few : r .cover .len ≤ 65536
-  pub back : TableIn t (r .back)
-  pub input : TableIn t (r .input)
-  pub ahead : TableIn t (r .ahead)
+  pub map : GlyphMap (r .form) glyphs
+  pub back : OldIn (glyphEntries (r .form) glyphs) s t (r .cover .at) (r .back)
+  pub input : OldIn (glyphEntries (r .form) glyphs) s t (r .cover .at) (r .input)
+  pub ahead : OldIn (glyphEntries (r .form) glyphs) s t (r .cover .at) (r .ahead)
 
 -- a coverage of at most 65,536 glyphs is short
 pub cover-short : (gs : List ℕ) → length gs ≤ 65536 → length (coverageWords gs) ≤ 65538
@@ -105,9 +89,8 @@ pub record Touches (before : List ℕ) (slot n p : ℕ) (after : List ℕ) : Typ
   pub many : length words ≡ n
   pub keeps : Keeps (sets before slot (flat words)) p after
 
--- what is asked to write a class table: it is in cells, and those so far are gathered
-pub record TableAsked (t : List ℕ) (n : NewTable) (turn : Turn) (gap : ℕ) (area book : List ℕ) : Type 0 where
-  pub table-in : TableIn t n
+-- what is asked to write a class table, whose block is o: those so far are gathered
+pub record BlockAsked (o : Option (List ℕ)) (turn : Turn) (gap : ℕ) (area book : List ℕ) : Type 0 where
   pub turn-in : TurnIn turn area book
   pub near : gap ≤ turn .first
   pub packed : Bool
@@ -115,7 +98,7 @@ pub record TableAsked (t : List ℕ) (n : NewTable) (turn : Turn) (gap : ℕ) (a
   pub slots : ℕ
   pub done : List (Option (List ℕ))
   pub gathered : Gathered packed left slots (turn .first) done area (turn .pos) book
-  pub from : left (turn .at) ≡ tableBlock t n
+  pub from : left (turn .at) ≡ o
 
 -- Whatever class tables there are so far: this one is gathered with them, and if their offsets and counts fit then they do with it; or the area is short, or they don't.
 pub record PlacedTable (o : Option (List ℕ)) (turn : Turn) (gap : ℕ) (area₀ book₀ area book : List ℕ) (r : ℕ) : Type 0 where
@@ -164,6 +147,6 @@ pub record TablesAsked (area : List ℕ) (gap p : ℕ) (book : List ℕ) : Type 
   pub enough : packs book ≡ true → bookCells ≤ length book
 
 -- the slots follow the format, what the header says of the coverage and the class tables, and the count
-pub tail-many : (chained : Bool) (t : List ℕ) (tail : Tail) → slotsAt chained ≡ 6 + 2 * length (tableBlocks chained t tail)
-tail-many true t tail = refl
-tail-many false t tail = refl
+pub tail-many : (chained : Bool) (s glyphs : List ℕ) (tail : Tail) → slotsAt chained ≡ 6 + 2 * length (tableBlocks chained s glyphs tail)
+tail-many true s glyphs tail = refl
+tail-many false s glyphs tail = refl

@@ -1,13 +1,13 @@
 -- What a source asks and says, by its kind and its format.
 use Prim.Native.Nat.{ℕ, _≤_, _<_}
 use mathlib.Core.Path.{_≡_, refl, sym, ap, _∙_, subst}
-use mathlib.Core.Bool.{Bool, true, false, cond, not, true≢false}
+use mathlib.Core.Bool.{Bool, true, false, cond, true≢false}
 use mathlib.Core.Option.{Option, none}
 use mathlib.Core.List.{List, []}
 use native.Mathlib.Omega.{arith}
 use lib.ListN.{length}
 use lib.Dec.{eqb}
-use borrow.Author.Tests.{ne-eqb, eq-eqb, le-leb}
+use borrow.Author.Tests.{ne-eqb}
 use Rattle.meaning.specs.Words.{word, inside, isSome, keys, ascends}
 use Rattle.meaning.specs.Maps.{mapEntries}
 use Rattle.meaning.specs.Parts.{coverage, classes}
@@ -30,43 +30,25 @@ use Rattle.covers.specs.Cutting as covers
 use Rattle.single_subst.specs.Whole as singles
 use Rattle.class_contexts.specs.Cutting as classes
 use Rattle.cut.proofs.Single.{singles-written}
-use Rattle.cut.specs.Cutting.{Sound, SoundContext, SoundPairs, classCells, otherCells, byClasses, contextCells, pairCells, cellsFor}
+use Rattle.cut.specs.Cutting.{Sound, SoundContext, SoundPairs, classPairCells, otherCells, pairsByClass, cellsFor, bytesFor}
 
--- the cells that are enough for a context
-module _ (s : List ℕ) where
-  other-few : (n : ℕ) → n < otherCells → n < contextCells s
-  unfolding contextCells
-  other-few n h = step (eqb (word s 0) 2)
-    where
-      step : (b : Bool) → n < cond b classCells otherCells
-      step true = omega arith
-      step false = h
-
-  class-few : (n : ℕ) → word s 0 ≡ 2 → n < classCells → n < contextCells s
-  unfolding contextCells
-  class-few n e h = rw (eq-eqb (word s 0) 2 e) h
-
--- and for any source
+-- scratch that is too short for a source that is no pair table by classes
 module _ (kind : ℕ) (s : List ℕ) where
-  context-few : kind ≤ 2 → (n : ℕ) → n < contextCells s → n < cellsFor kind s
-  unfolding contextCells cellsFor byClasses
-  context-few k n h = rw (le-leb kind 2 k) h
-
-  pair-few : kind ≡ 4 → (n : ℕ) → n < pairCells s → n < cellsFor kind s
-  unfolding pairCells cellsFor byClasses
-  pair-few k n h = rw k (step (eqb (word s 0) 1) h)
-    where
-      step : (b : Bool) → n < cond b otherCells classCells → n < cond (not b) classCells otherCells
-      step true h = h
-      step false h = h
-
   source-few : (n : ℕ) → n < otherCells → n < cellsFor kind s
   unfolding cellsFor
-  source-few n h = step (byClasses kind s)
+  source-few n h = step (pairsByClass kind s)
     where
-      step : (b : Bool) → n < cond b classCells otherCells
+      step : (b : Bool) → n < cond b classPairCells otherCells
       step true = omega arith
       step false = h
+
+  source-short-area : pairsByClass kind s ≡ false → (b : ℕ) → b < enoughArea → b < bytesFor kind s
+  unfolding bytesFor
+  source-short-area e b h = rw e h
+
+  no-pairs : (kind ≡ 4 → ⊥) → pairsByClass kind s ≡ false
+  unfolding pairsByClass
+  no-pairs z = rw (ne-eqb kind 4 z)
 
 -- A context by its format.
 module _ (chained : Bool) (s : List ℕ) {format : ℕ} (e : format ≡ word s 0) where
@@ -95,14 +77,14 @@ module _ (chained : Bool) (s : List ℕ) {format : ℕ} (e : format ≡ word s 0
 
   -- what each format's cut answers is what a context's cut answers
   module _ (packing : ℕ) (g l : List (ℕ × ℕ)) (n b : ℕ) (r : Tried) (out after : List ℕ) where
-    pub tries-1 : format ≡ 1 → Tries (n < otherCells) (b < enoughArea) r out after (writtenIn packing out (cut g l (glyphContext chained s))) → Tries (n < contextCells s) (b < enoughArea) r out after (writtenIn packing out (cut g l (context chained s)))
-    tries-1 f h = tries-less (n < otherCells) (b < enoughArea) (n < contextCells s) (b < enoughArea) r out after (writtenIn packing out (cut g l (context chained s))) (other-few s n) (λ x. x) (rw (says-1 f) at h)
+    pub tries-1 : format ≡ 1 → Tries (n < otherCells) (b < enoughArea) r out after (writtenIn packing out (cut g l (glyphContext chained s))) → Tries (n < otherCells) (b < enoughArea) r out after (writtenIn packing out (cut g l (context chained s)))
+    tries-1 f h = (rw (says-1 f) at h)
 
-    pub tries-2 : format ≡ 2 → Tries (n < classCells) (b < enoughArea) r out after (writtenIn packing out (cut g l (classContext chained s))) → Tries (n < contextCells s) (b < enoughArea) r out after (writtenIn packing out (cut g l (context chained s)))
-    tries-2 f h = tries-less (n < classCells) (b < enoughArea) (n < contextCells s) (b < enoughArea) r out after (writtenIn packing out (cut g l (context chained s))) (class-few s n (sym e ∙ f)) (λ x. x) (rw (says-2 f) at h)
+    pub tries-2 : format ≡ 2 → Tries (n < classes.enoughCells) (b < enoughArea) r out after (writtenIn packing out (cut g l (classContext chained s))) → Tries (n < otherCells) (b < enoughArea) r out after (writtenIn packing out (cut g l (context chained s)))
+    tries-2 f h = tries-less (n < classes.enoughCells) (b < enoughArea) (n < otherCells) (b < enoughArea) r out after (writtenIn packing out (cut g l (context chained s))) (λ x. omega arith) (λ x. x) (rw (says-2 f) at h)
 
-    pub tries-3 : (format ≡ 1 → ⊥) → (format ≡ 2 → ⊥) → Tries (n < otherCells) (b < enoughArea) r out after (writtenIn packing out (cut g l (coverContext chained s))) → Tries (n < contextCells s) (b < enoughArea) r out after (writtenIn packing out (cut g l (context chained s)))
-    tries-3 f k h = tries-less (n < otherCells) (b < enoughArea) (n < contextCells s) (b < enoughArea) r out after (writtenIn packing out (cut g l (context chained s))) (other-few s n) (λ x. x) (rw (says-3 f k) at h)
+    pub tries-3 : (format ≡ 1 → ⊥) → (format ≡ 2 → ⊥) → Tries (n < otherCells) (b < enoughArea) r out after (writtenIn packing out (cut g l (coverContext chained s))) → Tries (n < otherCells) (b < enoughArea) r out after (writtenIn packing out (cut g l (context chained s)))
+    tries-3 f k h = (rw (says-3 f k) at h)
 
 -- a source without a fault has its first two bytes
 sound-inside : (kind : ℕ) (s : List ℕ) → fault kind s ≡ none → inside s 0 2 ≡ true
@@ -126,26 +108,29 @@ module _ (s : List ℕ) {format : ℕ} (e : format ≡ word s 0) where
   unfolding pairTable
   says-glyph-pairs f = rw (← e, f)
 
-  glyph-few : (n : ℕ) → n < otherCells → n < pairCells s
-  unfolding pairCells
-  glyph-few n h = step (eqb (word s 0) 1)
-    where
-      step : (b : Bool) → n < cond b otherCells classCells
-      step true = h
-      step false = omega arith
+  by-glyph : format ≡ 1 → pairsByClass 4 s ≡ false
+  unfolding pairsByClass
+  by-glyph f = rw (← e, f)
 
-  class-pairs-few : (format ≡ 1 → ⊥) → (n : ℕ) → n < classPairs.enoughCells → n < pairCells s
-  unfolding pairCells
-  class-pairs-few f n h = rw (← e, ne-eqb format 1 f) (omega arith)
+  by-class : (format ≡ 1 → ⊥) → pairsByClass 4 s ≡ true
+  unfolding pairsByClass
+  by-class f = rw (← e, ne-eqb format 1 f)
+
+  class-pairs-few : (format ≡ 1 → ⊥) → (n : ℕ) → n < classPairCells → n < cellsFor 4 s
+  unfolding cellsFor
+  class-pairs-few f n h = rw (by-class f) h
+
+  class-pairs-short : (format ≡ 1 → ⊥) → (b : ℕ) → b < limit → b < bytesFor 4 s
+  unfolding bytesFor limit
+  class-pairs-short f b h = rw (by-class f) h
 
   -- what each format's cut answers is what a pair table's cut answers
   module _ (packing : ℕ) (g : List (ℕ × ℕ)) (n b : ℕ) (r : Tried) (out after : List ℕ) where
-    pub tries-glyph-pairs : format ≡ 1 → Tries (n < otherCells) (b < enoughArea) r out after (writtenIn packing out (cut g [] (glyphPairs.pairTable s))) → Tries (n < pairCells s) (b < enoughArea) r out after (writtenIn packing out (cut g [] (pairTable s)))
-    tries-glyph-pairs f h = tries-less (n < otherCells) (b < enoughArea) (n < pairCells s) (b < enoughArea) r out after (writtenIn packing out (cut g [] (pairTable s))) (glyph-few n) (λ x. x) (rw (says-glyph-pairs f) at h)
+    pub tries-glyph-pairs : format ≡ 1 → Tries (n < otherCells) (b < enoughArea) r out after (writtenIn packing out (cut g [] (glyphPairs.pairTable s))) → Tries (n < cellsFor 4 s) (b < bytesFor 4 s) r out after (writtenIn packing out (cut g [] (pairTable s)))
+    tries-glyph-pairs f h = tries-less (n < otherCells) (b < enoughArea) (n < cellsFor 4 s) (b < bytesFor 4 s) r out after (writtenIn packing out (cut g [] (pairTable s))) (source-few 4 s n) (source-short-area 4 s (by-glyph f) b) (rw (says-glyph-pairs f) at h)
 
-    pub tries-class-pairs : (format ≡ 1 → ⊥) → Tries (n < classPairs.enoughCells) (b < limit) r out after (writtenIn packing out (cut g [] (pairTable s))) → Tries (n < pairCells s) (b < enoughArea) r out after (writtenIn packing out (cut g [] (pairTable s)))
-    unfolding limit
-    tries-class-pairs f h = tries-less (n < classPairs.enoughCells) (b < limit) (n < pairCells s) (b < enoughArea) r out after (writtenIn packing out (cut g [] (pairTable s))) (class-pairs-few f n) (λ x. omega arith) h
+    pub tries-class-pairs : (format ≡ 1 → ⊥) → Tries (n < classPairCells) (b < limit) r out after (writtenIn packing out (cut g [] (pairTable s))) → Tries (n < cellsFor 4 s) (b < bytesFor 4 s) r out after (writtenIn packing out (cut g [] (pairTable s)))
+    tries-class-pairs f h = tries-less (n < classPairCells) (b < limit) (n < cellsFor 4 s) (b < bytesFor 4 s) r out after (writtenIn packing out (cut g [] (pairTable s))) (class-pairs-few f n) (class-pairs-short f b) h
 
 -- lookups have no say in what is left of a pair table
 pair-lookups : (g l : List (ℕ × ℕ)) (s : List ℕ) → cut g l (pairTable s) ≡ cut g [] (pairTable s)
@@ -214,25 +199,25 @@ module _ (kind : ℕ) (s : List ℕ) where
   -- what each kind's cut answers is what a source's cut answers
   module _ (packing : ℕ) (g l : List (ℕ × ℕ)) (n b : ℕ) (r : Tried) (out after : List ℕ) where
     abbrev Cut : Type 0
-    Cut = Tries (n < cellsFor kind s) (b < enoughArea) r out after (writtenIn packing out (cut g l (table kind s)))
+    Cut = Tries (n < cellsFor kind s) (b < bytesFor kind s) r out after (writtenIn packing out (cut g l (table kind s)))
 
-    pub tries-plain : kind ≡ 1 → Tries (n < contextCells s) (b < enoughArea) r out after (writtenIn packing out (cut g l (context false s))) → Cut
-    tries-plain e h = tries-less (n < contextCells s) (b < enoughArea) (n < cellsFor kind s) (b < enoughArea) r out after (writtenIn packing out (cut g l (table kind s))) (context-few kind s (omega arith) n) (λ x. x) (rw (says-plain e) at h)
+    tries-other : {made : Option Table} → (kind ≡ 4 → ⊥) → made ≡ cut g l (table kind s) → Tries (n < otherCells) (b < enoughArea) r out after (writtenIn packing out made) → Cut
+    tries-other z m h = tries-less (n < otherCells) (b < enoughArea) (n < cellsFor kind s) (b < bytesFor kind s) r out after (writtenIn packing out (cut g l (table kind s))) (source-few kind s n) (source-short-area kind s (no-pairs kind s z) b) (rw m at h)
 
-    pub tries-chained : kind ≡ 2 → Tries (n < contextCells s) (b < enoughArea) r out after (writtenIn packing out (cut g l (context true s))) → Cut
-    tries-chained e h = tries-less (n < contextCells s) (b < enoughArea) (n < cellsFor kind s) (b < enoughArea) r out after (writtenIn packing out (cut g l (table kind s))) (context-few kind s (omega arith) n) (λ x. x) (rw (says-chained e) at h)
+    pub tries-plain : kind ≡ 1 → Tries (n < otherCells) (b < enoughArea) r out after (writtenIn packing out (cut g l (context false s))) → Cut
+    tries-plain e h = tries-other (λ z. omega arith) (ap (cut g l) (says-plain e)) h
 
-    tries-other : {made : Option Table} → made ≡ cut g l (table kind s) → Tries (n < otherCells) (b < enoughArea) r out after (writtenIn packing out made) → Cut
-    tries-other m h = tries-less (n < otherCells) (b < enoughArea) (n < cellsFor kind s) (b < enoughArea) r out after (writtenIn packing out (cut g l (table kind s))) (source-few kind s n) (λ x. x) (rw m at h)
+    pub tries-chained : kind ≡ 2 → Tries (n < otherCells) (b < enoughArea) r out after (writtenIn packing out (cut g l (context true s))) → Cut
+    tries-chained e h = tries-other (λ z. omega arith) (ap (cut g l) (says-chained e)) h
 
     pub tries-ligatures : kind ≡ 3 → Tries (n < otherCells) (b < enoughArea) r out after (writtenIn packing out (cut g [] (ligatureTable s))) → Cut
-    tries-ligatures e h = tries-other (says-ligatures g l e) h
+    tries-ligatures e h = tries-other (λ z. omega arith) (says-ligatures g l e) h
 
-    pub tries-pairs : kind ≡ 4 → Tries (n < pairCells s) (b < enoughArea) r out after (writtenIn packing out (cut g [] (pairTable s))) → Cut
-    tries-pairs e h = tries-less (n < pairCells s) (b < enoughArea) (n < cellsFor kind s) (b < enoughArea) r out after (writtenIn packing out (cut g l (table kind s))) (pair-few kind s e n) (λ x. x) (rw (says-pairs g l e) at h)
+    pub tries-pairs : kind ≡ 4 → Tries (n < cellsFor 4 s) (b < bytesFor 4 s) r out after (writtenIn packing out (cut g [] (pairTable s))) → Cut
+    tries-pairs e h = subst (λ (k : ℕ). Tries (n < cellsFor k s) (b < bytesFor k s) r out after (writtenIn packing out (cut g l (table kind s)))) (sym e) (rw (says-pairs g l e) at h)
 
     pub tries-singles : (kind ≡ 1 → ⊥) → (kind ≡ 2 → ⊥) → (kind ≡ 3 → ⊥) → (kind ≡ 4 → ⊥) → Tries (n < singles.enoughCells) (b < limit) r out after (written out (cut g [] (single s))) → Cut
     unfolding limit
     tries-singles x y z w h =
-        tries-other (says-singles g l x y z w)
+        tries-other w (says-singles g l x y z w)
         (tries-less (n < singles.enoughCells) (b < limit) (n < otherCells) (b < enoughArea) r out after (writtenIn packing out (cut g [] (single s))) (λ x. x) (λ x. omega arith) (rw (singles-written packing out g [] s) at h))

@@ -1,7 +1,7 @@
 -- What the sizes of the scratch say.
 use Prim.Native.Nat.{ℕ, _≤_, _<_}
 use mathlib.Core.Path.{_≡_}
-use mathlib.Core.Bool.{Bool, true, false, cond}
+use mathlib.Core.Bool.{true, false}
 use mathlib.Core.List.{List, [], _∷_}
 use mathlib.Core.Logic.{⊎-elim}
 use native.Mathlib.Omega.{arith}
@@ -15,7 +15,7 @@ use Rattle.tried.specs.Tries.{Tries, tries-less}
 use Rattle.tried.proofs.Tried.{the-type}
 use Rattle.tried.specs.declared.Tried.{Tried}
 use Rattle.tried.specs.declared.Tried.the-variants.{FewCells, Short, Became}
-use Rattle.cut.specs.Cutting.{classCells, otherCells, byClasses, cellsFor, UnlessShort, NeverShort}
+use Rattle.cut.specs.Cutting.{classPairCells, classPairBytes, otherCells, pairsByClass, cellsFor, bytesFor, UnlessShort, NeverShort}
 
 -- scratch as it begins
 abbrev pub cleared : ℕ → List ℕ
@@ -30,20 +30,21 @@ enough-cleared m n h = rw (cleared-length n) h
 
 -- scratch that is enough, by the format
 module _ (kind : ℕ) (s : List ℕ) where
-  pub all-cells : cellsFor kind s ≤ length (cleared classCells)
+  pub pair-cells : pairsByClass kind s ≡ true → cellsFor kind s ≤ length (cleared classPairCells)
   unfolding cellsFor
-  all-cells = enough-cleared (cellsFor kind s) classCells (step (byClasses kind s))
-    where
-      step : (b : Bool) → cond b classCells otherCells ≤ classCells
-      step true = omega arith
-      step false = omega arith
+  pair-cells e = enough-cleared (cellsFor kind s) classPairCells (rw e (omega arith))
 
-  pub other-cells : byClasses kind s ≡ false → cellsFor kind s ≤ length (cleared otherCells)
+  pub pair-bytes : pairsByClass kind s ≡ true → bytesFor kind s ≤ length (cleared classPairBytes)
+  unfolding bytesFor
+  pair-bytes e = enough-cleared (bytesFor kind s) classPairBytes (rw e (omega arith))
+
+  pub other-cells : pairsByClass kind s ≡ false → cellsFor kind s ≤ length (cleared otherCells)
   unfolding cellsFor
   other-cells e = enough-cleared (cellsFor kind s) otherCells (rw e (omega arith))
 
-pub all-bytes : enoughArea ≤ length (cleared enoughArea)
-all-bytes = enough-cleared enoughArea enoughArea (omega arith)
+  pub other-bytes : pairsByClass kind s ≡ false → bytesFor kind s ≤ length (cleared enoughArea)
+  unfolding bytesFor
+  other-bytes e = enough-cleared (bytesFor kind s) enoughArea (rw e (omega arith))
 
 -- what became of it
 pub became : (few short : Type 0) (r : Tried) (before after : List ℕ) (made : Outcome) {laid : Laid} → Tries few short r before after made → r ≡ Became laid → outcomeOf laid after ≡ made
@@ -56,12 +57,12 @@ untouched few short Short before after made h n = h .1
 untouched few short (Became laid) before after made h n = absurd (⊎-elim (λ e. omega arith) (λ e. omega arith) n)
 
 -- what too little scratch says
-pub unless-short : (kind : ℕ) (s : List ℕ) (cells area : ℕ) {r : Tried} {before after : List ℕ} {made : Outcome} → Tries (cells < cellsFor kind s) (area < enoughArea) r before after made → UnlessShort r before after made
-unless-short kind s cells area {r} {before} {after} {made} h = record { tried = tries-less (cells < cellsFor kind s) (area < enoughArea) (Unit {0}) (Unit {0}) r before after made (λ x. tt) (λ x. tt) h }
+pub unless-short : (kind : ℕ) (s : List ℕ) (cells area : ℕ) {r : Tried} {before after : List ℕ} {made : Outcome} → Tries (cells < cellsFor kind s) (area < bytesFor kind s) r before after made → UnlessShort r before after made
+unless-short kind s cells area {r} {before} {after} {made} h = record { tried = tries-less (cells < cellsFor kind s) (area < bytesFor kind s) (Unit {0}) (Unit {0}) r before after made (λ x. tt) (λ x. tt) h }
 
 -- what enough scratch says
-pub never-short : (kind : ℕ) (s : List ℕ) (cells area : ℕ) {r : Tried} {before after : List ℕ} {made : Outcome} → cellsFor kind s ≤ cells → enoughArea ≤ area → Tries (cells < cellsFor kind s) (area < enoughArea) r before after made → NeverShort r before after made
-never-short kind s cells area {r} {before} {after} {made} e f h = record { tried = tries-less (cells < cellsFor kind s) (area < enoughArea) (⊥) (⊥) r before after made (λ x. omega arith) (λ x. omega arith) h }
+pub never-short : (kind : ℕ) (s : List ℕ) (cells area : ℕ) {r : Tried} {before after : List ℕ} {made : Outcome} → cellsFor kind s ≤ cells → bytesFor kind s ≤ area → Tries (cells < cellsFor kind s) (area < bytesFor kind s) r before after made → NeverShort r before after made
+never-short kind s cells area {r} {before} {after} {made} e f h = record { tried = tries-less (cells < cellsFor kind s) (area < bytesFor kind s) (⊥) (⊥) r before after made (λ x. omega arith) (λ x. omega arith) h }
 
 -- Of one of our own sizes: what became of it, and else the buffer is untouched.
 module _ {r : Tried} {before after : List ℕ} {made : Outcome} where

@@ -5,7 +5,7 @@ use mathlib.Core.Bool.{Bool, true, cond, _&&_, not}
 use mathlib.Core.Option.{none}
 use mathlib.Core.List.{List}
 use lib.ListN.{length}
-use lib.Dec.{leb, eqb}
+use lib.Dec.{eqb}
 use Rattle.meaning.specs.Words.{word}
 use Rattle.meaning.specs.Maps.{goodLookups}
 use Rattle.glyph_runs.specs.Runs.{GlyphMap}
@@ -13,8 +13,9 @@ use Rattle.meaning.specs.Fault.{contextFault, fault}
 use Rattle.meaning.specs.Subset.{Outcome, limit}
 use Rattle.tried.specs.Tries.{Tries}
 use Rattle.tried.specs.declared.Tried.{Tried}
+use Rattle.room.specs.Laid.{enoughArea}
 use Rattle.covers.specs.Cutting as covers
-use Rattle.class_contexts.specs.Cutting as classes
+use Rattle.pair_classes.specs.Cutting as classPairs
 
 -- what a cut asks: the source has no fault and is not over the limit, and both maps are good
 pub record Sound (kind form : ℕ) (s glyphs lookups : List ℕ) : Type 0 where
@@ -36,26 +37,27 @@ pub record SoundPairs (form : ℕ) (s glyphs : List ℕ) : Type 0 where
   pub source : length s ≤ limit
   pub map : GlyphMap form glyphs
 
--- the cells that are enough for a context or a pair table by classes, and those that are for any other source
-abbrev pub classCells : ℕ
-classCells = classes.enoughCells
+-- the cells that are enough for a pair table by classes, and those that are for any other source
+abbrev pub classPairCells : ℕ
+classPairCells = classPairs.enoughCells
 
 abbrev pub otherCells : ℕ
 otherCells = covers.enoughCells
 
--- a source of this kind is a context or a pair table by classes
-unfoldable pub byClasses : ℕ → List ℕ → Bool
-byClasses kind s = cond (leb kind 2) (eqb (word s 0) 2) (eqb kind 4 && not (eqb (word s 0) 1))
+-- the bytes of area that are enough for a pair table by classes, as many as the limit; `enoughArea` are for any other source
+abbrev pub classPairBytes : ℕ
+classPairBytes = 262144
 
--- the cells that are enough for a context and for a pair table, by its format, and for a source, by its kind
-unfoldable pub contextCells : List ℕ → ℕ
-contextCells s = cond (eqb (word s 0) 2) classCells otherCells
+-- a source of this kind is a pair table by classes
+unfoldable pub pairsByClass : ℕ → List ℕ → Bool
+pairsByClass kind s = eqb kind 4 && not (eqb (word s 0) 1)
 
-unfoldable pub pairCells : List ℕ → ℕ
-pairCells s = cond (eqb (word s 0) 1) otherCells classCells
-
+-- the cells and the bytes of area that are enough for a source, by its kind and its format
 unfoldable pub cellsFor : ℕ → List ℕ → ℕ
-cellsFor kind s = cond (byClasses kind s) classCells otherCells
+cellsFor kind s = cond (pairsByClass kind s) classPairCells otherCells
+
+unfoldable pub bytesFor : ℕ → List ℕ → ℕ
+bytesFor kind s = cond (pairsByClass kind s) classPairBytes enoughArea
 
 -- the answer's outcome is `made`; or the scratch was too short, and the buffer is untouched
 pub record UnlessShort (r : Tried) (before after : List ℕ) (made : Outcome) : Type 0 where

@@ -8,30 +8,31 @@ use fold::cells;
 use marks::Marks;
 use pair_classes::class_pairs;
 use room::AREA;
+use room::LIMIT;
 use room::Laid;
 use single_subst::singles;
 use tried::Tried;
 use wire::word_at;
 ghost use mathlib.Core.Path.{_≡_};
-ghost use mathlib.Core.Bool.{false};
+ghost use mathlib.Core.Bool.{true, false};
 ghost use mathlib.Core.List.{[]};
 ghost use Prim.Native.Nat.{_≤_, _<_};
 ghost use lib.ListN.{length};
 ghost use Rattle.meaning.specs.Maps.{mapEntries, glyphEntries};
 ghost use Rattle.meaning.specs.Tables.{context, pairTable, table};
 ghost use Rattle.meaning.specs.Cut.{cut};
-ghost use Rattle.meaning.specs.Subset.{limit, writtenIn};
+ghost use Rattle.meaning.specs.Subset.{writtenIn};
 ghost use Rattle.room.specs.Laid.{enoughArea, outcomeOf};
 ghost use Rattle.tried.specs.Tries.{Tries};
-ghost use Rattle.cut.specs.Cutting.{SoundContext, SoundPairs, Sound, contextCells, pairCells, cellsFor, byClasses, UnlessShort, NeverShort};
+ghost use Rattle.cut.specs.Cutting.{SoundContext, SoundPairs, Sound, otherCells, pairsByClass, cellsFor, bytesFor, UnlessShort, NeverShort};
 
 // The cells and the bytes that are enough for any source.
-pub const CELLS: usize = class_contexts::CELLS;
+pub const CELLS: usize = pair_classes::CELLS;
 
 pub const BYTES: usize = AREA;
 
-// The cells that are enough for any source but one by classes.
-const CELLS_BUT_CLASSES: usize = covers::CELLS;
+// The cells that are enough for any source but a pair table by classes; for that the limit's bytes are enough.
+const OTHER_CELLS: usize = covers::CELLS;
 
 // Scratch of our own comes in sizes that are enough for most sources, so that little is cleared for a small job.
 const LITTLE_CELLS: usize = 512;
@@ -62,7 +63,7 @@ fn context_in(
     out: &mut [u8],
 ) -> Tried
     requires { ⌜ SoundContext chained (marks .form) (now src) (now glyphs) (now lookups) ⌝ }
-    ensures { λ r. ⌜ Tries (length (now (t .entry)) < contextCells (now (src .entry))) (length (now (area .entry)) < enoughArea) r (now (out .entry)) (now (out .exit)) (writtenIn (marks .layout) (now (out .entry)) (cut (glyphEntries (marks .form) (now (glyphs .entry))) (mapEntries (now (lookups .entry))) (context chained (now (src .entry))))) ⌝ }
+    ensures { λ r. ⌜ Tries (length (now (t .entry)) < otherCells) (length (now (area .entry)) < enoughArea) r (now (out .entry)) (now (out .exit)) (writtenIn (marks .layout) (now (out .entry)) (cut (glyphEntries (marks .form) (now (glyphs .entry))) (mapEntries (now (lookups .entry))) (context chained (now (src .entry))))) ⌝ }
 {
     let format = word_at(src, 0);
     match format {
@@ -82,7 +83,7 @@ fn pairs_in(
     out: &mut [u8],
 ) -> Tried
     requires { ⌜ SoundPairs (marks .form) (now src) (now glyphs) ⌝ }
-    ensures { λ r. ⌜ Tries (length (now (t .entry)) < pairCells (now (src .entry))) (length (now (area .entry)) < enoughArea) r (now (out .entry)) (now (out .exit)) (writtenIn (marks .layout) (now (out .entry)) (cut (glyphEntries (marks .form) (now (glyphs .entry))) [] (pairTable (now (src .entry))))) ⌝ }
+    ensures { λ r. ⌜ Tries (length (now (t .entry)) < cellsFor 4 (now (src .entry))) (length (now (area .entry)) < bytesFor 4 (now (src .entry))) r (now (out .entry)) (now (out .exit)) (writtenIn (marks .layout) (now (out .entry)) (cut (glyphEntries (marks .form) (now (glyphs .entry))) [] (pairTable (now (src .entry))))) ⌝ }
 {
     let format = word_at(src, 0);
     match format {
@@ -103,7 +104,7 @@ pub fn cut_in(
     out: &mut [u8],
 ) -> Tried
     requires { ⌜ Sound (marks .kind) (marks .form) (now src) (now glyphs) (now lookups) ⌝ }
-    ensures { λ r. ⌜ Tries (length (now (t .entry)) < cellsFor (marks .kind) (now (src .entry))) (length (now (area .entry)) < enoughArea) r (now (out .entry)) (now (out .exit)) (writtenIn (marks .layout) (now (out .entry)) (cut (glyphEntries (marks .form) (now (glyphs .entry))) (mapEntries (now (lookups .entry))) (table (marks .kind) (now (src .entry))))) ⌝ }
+    ensures { λ r. ⌜ Tries (length (now (t .entry)) < cellsFor (marks .kind) (now (src .entry))) (length (now (area .entry)) < bytesFor (marks .kind) (now (src .entry))) r (now (out .entry)) (now (out .exit)) (writtenIn (marks .layout) (now (out .entry)) (cut (glyphEntries (marks .form) (now (glyphs .entry))) (mapEntries (now (lookups .entry))) (table (marks .kind) (now (src .entry))))) ⌝ }
 {
     let kind = marks.kind;
     match kind {
@@ -186,8 +187,8 @@ fn in_much(
     cut_in(marks, src, glyphs, lookups, &mut t, &mut area, out)
 }
 
-// The same with scratch that is enough for any source but one by classes.
-fn in_all_but_classes(
+// The same with scratch that is enough for any source but a pair table by classes.
+fn in_all_but_class_pairs(
     marks: Marks,
     src: &[u8],
     glyphs: &[u8],
@@ -195,19 +196,19 @@ fn in_all_but_classes(
     rounds: usize,
     out: &mut [u8],
 ) -> Tried
-    requires { ⌜ Sound (marks .kind) (marks .form) (now src) (now glyphs) (now lookups) × (byClasses (marks .kind) (now src) ≡ false) ⌝ }
+    requires { ⌜ Sound (marks .kind) (marks .form) (now src) (now glyphs) (now lookups) × (pairsByClass (marks .kind) (now src) ≡ false) ⌝ }
     ensures { λ r. ⌜ NeverShort r (now (out .entry)) (now (out .exit)) (writtenIn (marks .layout) (now (out .entry)) (cut (glyphEntries (marks .form) (now (glyphs .entry))) (mapEntries (now (lookups .entry))) (table (marks .kind) (now (src .entry))))) ⌝ }
 {
     if rounds != 0 {
-        return in_all_but_classes(marks, src, glyphs, lookups, rounds - 1, out);
+        return in_all_but_class_pairs(marks, src, glyphs, lookups, rounds - 1, out);
     }
-    let mut t = [0u32; CELLS_BUT_CLASSES];
+    let mut t = [0u32; OTHER_CELLS];
     let mut area = [0u8; BYTES];
     cut_in(marks, src, glyphs, lookups, &mut t, &mut area, out)
 }
 
-// The same with scratch that is enough for any source.
-fn in_all(
+// The same with scratch that is enough for any pair table by classes.
+fn in_class_pairs(
     marks: Marks,
     src: &[u8],
     glyphs: &[u8],
@@ -215,29 +216,25 @@ fn in_all(
     rounds: usize,
     out: &mut [u8],
 ) -> Tried
-    requires { ⌜ Sound (marks .kind) (marks .form) (now src) (now glyphs) (now lookups) ⌝ }
+    requires { ⌜ Sound (marks .kind) (marks .form) (now src) (now glyphs) (now lookups) × (pairsByClass (marks .kind) (now src) ≡ true) ⌝ }
     ensures { λ r. ⌜ NeverShort r (now (out .entry)) (now (out .exit)) (writtenIn (marks .layout) (now (out .entry)) (cut (glyphEntries (marks .form) (now (glyphs .entry))) (mapEntries (now (lookups .entry))) (table (marks .kind) (now (src .entry))))) ⌝ }
 {
     if rounds != 0 {
-        return in_all(marks, src, glyphs, lookups, rounds - 1, out);
+        return in_class_pairs(marks, src, glyphs, lookups, rounds - 1, out);
     }
     let mut t = [0u32; CELLS];
-    let mut area = [0u8; BYTES];
+    let mut area = [0u8; LIMIT];
     cut_in(marks, src, glyphs, lookups, &mut t, &mut area, out)
 }
 
-// Whether a source of this kind is a context or a pair table by classes.
-fn by_classes(kind: usize, src: &[u8]) -> bool
-    ensures { λ r. ⌜ r ≡ byClasses kind (now (src .entry)) ⌝ }
+// Whether a source of this kind is a pair table by classes.
+fn pairs_by_class(kind: usize, src: &[u8]) -> bool
+    ensures { λ r. ⌜ r ≡ pairsByClass kind (now (src .entry)) ⌝ }
 {
-    let format = word_at(src, 0);
-    if kind <= 2 {
-        return format == 2;
-    }
     if kind != 4 {
         return false;
     }
-    format != 1
+    word_at(src, 0) != 1
 }
 
 // With scratch that is enough for any source of this kind and format.
@@ -245,10 +242,10 @@ fn in_most(marks: Marks, src: &[u8], glyphs: &[u8], lookups: &[u8], out: &mut [u
     requires { ⌜ Sound (marks .kind) (marks .form) (now src) (now glyphs) (now lookups) ⌝ }
     ensures { λ r. ⌜ NeverShort r (now (out .entry)) (now (out .exit)) (writtenIn (marks .layout) (now (out .entry)) (cut (glyphEntries (marks .form) (now (glyphs .entry))) (mapEntries (now (lookups .entry))) (table (marks .kind) (now (src .entry))))) ⌝ }
 {
-    if by_classes(marks.kind, src) {
-        return in_all(marks, src, glyphs, lookups, glyphs.len() % 2, out);
+    if pairs_by_class(marks.kind, src) {
+        return in_class_pairs(marks, src, glyphs, lookups, glyphs.len() % 2, out);
     }
-    in_all_but_classes(marks, src, glyphs, lookups, glyphs.len() % 2, out)
+    in_all_but_class_pairs(marks, src, glyphs, lookups, glyphs.len() % 2, out)
 }
 
 // With one of the sizes that are not enough for any source: 0 is little scratch, 1 some, 2 more, and any other much.
@@ -304,28 +301,31 @@ fn likely_glyphs(src: &[u8], glyphs: &[u8], form: usize) -> usize
     end - first
 }
 
-// How many cells the glyph map is likely to take: as many as its pairs are laid into first, or two for each run.
+// How many cells the glyph map is likely to take: as many as its pairs are laid into first, or four for each run.
 fn map_cells(glyphs: &[u8], form: usize) -> usize
     ensures { λ r. ⌜ r ≤ 65536 ⌝ }
 {
     if form != 6 {
         return cells(glyphs);
     }
-    of_all(2 * (glyphs.len() / 6) + 3)
+    of_all(4 * (glyphs.len() / 6) + 3)
 }
 
-// How many cells the cut is likely to use; no more than a guess, which saves the clearing of scratch. By classes both maps take the same cells.
+// How many cells the cut is likely to use; no more than a guess, which saves the clearing of scratch. In a context by classes both maps take the same cells, and so do the lists of classes.
 fn likely_cells(kind: usize, src: &[u8], glyphs: &[u8], form: usize, lookups: &[u8]) -> usize {
     let n = likely_glyphs(src, glyphs, form);
     let asked = cells(lookups);
     let laid = map_cells(glyphs, form);
-    if !by_classes(kind, src) {
+    if pairs_by_class(kind, src) {
+        return laid + 4 * n + 257;
+    }
+    if 2 < kind || word_at(src, 0) != 2 {
         return asked + laid + n + 1;
     }
     if asked < laid {
-        return laid + 4 * n + 257;
+        return laid + 2 * n + 257;
     }
-    asked + 4 * n + 257
+    asked + 2 * n + 257
 }
 
 // How many bytes of area it is likely to use: not much more than the source has, and not more than some for each glyph, few for a context by coverages.

@@ -1,4 +1,4 @@
--- The ways through the loops that find a run and lay runs.
+-- What runs and ranks say, and the ways through the loops that find a run and lay runs.
 use Prim.Native.Nat.{ℕ, zero, suc, _+_, _-_, _*_, _/_, _%_, _≤_, _<_}
 use mathlib.Core.Path.{_≡_, refl, sym, ap, _∙_}
 use mathlib.Core.Bool.{Bool, true, false}
@@ -14,7 +14,9 @@ use borrow.Author.Tests.{lt-ltb, le-ltb, le-leb, lt-leb, eq-eqb, ne-eqb}
 use Rattle.meaning.specs.Words.{word, find, triples, ascends, keys}
 use Rattle.meaning.specs.Maps.{mapEntries, mapRuns, steps, runPairs, goodGlyphs, goodRuns, glyphEntries, goodGlyphMap}
 use Rattle.laws.specs.Runs.{both}
-use Rattle.fold.specs.Cells.{cellAt, cellEntry, runStart, runEnd, lastRun, noEntry, runEntry, Inside, Odd, Holds, RunFound, Kept, kept-all, kept-more, kept-set, entry-runs, entry-folded}
+use Rattle.bits.specs.Bits.{marked}
+use Rattle.ranks.specs.Ranks.{rankIn}
+use Rattle.fold.specs.Cells.{cellAt, cellEntry, runStart, runEnd, lastRun, noEntry, runEntry, rankEntry, evenEntry, rankedMask, runsEnd, Inside, Odd, Holds, RunFound, Kept, kept-all, kept-more, kept-set, entry-even, even-ranks, even-runs, entry-folded}
 use Rattle.fold.specs.Laid.{Added, added-kept, added-holds, added-clash, Laid}
 use Rattle.fold.specs.Runs.{find-behind, steps-out, steps-last, FirstRun, run-first, runs-before, pairs-last, LaidRun, RunsIn, runs-answer, Spread, LaidRuns, LaidGlyphs}
 use Rattle.fold.specs.declared.Map.{Map}
@@ -46,16 +48,16 @@ module _ (t : List ℕ) (at k x : ℕ) where
 -- What the loop of `last_run` keeps: what is found between lo and hi is found.
 pub record Seeking (t : List ℕ) (m : Map) (old lo hi : ℕ) : Type 0 where
   pub inside : Inside t m
-  pub most : hi ≤ m .mask / 2
-  pub near : lo ≤ m .mask / 2
+  pub most : hi ≤ runsEnd m
+  pub near : lo ≤ runsEnd m
   pub order : (lo ≡ 0 → ⊥) → lo < hi
   pub turns : ℕ
   pub enough : hi ≤ lo + turns + 1
-  pub left : lastRun t (m .at) old turns lo hi ≡ lastRun t (m .at) old (m .mask / 2) 0 (m .mask / 2)
+  pub left : lastRun t (m .at) old turns lo hi ≡ lastRun t (m .at) old (runsEnd m) 0 (runsEnd m)
 
 module _ {t : List ℕ} {m : Map} {old : ℕ} where
-  pub seeking-all : Inside t m → Seeking t m old 0 (m .mask / 2)
-  seeking-all i = record { inside = i; most = omega arith; near = omega arith; order = λ z. absurd (z refl); turns = m .mask / 2; enough = omega arith; left = refl }
+  pub seeking-all : Inside t m → Seeking t m old 0 (runsEnd m)
+  seeking-all i = record { inside = i; most = omega arith; near = omega arith; order = λ z. absurd (z refl); turns = runsEnd m; enough = omega arith; left = refl }
 
   module _ {lo hi : ℕ} (c : Seeking t m old lo hi) where
     module _ (h : lo + 1 < hi) where
@@ -69,7 +71,7 @@ module _ {t : List ℕ} {m : Map} {old : ℕ} where
       unfolding lastRun
       seeking-up g = step (c .turns) (c .enough) (c .left)
         where
-          step : (n : ℕ) → hi ≤ lo + n + 1 → lastRun t (m .at) old n lo hi ≡ lastRun t (m .at) old (m .mask / 2) 0 (m .mask / 2) → Seeking t m old mid hi
+          step : (n : ℕ) → hi ≤ lo + n + 1 → lastRun t (m .at) old n lo hi ≡ lastRun t (m .at) old (runsEnd m) 0 (runsEnd m) → Seeking t m old mid hi
           step zero e l = absurd (omega arith)
           step (suc n) e l = record { inside = c .inside; most = c .most; near = omega (arith, c .most); order = λ z. omega arith; turns = n; enough = omega arith; left = rw (lt-ltb (lo + 1) hi h, le-leb _ _ g) at l }
 
@@ -77,7 +79,7 @@ module _ {t : List ℕ} {m : Map} {old : ℕ} where
       unfolding lastRun
       seeking-down g = step (c .turns) (c .enough) (c .left)
         where
-          step : (n : ℕ) → hi ≤ lo + n + 1 → lastRun t (m .at) old n lo hi ≡ lastRun t (m .at) old (m .mask / 2) 0 (m .mask / 2) → Seeking t m old lo mid
+          step : (n : ℕ) → hi ≤ lo + n + 1 → lastRun t (m .at) old n lo hi ≡ lastRun t (m .at) old (runsEnd m) 0 (runsEnd m) → Seeking t m old lo mid
           step zero e l = absurd (omega arith)
           step (suc n) e l = record {
             inside = c .inside;
@@ -93,14 +95,35 @@ module _ {t : List ℕ} {m : Map} {old : ℕ} where
     unfolding lastRun
     seeking-end h = record { is = step (c .turns) (c .left); inside = λ z. omega (arith, c .order z, c .most, c .inside .within) }
       where
-        step : (n : ℕ) → lastRun t (m .at) old n lo hi ≡ lastRun t (m .at) old (m .mask / 2) 0 (m .mask / 2) → lo ≡ lastRun t (m .at) old (m .mask / 2) 0 (m .mask / 2)
+        step : (n : ℕ) → lastRun t (m .at) old n lo hi ≡ lastRun t (m .at) old (runsEnd m) 0 (runsEnd m) → lo ≡ lastRun t (m .at) old (runsEnd m) 0 (runsEnd m)
         step zero l = l
         step (suc n) l = rw (le-ltb (lo + 1) hi h) at l
 
+-- What ranks say.
+module _ (t : List ℕ) (at x : ℕ) where
+  pub rank-past : 65535 < x → noEntry x ≡ rankEntry t at x
+  unfolding rankEntry
+  rank-past h = rw (le-ltb x 65536 (omega arith))
+
+  module _ (h : x ≤ 65535) where
+    pub rank-none : marked t at x ≡ false → noEntry x ≡ rankEntry t at x
+    unfolding rankEntry
+    rank-none e = rw (lt-ltb x 65536 (omega arith), e)
+
+    pub rank-has : {r : ℕ} → marked t at x ≡ true → r ≡ rankIn t at x → x * 65536 + r % 65536 ≡ rankEntry t at x
+    unfolding rankEntry
+    rank-has e f = rw (lt-ltb x 65536 (omega arith), e, f)
+
 -- The entry, by the mask.
 module _ (t : List ℕ) (m : Map) (x : ℕ) where
-  pub entry-by-run : {k e : ℕ} → m .mask % 2 ≡ 0 → RunFound t m x k → e ≡ runEntry t (m .at) k x → e ≡ cellEntry t m x
-  entry-by-run h f r = r ∙ ap (λ (i : ℕ). runEntry t (m .at) i x) (f .is) ∙ sym (entry-runs t m h x)
+  pub even-by-run : {k e : ℕ} → (m .mask ≡ rankedMask → ⊥) → RunFound t m x k → e ≡ runEntry t (m .at) k x → e ≡ evenEntry t m x
+  even-by-run h f r = r ∙ ap (λ (i : ℕ). runEntry t (m .at) i x) (f .is) ∙ sym (even-runs t m h x)
+
+  pub even-by-rank : {e : ℕ} → m .mask ≡ rankedMask → e ≡ rankEntry t (m .at) x → e ≡ evenEntry t m x
+  even-by-rank h r = r ∙ sym (even-ranks t m h x)
+
+  pub entry-by-even : {e : ℕ} → m .mask % 2 ≡ 0 → e ≡ evenEntry t m x → e ≡ cellEntry t m x
+  entry-by-even h r = r ∙ sym (entry-even t m h x)
 
   pub entry-by-cell : (m .mask % 2 ≡ 0 → ⊥) → cellAt t m x ≡ cellEntry t m x
   entry-by-cell h = sym (entry-folded t m (record { odd = omega arith }) x)
@@ -121,7 +144,7 @@ module _ {list t₀ : List ℕ} {at : ℕ} where
   pub runs-none : RunLaying list t₀ t₀ at 0
   runs-none = record { within = omega arith; kept = kept-all at t₀; starts = λ i l. absurd (omega arith); ends = λ i l. absurd (omega arith) }
 
-  module _ {t : List ℕ} {k : ℕ} (c : RunLaying list t₀ t at k) (h : k < length list / 6) (room : at + 2 * (length list / 6) + 2 < length t₀) where
+  module _ {t : List ℕ} {k : ℕ} (c : RunLaying list t₀ t at k) (h : k < length list / 6) (room : at + 4 * (length list / 6) + 2 < length t₀) where
     abbrev p : ℕ
     p = at + 2 * (k + 1)
 
@@ -156,8 +179,8 @@ module _ {list t₀ : List ℕ} {at : ℕ} where
             let e : i ≡ k = omega arith in
             rw e (getD-set-same (set t p v) (p + 1) w 0 (omega (arith, runs-inside, length-set t p v)))
 
-  pub runs-all : {t : List ℕ} {k : ℕ} → RunLaying list t₀ t at k → length list / 6 ≤ k → at + 2 * (length list / 6) + 2 < length t₀ → length list / 6 ≤ 32766 → goodRuns list ≡ true
-      → LaidRuns list t₀ t at (record { at = at; mask = 2 * (length list / 6) + 2 })
+  pub runs-all : {t : List ℕ} {k : ℕ} → RunLaying list t₀ t at k → length list / 6 ≤ k → at + 4 * (length list / 6) + 2 < length t₀ → length list / 6 ≤ 16383 → goodRuns list ≡ true
+      → LaidRuns list t₀ t at (record { at = at; mask = 4 * (length list / 6) + 2 })
   unfolding goodRuns mapRuns
   runs-all {t} {k} c h room few good = record {
     place = refl;
@@ -167,7 +190,7 @@ module _ {list t₀ : List ℕ} {at : ℕ} where
     room = λ r z. omega arith;
   }
     where
-      cells : RunsIn list t (record { at = at; mask = 2 * (length list / 6) + 2 }) (length list / 6)
+      cells : RunsIn list t (record { at = at; mask = 4 * (length list / 6) + 2 }) (length list / 6)
       cells = record { mask = refl; inside = record { within = omega (arith, c .kept .size) }; starts = λ i l. c .starts i (omega arith); ends = λ i l. c .ends i (omega arith) }
 
   -- there are too few cells

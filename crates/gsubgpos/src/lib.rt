@@ -1,13 +1,13 @@
 // Sets of rules of contexts, plain and chained, and of ligatures: checked. The work: the check looks once at the counts of each member.
+use bits::has_bit;
+use bits::put_bit;
 use ligature_subst::check_ligature;
 use rules::check_rule;
 use rules::rule_within;
 use wire::Fault;
-use wire::byte;
 use wire::found_before;
 use wire::inside;
 use wire::lowest;
-use wire::put_byte;
 use wire::word_at;
 use wire::word_inside;
 ghost use mathlib.Core.Path.{_≡_};
@@ -24,9 +24,6 @@ ghost use Rattle.laws.specs.EachLeft.{passes};
 ghost use Rattle.wire.specs.Fault.{faultOf};
 ghost use Rattle.gsubgpos.specs.Marks.{Marked};
 ghost use Rattle.gsubgpos.specs.Members.{memberFault, goodRule};
-
-// The places that two offsets lead to, where rules and ligatures start: a mark for each says which were visited.
-pub const RULE_PLACES: usize = 131072;
 
 // The sorts of members that a set has.
 pub enum Member {
@@ -48,7 +45,7 @@ fn check_member(member: Member, src: &[u8], at: usize) -> Fault
 }
 
 // The lowest fault among the members that the `n` offsets of the set at `at` reach, which lie inside. A member whose place has a mark was found sound before: nothing of it is read, since sets that overlap reach a member again and again. One that is sound gets a mark, where `marks` has room for it.
-fn check_members(member: Member, src: &[u8], at: usize, n: usize, marks: &mut [u8]) -> Fault
+fn check_members(member: Member, src: &[u8], at: usize, n: usize, marks: &mut [u32]) -> Fault
     requires { ⌜ (at < 0x80_0000_0000) × (n < 65536) × (at + 2 + 2 * n ≤ length (now src)) × Marked (memberFault member (now src)) none (now marks) ⌝ }
     ensures { λ r. ⌜ (r ≡ faultOf (faultThrough (memberFault member (now (src .entry))) (now (src .entry)) at (at + 2) n)) × Marked (memberFault member (now (src .entry))) none (now (marks .exit)) ⌝ }
 {
@@ -60,14 +57,14 @@ fn check_members(member: Member, src: &[u8], at: usize, n: usize, marks: &mut [u
         if offset == 0 {
             continue;
         }
-        if byte(marks, at + offset) != 0 {
+        if has_bit(marks, 0, at + offset) {
             continue;
         }
         if found_before(low, at + offset) {
             continue;
         }
         let Fault::At(place) = check_member(member, src, at + offset) else {
-            put_byte(marks, at + offset, 1);
+            put_bit(marks, 0, at + offset);
             continue;
         };
         low = lowest(low, Fault::At(place));
@@ -76,8 +73,8 @@ fn check_members(member: Member, src: &[u8], at: usize, n: usize, marks: &mut [u
 }
 
 // The fault of the set at `at`: its own place if its count or its offsets do not lie inside the source, else the lowest among its members.
-// `marks` has a mark at no place but those of members that are sound; where it has a place for each member each is checked once, however many sets share it.
-pub fn check_set(member: Member, src: &[u8], at: usize, marks: &mut [u8]) -> Fault
+// `marks` has a mark of no place but those of members that are sound; where it has a bit for each member each is checked once, however many sets share it.
+pub fn check_set(member: Member, src: &[u8], at: usize, marks: &mut [u32]) -> Fault
     requires { ⌜ (at < 0x80_0000_0000) × Marked (memberFault member (now src)) none (now marks) ⌝ }
     ensures { λ r. ⌜ (r ≡ faultOf (setFault (memberFault member (now (src .entry))) (now (src .entry)) at)) × Marked (memberFault member (now (src .entry))) none (now (marks .exit)) ⌝ }
 {
@@ -102,22 +99,22 @@ fn rules_in(src: &[u8], set: usize) -> usize
 }
 
 // Whether no record of the rule at `at` points past it. A rule whose place has a mark was asked before; one that is good gets a mark, where `marks` has room for it.
-fn within_once(chained: bool, src: &[u8], at: usize, marks: &mut [u8]) -> bool
+fn within_once(chained: bool, src: &[u8], at: usize, marks: &mut [u32]) -> bool
     requires { ⌜ (at < 0x100_0000_0000) × Marked (goodRule chained (now src)) true (now marks) ⌝ }
     ensures { λ r. ⌜ (r ≡ ruleWithin (rule chained (now (src .entry)) at)) × Marked (goodRule chained (now (src .entry))) true (now (marks .exit)) ⌝ }
 {
-    if byte(marks, at) != 0 {
+    if has_bit(marks, 0, at) {
         return true;
     }
     if !rule_within(chained, src, at) {
         return false;
     }
-    put_byte(marks, at, 1);
+    put_bit(marks, 0, at);
     true
 }
 
 // The same of the rule that the offset at `slot` reaches from `base`; a null offset reaches none.
-fn reached_within(chained: bool, src: &[u8], base: usize, slot: usize, marks: &mut [u8]) -> bool
+fn reached_within(chained: bool, src: &[u8], base: usize, slot: usize, marks: &mut [u32]) -> bool
     requires { ⌜ (base < 65536) × Marked (goodRule chained (now src)) true (now marks) ⌝ }
     ensures { λ r. ⌜ (r ≡ passes ruleWithin (rule chained (now (src .entry))) (now (src .entry)) base slot) × Marked (goodRule chained (now (src .entry))) true (now (marks .exit)) ⌝ }
 {
@@ -129,8 +126,8 @@ fn reached_within(chained: bool, src: &[u8], base: usize, slot: usize, marks: &m
 }
 
 // Whether no record of the rules of `n` sets, whose offsets stand from `slot` on, points past its rule: both loops are left at the first that does.
-// `marks` has a mark at no place but those of rules that are good; where it is as long as the source each rule is asked once, however many sets share it.
-pub fn sets_within(chained: bool, src: &[u8], slot: usize, n: usize, marks: &mut [u8]) -> bool
+// `marks` has a mark of no place but those of rules that are good; where it has a bit for each rule each is asked once, however many sets share it.
+pub fn sets_within(chained: bool, src: &[u8], slot: usize, n: usize, marks: &mut [u32]) -> bool
     requires { ⌜ (slot < 65536) × (n < 65536) × Marked (goodRule chained (now src)) true (now marks) ⌝ }
     ensures { λ r. ⌜ r ≡ setsWithin (reaches (ruleSet chained (now (src .entry))) (now (src .entry)) 0 slot n) ⌝ }
 {

@@ -6,12 +6,6 @@ ghost use Prim.Native.Nat.{_+_, _*_, _≤_, _<_};
 ghost use lib.ListN.{length};
 ghost use Rattle.member_sets.specs.Sets.{ClosedSet};
 
-// Members start below this place: two offsets lead to each.
-const PLACES: usize = 131072;
-
-// The cells for marks of the members that go: a bit for each place.
-pub const DEAD: usize = PLACES / 32;
-
 // The set of the `k` members that stand from `first` up to `end`, whose offsets stand after the place for the count at `pos`: the count, the offsets and the members, with no gap between them.
 pub fn close_set(area: &mut [u8], pos: usize, k: usize, first: usize, end: usize) -> usize
     requires { ⌜ (pos + 2 + 2 * k ≤ first) × (first ≤ end) × (end ≤ length (now area)) × (first ≤ pos + 2 + 2 * k + 262144) ⌝ }

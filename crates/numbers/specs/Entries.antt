@@ -1,16 +1,16 @@
 -- The entries that the cells of a map hold, as a list: so what is written by what the cells answer is what the definitions give for this map.
-use Prim.Native.Nat.{ℕ, zero, suc, _+_, _-_, _*_, _/_, _%_, _≤_, _<_}
+use Prim.Native.Nat.{ℕ, zero, suc, _+_, _-_, _/_, _%_, _≤_, _<_}
 use mathlib.Core.Path.{_≡_, refl, sym, ap, _∙_}
-use mathlib.Core.Bool.{Bool, true, false, cond, _||_}
+use mathlib.Core.Bool.{Bool, true, false, cond}
 use mathlib.Core.Option.{Option, none, some}
 use mathlib.Core.List.{List, []}
 use native.Mathlib.Omega.{arith}
 use lib.ListN.{getD}
 use lib.Bits.{bitAnd, and-le-r}
 use lib.Dec.{eqb}
-use borrow.Author.Tests.{lt-ltb, ne-eqb, eqb-true, eqb-false}
+use borrow.Author.Tests.{ne-eqb, eqb-true, eqb-false}
 use Rattle.meaning.specs.Words.{find, bind, push, mapSome, upFrom}
-use Rattle.fold.specs.Cells.{cellAt, runStart, runEnd, noEntry, runEntry, hasRuns, answerIn, folded, Inside, Holds, Kept, entry-folded, entry-runs, entry-kept, answer-none}
+use Rattle.fold.specs.Cells.{cellAt, evenMask, answerIn, folded, Inside, Holds, Kept, entry-folded, entry-kept, even-words}
 use Rattle.fold.specs.declared.Map.{Map}
 
 -- the entry that the i-th cell of a folded table holds: the cell is that of its old number
@@ -24,9 +24,9 @@ unfoldable pub answeredFrom : (ℕ → Option ℕ) → ℕ → ℕ → List (ℕ
 answeredFrom f a zero = []
 answeredFrom f a (suc n) = push (bind (f a) (λ v. some (a, v))) (answeredFrom f (a + 1) n)
 
--- the entries of all cells; of runs, those of all words
+-- the entries of all cells; with an even mask, those of all words
 unfoldable pub entriesIn : List ℕ → Map → List (ℕ × ℕ)
-entriesIn t m = cond (hasRuns m) (answeredFrom (folded t m) 0 65536) (mapSome (entryIn t m) (upFrom 0 (m .mask + 1)))
+entriesIn t m = cond (evenMask m) (answeredFrom (folded t m) 0 65536) (mapSome (entryIn t m) (upFrom 0 (m .mask + 1)))
 
 -- a number in the row is found with its answer, and one past it, or below it, is not found
 module _ (f : ℕ → Option ℕ) (x : ℕ) where
@@ -50,18 +50,6 @@ module _ (f : ℕ → Option ℕ) (x : ℕ) where
       step none e low high false q = let s : a ≡ x → ⊥ = eqb-false a x q in high (omega arith)
       step (some v) e low high true q = let s : a ≡ x = eqb-true a x q in rw q (sym e ∙ ap f s)
       step (some v) e low high false q = let s : a ≡ x → ⊥ = eqb-false a x q in rw q (high (omega arith))
-
--- runs have words only
-run-small : (t : List ℕ) (at k x : ℕ) → 65536 ≤ x → answerIn (runEntry t at k x) x ≡ none
-unfolding runEntry
-run-small t at k x h = rw (lt-ltb (runEnd t at k % 65536) x (omega arith)) (step (eqb k 0))
-  where
-    step : (b : Bool) → answerIn (cond (b || true) (noEntry x) (x * 65536 + (runStart t at k % 65536 + 65536 + x - runStart t at k / 65536) % 65536)) x ≡ none
-    step true = answer-none x
-    step false = answer-none x
-
-runs-small : (t : List ℕ) (m : Map) → m .mask % 2 ≡ 0 → (x : ℕ) → 65536 ≤ x → folded t m x ≡ none
-runs-small t m e x h = ap (λ (v : ℕ). answerIn v x) (entry-runs t m e x) ∙ run-small t (m .at) _ x h
 
 module _ (t : List ℕ) (m : Map) (x : ℕ) where
   -- the cell of x, among the map's
@@ -118,10 +106,10 @@ module _ (t : List ℕ) (m : Map) (x : ℕ) where
 -- the cells hold these entries
 pub entries-hold : {t : List ℕ} {m : Map} → Inside t m → Holds t m (entriesIn t m)
 unfolding entriesIn
-entries-hold {t} {m} k = record { inside = k; answers = λ x. sym (step x (hasRuns m) refl) }
+entries-hold {t} {m} k = record { inside = k; answers = λ x. sym (step x (evenMask m) refl) }
   where
-    step : (x : ℕ) (b : Bool) → hasRuns m ≡ b → find (cond b (answeredFrom (folded t m) 0 65536) (mapSome (entryIn t m) (upFrom 0 (m .mask + 1)))) x ≡ folded t m x
-    step x true e = in-row (folded t m) x 0 65536 (λ h. runs-small t m (eqb-true (m .mask % 2) 0 e) x (omega arith)) (omega arith)
+    step : (x : ℕ) (b : Bool) → evenMask m ≡ b → find (cond b (answeredFrom (folded t m) 0 65536) (mapSome (entryIn t m) (upFrom 0 (m .mask + 1)))) x ≡ folded t m x
+    step x true e = in-row (folded t m) x 0 65536 (λ h. even-words t m (eqb-true (m .mask % 2) 0 e) x (omega arith)) (omega arith)
     step x false e =
         among t m x 0 (m .mask + 1) (omega arith) (omega (arith, and-le-r x (m .mask)))
         ∙ ap (λ (v : ℕ). answerIn v x) (sym (entry-folded t m (record { odd = omega (arith, eqb-false (m .mask % 2) 0 e) }) x))

@@ -43,7 +43,7 @@ use Rattle.covered_map.specs.Named.{named, Names, named-met, noted-indexes, nam
 use Rattle.tried.specs.Tries.{Tries, tries-less}
 use Rattle.tried.specs.declared.Tried.{Tried}
 use Rattle.pair_classes.specs.Kerning.{leftInto}
-use Rattle.pair_classes.specs.Sides.{Asks, Side, Sided}
+use Rattle.pair_classes.specs.Sides.{tableCells, Asks, Side, Sided}
 use Rattle.pair_classes.specs.Laying.{Front, Ready}
 use Rattle.pair_classes.specs.Cutting.{enoughCells, Sound, hasNull, kernTable, Kerning, Begins, Noting, coveredOf, FirstIn}
 use Rattle.pair_classes.specs.declared.Noted.{Noted}
@@ -311,9 +311,9 @@ module _ {s : List ℕ} {form : ℕ} {glyphs : List ℕ} {cover : Noted} {t : Li
       sided-is = rw (covered-entries, v, lists-there s (b .kern .first-there), l) at d
 
       pub first-cells : first .map .mask ≡ 0 → length t < enoughCells
-      first-cells z = step (decLt (length t) (cover .at + cover .len + 131072))
+      first-cells z = step (decLt (length t) (cover .at + cover .len + tableCells))
         where
-          step : Dec (length t < cover .at + cover .len + 131072) → length t < enoughCells
+          step : Dec (length t < cover .at + cover .len + tableCells) → length t < enoughCells
           step (yes x) = omega (arith, b .few, b .near)
           step (no x) = absurd (sided-is .room (omega arith) z)
 
@@ -344,9 +344,9 @@ module _ {s : List ℕ} {form : ℕ} {glyphs : List ℕ} {cover : Noted} {first 
     second-is = rw (v, lists-there s (b .kern .second-there)) at d
 
     pub second-cells : second .map .mask ≡ 0 → length t < enoughCells
-    second-cells z = step (decLt (length t) (list + 131072))
+    second-cells z = step (decLt (length t) (list + tableCells))
       where
-        step : Dec (length t < list + 131072) → length t < enoughCells
+        step : Dec (length t < list + tableCells) → length t < enoughCells
         step (yes x) = omega (arith, b .few, b .near, b .mask, b .side .near)
         step (no x) = absurd (second-is .room (omega arith) z)
 

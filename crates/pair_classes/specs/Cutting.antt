@@ -1,5 +1,5 @@
 -- What a cut asks, by its steps, and what it asks of the cells.
-use Prim.Native.Nat.{ℕ, _+_, _≤_, _<_}
+use Prim.Native.Nat.{ℕ, _+_, _*_, _≤_, _<_}
 use mathlib.Core.Path.{_≡_}
 use mathlib.Core.Bool.{Bool, true, _||_}
 use mathlib.Core.Option.{none, some}
@@ -18,15 +18,16 @@ use Rattle.fold.specs.declared.Map.{Map}
 use Rattle.area.specs.Part.{news, notes}
 use Rattle.meet.specs.Met.{met}
 use Rattle.glyph_runs.specs.Runs.{GlyphMap}
+use Rattle.class_maps.specs.Present.{mostCells}
 use Rattle.class_cells.specs.Cells.{HasCells}
 use Rattle.class_cells.specs.Kept.{cellSize}
-use Rattle.pair_classes.specs.Sides.{Side}
+use Rattle.pair_classes.specs.Sides.{tableCells, Side}
 use Rattle.pair_classes.specs.declared.Noted.{Noted}
 use Rattle.pair_classes.specs.declared.Classed.{Classed}
 
--- cells that are enough for any source: 65,536 for the glyph map and as many for the notes; and for each of two class tables as many for the classes of the glyphs, and for the class map: 2 * 65,536 + 2 * 131,072
+-- cells that are enough for any source: 65,536 for the glyph map, as many for the notes, and those of two class tables
 abbrev pub enoughCells : ℕ
-enoughCells = 393216
+enoughCells = 65536 + 65536 + 2 * tableCells
 
 -- the source is a pair table by class and has no fault, and the glyph map is good
 pub record Sound (s : List ℕ) (form : ℕ) (glyphs : List ℕ) : Type 0 where
@@ -88,5 +89,5 @@ pub record FirstIn (s : List ℕ) (form : ℕ) (glyphs : List ℕ) (cover : Note
   pub some : 0 < cover .len
   pub few : cover .len ≤ 65536
   pub near : cover .at ≤ 65536
-  pub mask : first .map .mask < 65536
+  pub mask : first .map .mask < mostCells
   pub side : Side (classMap (coveredOf s form glyphs) (classes s (word s 8))) (classes s (word s 8)) (coveredOf s form glyphs) t (cover .at + cover .len) first

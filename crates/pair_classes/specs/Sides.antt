@@ -8,7 +8,12 @@ use Rattle.fold.specs.Cells.{Holds, Kept}
 use Rattle.area.specs.Part.{notes}
 use Rattle.glyph_runs.specs.Runs.{GlyphMap}
 use Rattle.class_lists.specs.Tables.{NullOrSound}
+use Rattle.class_maps.specs.Present.{mostCells}
 use Rattle.pair_classes.specs.declared.Classed.{Classed}
+
+-- cells that are enough for any class table: 65,536 for the classes of the glyphs, and those of the class map
+abbrev pub tableCells : ℕ
+tableCells = 65536 + mostCells
 
 -- what is asked to lay a class table into cells from `list` on: it is null or sound, and the glyph map is good
 pub record Asks (s : List ℕ) (at form : ℕ) (glyphs : List ℕ) (list : ℕ) : Type 0 where
@@ -28,6 +33,6 @@ pub record Side (news cs g : List (ℕ × ℕ)) (t : List ℕ) (list : ℕ) (r :
 -- They are laid into cells from `list` on, or the mask is 0, since there are too few cells; the cells before `list` are as before.
 pub record Sided (news cs g : List (ℕ × ℕ)) (t₀ t : List ℕ) (list : ℕ) (r : Classed) : Type 0 where
   pub kept : Kept list t₀ t
-  pub few : r .map .mask < 65536
-  pub room : list + 131072 ≤ length t₀ → r .map .mask ≡ 0 → ⊥
+  pub few : r .map .mask < mostCells
+  pub room : list + tableCells ≤ length t₀ → r .map .mask ≡ 0 → ⊥
   pub side : (r .map .mask ≡ 0 → ⊥) → Side news cs g t list r

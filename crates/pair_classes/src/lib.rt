@@ -6,6 +6,7 @@ use area::write_classes;
 use area::write_cover;
 use class_cells::new_formats;
 use class_cells::write_cells;
+use class_lists::list_classes;
 use class_maps::class_map;
 use class_maps::new_entries;
 use class_maps::pinned_map;
@@ -41,6 +42,9 @@ ghost use Rattle.pair_classes.specs.Sides.{Asks, Sided};
 ghost use Rattle.pair_classes.specs.Laying.{EntriesIn, TailIn, oneTable, Ended, Ordered, NoRoom, Front, Ready};
 ghost use Rattle.pair_classes.specs.Cutting.{enoughCells, hasNull, Sound, Begins, Noting, FirstIn};
 
+// How many cells are enough for any source: 65,536 for the glyph map, as many for the notes of the covered glyphs, and for each of the two class tables as many for the classes of the glyphs, and those of the class map.
+pub const CELLS: usize = 2 * 65536 + 2 * (65536 + class_maps::MOST);
+
 // Cells in a row: where the first stands, and how many there are.
 pub struct Noted {
     pub at: usize,
@@ -74,7 +78,8 @@ fn first_classes(
     requires { ⌜ Asks (now src) at form (now glyphs) list ⌝ }
     ensures { λ r. ⌜ Sided (classMap (glyphEntries form (now (glyphs .entry))) (classesAt (now (src .entry)) at)) (classesAt (now (src .entry)) at) (glyphEntries form (now (glyphs .entry))) (now (t .entry)) (now (t .exit)) list r ⌝ }
 {
-    let c = class_map(src, at, glyphs, form, t, list);
+    let l = list_classes(src, at, glyphs, form, t, list);
+    let c = class_map(t, list, l, list + l.len);
     let map = c.map;
     if map.mask == 0 {
         return Classed {
@@ -83,7 +88,7 @@ fn first_classes(
             entries: Noted { at: list, len: 0 },
         };
     }
-    let len = new_entries(t, list, map);
+    let len = new_entries(t, list, l.len, map);
     Classed {
         map,
         count: c.count,
@@ -103,7 +108,8 @@ fn second_classes(
     requires { ⌜ Asks (now src) at form (now glyphs) list ⌝ }
     ensures { λ r. ⌜ Sided (secondMap (glyphEntries form (now (glyphs .entry))) (classesAt (now (src .entry)) at)) (classesAt (now (src .entry)) at) (glyphEntries form (now (glyphs .entry))) (now (t .entry)) (now (t .exit)) list r ⌝ }
 {
-    let c = pinned_map(src, at, glyphs, form, t, list);
+    let l = list_classes(src, at, glyphs, form, t, list);
+    let c = pinned_map(t, list, l, list + l.len);
     let map = c.map;
     if map.mask == 0 {
         return Classed {
@@ -112,7 +118,7 @@ fn second_classes(
             entries: Noted { at: list, len: 0 },
         };
     }
-    let len = new_entries(t, list, map);
+    let len = new_entries(t, list, l.len, map);
     Classed {
         map,
         count: c.count,

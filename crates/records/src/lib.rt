@@ -1,5 +1,5 @@
 // Records that point past their rule, over the whole source: those of every rule, retained or not.
-use gsubgpos::RULE_PLACES;
+use places::MEMBER_MARKS;
 use rules::indexes_below;
 use view::header;
 use wire::word_at;
@@ -49,7 +49,7 @@ fn shared_within(chained: bool, src: &[u8], slot: usize, n: usize, rounds: usize
     if rounds != 0 {
         return shared_within(chained, src, slot, n, rounds - 1);
     }
-    let mut marks = [0u8; RULE_PLACES];
+    let mut marks = [0u32; MEMBER_MARKS];
     gsubgpos::sets_within(chained, src, slot, n, &mut marks)
 }
 
@@ -61,7 +61,7 @@ fn sets_within(chained: bool, src: &[u8], slot: usize, n: usize) -> bool
     if crowded(src, slot, n) {
         return shared_within(chained, src, slot, n, slot % 2);
     }
-    let mut no_marks = [0u8; 1];
+    let mut no_marks = [0u32; 1];
     gsubgpos::sets_within(chained, src, slot, n, &mut no_marks)
 }
 

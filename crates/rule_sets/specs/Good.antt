@@ -11,7 +11,7 @@ use Rattle.meaning.specs.Words.{bind, push, mapSome, upFrom}
 use Rattle.laws.specs.Stands.{Word}
 use Rattle.laws.specs.Through.{Opt}
 use Rattle.laws.specs.CutGood.{Values, GoodMaps}
-use Rattle.fold.specs.Cells.{cellEntry, answerIn, folded, hasRuns}
+use Rattle.fold.specs.Cells.{cellEntry, answerIn, folded, evenMask}
 use Rattle.fold.specs.declared.Map.{Map}
 use Rattle.numbers.specs.Entries.{entryIn, answeredFrom, entriesIn}
 use Rattle.rule_sets.specs.declared.Maps.{Maps}
@@ -46,7 +46,7 @@ cell-values t m (i ∷ is) = step (eqb (bitAnd (getD t (m .at + i) 0 / 65536) (m
 
 pub entries-values : (t : List ℕ) (m : Map) → Values (entriesIn t m)
 unfolding entriesIn
-entries-values t m = step (hasRuns m)
+entries-values t m = step (evenMask m)
   where
     step : (b : Bool) → Values (cond b (answeredFrom (folded t m) 0 65536) (mapSome (entryIn t m) (upFrom 0 (m .mask + 1))))
     step true = answered-values (folded t m) (λ x. answer-word (cellEntry t m x) x) 0 65536

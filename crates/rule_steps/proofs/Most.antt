@@ -1,20 +1,20 @@
 -- The larger of two numbers, the marks of rules that were counted, and the loops over offsets.
 use Prim.Native.Nat.{ℕ, suc, _+_, _-_, _*_, _≤_, _<_}
 use mathlib.Core.Path.{_≡_, refl, sym, ap, _∙_}
-use mathlib.Core.Bool.{Bool, true, false, cond}
+use mathlib.Core.Bool.{Bool, true, false, cond, true≢false}
 use mathlib.Core.Option.{none, some}
 use mathlib.Core.List.{List, _∷_}
 use native.Mathlib.Omega.{arith}
 use native.Mathlib.Decide.{decLt}
 use native.Mathlib.Nat.{zero-add}
-use lib.ListN.{length, getD, set, replicate}
-use lib.Seq.{getD-set-other}
+use lib.ListN.{length, replicate}
 use lib.Dec.{eqb}
 use borrow.Author.Tests.{lt-ltb, le-ltb, eqb-true, eqb-false, eq-eqb, ne-eqb}
 use Rattle.meaning.specs.Words.{word}
 use Rattle.meaning.specs.Tables.{reach, reaches, dropNull, rule, ruleSet}
 use Rattle.replaying.specs.Cost.{larger, largest, ruleSteps, setsSteps}
-use Rattle.gsubgpos.specs.Marks.{zeros-read}
+use Rattle.bits.specs.Bits.{marked, Put}
+use Rattle.bits.specs.Reading.{none-marked}
 use Rattle.rule_steps.specs.Most.{Counted}
 
 pub larger-second : (a b : ℕ) → a < b → b ≡ larger a b
@@ -57,26 +57,26 @@ larger-zero a = sym (larger-first a 0 (omega arith))
 
 module _ {chained : Bool} {s steps : List ℕ} {most : ℕ} where
   pub none-counted : (n : ℕ) → Counted chained s steps most (replicate n 0)
-  none-counted n = record { counted = λ p m. absurd (m (zeros-read n p)) }
+  none-counted n = record { counted = λ p m. absurd (true≢false (sym m ∙ none-marked n 0 p)) }
 
   -- a rule with a mark changes nothing
-  pub counted-before : {marks : List ℕ} → Counted chained s steps most marks → (at : ℕ) → (getD marks at 0 ≡ 0 → ⊥) → most ≡ larger most (ruleSteps steps (rule chained s at))
+  pub counted-before : {marks : List ℕ} → Counted chained s steps most marks → (at : ℕ) → marked marks 0 at ≡ true → most ≡ larger most (ruleSteps steps (rule chained s at))
   counted-before k at m = sym (k .counted at m)
 
   -- one that is counted gets a mark
-  pub counted-more : {marks next : List ℕ} {r : ℕ} (at : ℕ) → Counted chained s steps most marks → r ≡ larger most (ruleSteps steps (rule chained s at)) → next ≡ set marks at 1
+  pub counted-more : {marks next : List ℕ} {r : ℕ} (at : ℕ) → Counted chained s steps most marks → r ≡ larger most (ruleSteps steps (rule chained s at)) → Put 0 at marks next
       → Counted chained s steps r next
-  counted-more {marks} {next} {r} at k g e = record { counted = λ p m. step p (eqb p at) refl (λ z. m (rw e z)) }
+  counted-more {marks} {next} {r} at k g e = record { counted = λ p m. step p (eqb p at) refl m }
     where
       a : most ≤ r
       a = let x = larger-above most (ruleSteps steps (rule chained s at)) in omega (arith, x .0)
 
-      step : (p : ℕ) (b : Bool) → eqb p at ≡ b → (getD (set marks at 1) p 0 ≡ 0 → ⊥) → larger r (ruleSteps steps (rule chained s p)) ≡ r
+      step : (p : ℕ) (b : Bool) → eqb p at ≡ b → marked next 0 p ≡ true → larger r (ruleSteps steps (rule chained s p)) ≡ r
       step p true q m =
           let x = larger-above most (ruleSteps steps (rule chained s at)) in
           rw (eqb-true p at q) (sym (larger-first r (ruleSteps steps (rule chained s at)) (omega (arith, x .1))))
       step p false q m =
-          let c = k .counted p (λ z. m (getD-set-other marks at p 1 0 (eqb-false p at q) ∙ z)) in
+          let c = k .counted p (sym (e .others p (eqb-false p at q)) ∙ m) in
           let x = larger-above most (ruleSteps steps (rule chained s p)) in
           sym (larger-first r (ruleSteps steps (rule chained s p)) (omega (arith, a, x .1)))
 

@@ -1,12 +1,12 @@
 // The most steps that a rule of a lookup takes, from what the lookups that its records name take. A step is one lookup, asked at one place.
-use gsubgpos::RULE_PLACES;
+use bits::has_bit;
+use bits::put_bit;
 use lookup_list::long_at;
 use lookup_list::part;
 use matching::cover_parts;
+use places::MEMBER_MARKS;
 use records::crowded;
 use rules::rule_parts;
-use wire::byte;
-use wire::put_byte;
 use wire::word_at;
 ghost use mathlib.Core.Path.{_≡_};
 ghost use mathlib.Core.Bool.{true};
@@ -84,16 +84,16 @@ fn most_once(
     at: usize,
     steps: &[usize],
     most: usize,
-    marks: &mut [u8],
+    marks: &mut [u32],
 ) -> usize
     requires { ⌜ (at < 0x100_0000_0000) × Counted chained (now src) (now steps) most (now marks) ⌝ }
     ensures { λ r. ⌜ (r ≡ larger most (ruleSteps (now (steps .entry)) (rule chained (now (src .entry)) at))) × Counted chained (now (src .entry)) (now (steps .entry)) r (now (marks .exit)) ⌝ }
 {
-    if byte(marks, at) != 0 {
+    if has_bit(marks, 0, at) {
         return most;
     }
     let found = rule_steps(chained, src, at, steps);
-    put_byte(marks, at, 1);
+    put_bit(marks, 0, at);
     larger(most, found)
 }
 
@@ -104,7 +104,7 @@ fn most_in_set(
     set: usize,
     steps: &[usize],
     most: usize,
-    marks: &mut [u8],
+    marks: &mut [u32],
 ) -> usize
     requires { ⌜ (set < 65536) × Counted chained (now src) (now steps) most (now marks) ⌝ }
     ensures { λ r. ⌜ (r ≡ larger most (largest (ruleSteps (now (steps .entry))) (ruleSet chained (now (src .entry)) set))) × Counted chained (now (src .entry)) (now (steps .entry)) r (now (marks .exit)) ⌝ }
@@ -124,14 +124,14 @@ fn most_in_set(
 }
 
 // The most that a rule of the `n` sets takes whose offsets stand from `slot` on; a null offset reaches none.
-// Where `marks`, which has no mark yet, has a place for each rule, each is counted once, however many sets share it.
+// Where `marks`, which has no mark yet, has a bit for each rule, each is counted once, however many sets share it.
 fn most_in_sets(
     chained: bool,
     src: &[u8],
     slot: usize,
     n: usize,
     steps: &[usize],
-    marks: &mut [u8],
+    marks: &mut [u32],
 ) -> usize
     requires { ⌜ (slot < 65536) × (n < 65536) × Counted chained (now src) (now steps) 0 (now marks) ⌝ }
     ensures { λ r. ⌜ r ≡ setsSteps (now (steps .entry)) (reaches (ruleSet chained (now (src .entry))) (now (src .entry)) 0 slot n) ⌝ }
@@ -164,7 +164,7 @@ fn shared_steps(
     if rounds != 0 {
         return shared_steps(chained, src, slot, n, steps, rounds - 1);
     }
-    let mut marks = [0u8; RULE_PLACES];
+    let mut marks = [0u32; MEMBER_MARKS];
     most_in_sets(chained, src, slot, n, steps, &mut marks)
 }
 
@@ -176,7 +176,7 @@ fn sets_steps(chained: bool, src: &[u8], slot: usize, n: usize, steps: &[usize])
     if crowded(src, slot, n) {
         return shared_steps(chained, src, slot, n, steps, slot % 2);
     }
-    let mut no_marks = [0u8; 1];
+    let mut no_marks = [0u32; 1];
     most_in_sets(chained, src, slot, n, steps, &mut no_marks)
 }
 

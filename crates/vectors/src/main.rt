@@ -630,11 +630,26 @@ fn more_substitutes() -> usize
     verdict(b"substitutes: ", 32765, good)
 }
 
+// How many agree of the calls on a chained context with high classes: each new class is the rank of the old one among those that survive.
+// Before the place glyph 2 holds class 60,000; after it glyphs 2 to 6 hold 65,535, 4,100, 100, 40,000 and 200, of which 6 is not retained. The rule names 60,000 before and the first four after.
+fn high_classes() -> usize
+    ensures { λ r. ⌜ r ≤ 3 ⌝ }
+{
+    let source =
+        b"\x00\x02\x00\x26\x00\x2c\x00\x36\x00\x40\x00\x02\x00\x00\x00\x10\x00\x01\x00\x04\x00\x01\xea\x60\x00\x01\x00\x04\xff\xff\x10\x04\x00\x64\x9c\x40\x00\x00\x00\x01\x00\x01\x00\x01\x00\x02\x00\x01\x00\x02\x00\x02\xea\x60\x00\x02\x00\x01\x00\x01\x00\x01\x00\x01\x00\x01\x00\x02\x00\x05\xff\xff\x10\x04\x00\x64\x9c\x40\x00\xc8";
+    let glyphs =
+        b"\x00\x01\x00\x01\x00\x02\x00\x02\x00\x03\x00\x03\x00\x04\x00\x04\x00\x05\x00\x05";
+    let kept =
+        b"\x00\x02\x00\x26\x00\x2c\x00\x34\x00\x3c\x00\x02\x00\x00\x00\x10\x00\x01\x00\x04\x00\x01\x00\x01\x00\x01\x00\x04\x00\x04\x00\x02\x00\x01\x00\x03\x00\x00\x00\x01\x00\x01\x00\x01\x00\x01\x00\x02\x00\x01\x00\x01\x00\x01\x00\x01\x00\x01\x00\x01\x00\x01\x00\x02\x00\x04\x00\x04\x00\x02\x00\x01\x00\x03";
+    let good = kept_calls(plain(2, PAIRS), source, glyphs, b"", kept);
+    verdict(b"classes up to ", 65535, good)
+}
+
 // How many agree of the calls on large tables.
 fn large_tables() -> usize
-    ensures { λ r. ⌜ r ≤ 9 ⌝ }
+    ensures { λ r. ⌜ r ≤ 12 ⌝ }
 {
-    many_covered() + many_rules() + wide_pairs()
+    many_covered() + many_rules() + wide_pairs() + high_classes()
 }
 
 // How many agree of the calls at the limits.
@@ -651,5 +666,5 @@ fn main() {
     let good = limits() + large_tables();
     let mut file = [0u8; FILE];
     let n = io::read_full(0, &mut file);
-    run(&file[..n], 18 * TIMES, good);
+    run(&file[..n], 19 * TIMES, good);
 }

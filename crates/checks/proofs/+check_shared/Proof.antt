@@ -5,7 +5,7 @@ use borrow.Author.Needs.{needs}
 use borrow.Fn.Kinds.{In}
 use borrow.Fn.PlainCycle.{Measures, is, falls, and}
 use Rattle.checks.proofs.Seen.{none-seen}
-use Rattle.gsubgpos.specs.Marks.{none-marked}
+use Rattle.gsubgpos.specs.Marks.{marked-none}
 use Rattle.checks.proofs.check_shared.Reads as check-shared
 use Rattle.checks.proofs.check_shared.Kinds as check-shared-kinds
 use Rattle.checks.proofs.+check_shared.Lts-check_shared as check-shared-lts
@@ -31,7 +31,7 @@ check-shared-requires t c κs =
 check-each-requires : (t : ℕ) → check-shared-lts.Need-check-each-requires (check-shared-below t, check-shared.Post, check-each-reads.Asked, check-each-reads.Learnt) (check-shared-at t) check-shared.Post
 check-each-requires t c κs =
     let p = c .before .before .before .before .pre in
-    (p .1, none-seen 65536, none-marked 131072)
+    (p .1, none-seen 2048, marked-none 4096)
 
 pub +check-shared-spec : {M : Type 1} → statement M
 +check-shared-spec =

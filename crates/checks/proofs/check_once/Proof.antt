@@ -11,7 +11,7 @@ use Rattle.checks.proofs.check_once.Tie as tie
 returns : tie.Need-returns
 returns c =
     let a = c .before .before .before .before .before .before in
-    (seen-passed (a .pre .1) (a .args .at) (λ z. c .if1 .taken (c .before .byte .ensures .0 ∙ z)), a .pre .1, a .pre .2)
+    (seen-passed (a .pre .1) (a .args .at) (sym (c .before .has-bit .ensures) ∙ c .if1 .taken), a .pre .1, a .pre .2)
 
 returns-2 : tie.Need-returns-2
 returns-2 c =
@@ -26,7 +26,7 @@ returns-3 c =
     let f = p .before .before .before .before in
     let a = f .before .before .before .before .before .before .before .before .before .before in
     let g = seen-found (faultOfPart (a .args .part) (a .args .src .now)) (a .args .low) (a .args .at) (f .check-part .ensures .0) (c .lowest .ensures) in
-    (g, seen-more (a .args .at) (a .pre .1) g (p .put-byte .ensures), f .check-part .ensures .1)
+    (g, seen-more (a .args .at) (a .pre .1) g (p .put-bit .ensures), f .check-part .ensures .1)
 
 pub check-once-spec : {M : Type 1} → statement M
 check-once-spec =

@@ -12,24 +12,24 @@ use Rattle.class_layouts.proofs.write_context.Reads as write-context-re
 use Rattle.class_layouts.proofs.+write_crowded.{statement}
 use Rattle.class_layouts.proofs.+write_crowded.Tie.{close}
 
-abbrev μ-write-crowded : Measures 4 write-crowded-kinds.ps ℕ
+abbrev μ-write-crowded : Measures 5 write-crowded-kinds.ps ℕ
 μ-write-crowded κs a = a .1 .1 .1 .1 .0
 
 -- what `write_crowded` is given at the measure t, and what a call of it asks below t
-abbrev write-crowded-at : ℕ → In 4 write-crowded-kinds.ps
-write-crowded-at t = and 4 write-crowded-kinds.ps (is 4 write-crowded-kinds.ps μ-write-crowded t) write-crowded.Pre
+abbrev write-crowded-at : ℕ → In 5 write-crowded-kinds.ps
+write-crowded-at t = and 5 write-crowded-kinds.ps (is 5 write-crowded-kinds.ps μ-write-crowded t) write-crowded.Pre
 
-abbrev write-crowded-below : ℕ → In 4 write-crowded-kinds.ps
-write-crowded-below t = and 4 write-crowded-kinds.ps (falls 4 write-crowded-kinds.ps _<_ μ-write-crowded t) write-crowded.Pre
+abbrev write-crowded-below : ℕ → In 5 write-crowded-kinds.ps
+write-crowded-below t = and 5 write-crowded-kinds.ps (falls 5 write-crowded-kinds.ps _<_ μ-write-crowded t) write-crowded.Pre
 
 write-crowded-requires : (t : ℕ) → write-crowded-lts.Need-write-crowded-requires (write-crowded-below t, write-crowded.Post, write-context-reads.Asked, write-context-reads.Learnt) (write-crowded-at t) write-crowded.Post
 write-crowded-requires t c κs =
-    let p = c .before .before .before .before .before .before .before .pre in
+    let p = c .before .before .before .before .before .before .before .before .before .pre in
     (omega (arith, p .0), p .1)
 
 write-context-requires : (t : ℕ) → write-crowded-lts.Need-write-context-requires (write-crowded-below t, write-crowded.Post, write-context-reads.Asked, write-context-reads.Learnt) (write-crowded-at t) write-crowded.Post
 write-context-requires t c κs =
-    (c .before .before .before .before .before .before .before .before .pre .1, dead-none 4096)
+    (c .before .before .before .before .before .before .before .before .before .before .pre .1, dead-none 4096)
 
 pub +write-crowded-spec : {M : Type 1} → statement M
 +write-crowded-spec =
@@ -41,7 +41,9 @@ pub +write-crowded-spec : {M : Type 1} → statement M
     (λ c. search needs)
     (λ c. search needs)
     (λ c. search needs)
+    (λ c. search needs)
     (write-context-requires t)
+    (λ c. search needs)
     (λ c. search needs)
     (λ c. search needs)
     (λ c. search needs))

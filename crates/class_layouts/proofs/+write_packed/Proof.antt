@@ -13,24 +13,24 @@ use Rattle.class_layouts.proofs.write_booked.Reads as write-booked-read
 use Rattle.class_layouts.proofs.+write_packed.{statement}
 use Rattle.class_layouts.proofs.+write_packed.Tie.{close}
 
-abbrev μ-write-packed : Measures 5 write-packed-kinds.ps ℕ
+abbrev μ-write-packed : Measures 6 write-packed-kinds.ps ℕ
 μ-write-packed κs a = a .1 .1 .1 .1 .1 .0
 
 -- what `write_packed` is given at the measure t, and what a call of it asks below t
-abbrev write-packed-at : ℕ → In 5 write-packed-kinds.ps
-write-packed-at t = and 5 write-packed-kinds.ps (is 5 write-packed-kinds.ps μ-write-packed t) write-packed.Pre
+abbrev write-packed-at : ℕ → In 6 write-packed-kinds.ps
+write-packed-at t = and 6 write-packed-kinds.ps (is 6 write-packed-kinds.ps μ-write-packed t) write-packed.Pre
 
-abbrev write-packed-below : ℕ → In 5 write-packed-kinds.ps
-write-packed-below t = and 5 write-packed-kinds.ps (falls 5 write-packed-kinds.ps _<_ μ-write-packed t) write-packed.Pre
+abbrev write-packed-below : ℕ → In 6 write-packed-kinds.ps
+write-packed-below t = and 6 write-packed-kinds.ps (falls 6 write-packed-kinds.ps _<_ μ-write-packed t) write-packed.Pre
 
 write-packed-requires : (t : ℕ) → write-packed-lts.Need-write-packed-requires (write-packed-below t, write-packed.Post, write-booked-reads.Asked, write-booked-reads.Learnt) (write-packed-at t) write-packed.Post
 write-packed-requires t c κs =
-    let p = c .before .before .before .before .before .before .before .before .before .pre in
+    let p = c .before .before .before .before .before .before .before .before .before .before .before .pre in
     (omega (arith, p .0), p .1)
 
 write-booked-requires : (t : ℕ) → write-packed-lts.Need-write-booked-requires (write-packed-below t, write-packed.Post, write-booked-reads.Asked, write-booked-reads.Learnt) (write-packed-at t) write-packed.Post
 write-booked-requires t c κs =
-    let p = c .before .before .before .before .before .before .before .before .before .before .pre .1 in
+    let p = c .before .before .before .before .before .before .before .before .before .before .before .before .pre .1 in
     (p .0, p .1, book-packed bookCells (omega arith) (p .2))
 
 pub +write-packed-spec : {M : Type 1} → statement M
@@ -44,7 +44,9 @@ pub +write-packed-spec : {M : Type 1} → statement M
     (λ c. search needs)
     (λ c. search needs)
     (λ c. search needs)
+    (λ c. search needs)
     (write-booked-requires t)
+    (λ c. search needs)
     (λ c. search needs)
     (λ c. search needs)
     (λ c. search needs)

@@ -1,30 +1,10 @@
-use Rattle.class_maps.proofs.Mapping.{mapping-few, marks-direct, zero-direct, mapping-done}
-use mathlib.Core.Path.{refl}
-use Prim.Native.Nat.{zero}
+use Rattle.class_maps.proofs.Mapping.{class-mapped}
 use borrow.Author.Needs.{needs}
 use Rattle.class_maps.proofs.class_map.Statement.{statement}
 use Rattle.class_maps.proofs.class_map.Tie as tie
 
 returns : tie.Need-returns
-returns c = mapping-few (c .before .before .before .before .before .held-map .ensures) (c .if1 .taken)
-
-mark-zero-requires : tie.Need-mark-zero-requires
-mark-zero-requires c κs = marks-direct (c .before .before .before .before .before .before .held-map .ensures) (c .before .if1 .left)
-
-rank-requires : tie.Need-rank-requires
-rank-requires c κs = zero-direct (c .before .before .before .before .before .before .before .before .before .before .held-map .ensures) (c .before .before .before .before .before .if1 .left) (c .before .before .before .before .before .before .before .before .before .before .held-map .result .zero) (c .before .before .before .mark-zero .ensures)
-
-returns-2 : tie.Need-returns-2
-returns-2 c = mapping-done (c .before .before .before .before .before .before .before .before .before .before .before .before .before .held-map .ensures) (c .before .before .before .before .before .before .before .before .if1 .left) (c .before .before .before .before .before .before .before .before .before .before .before .before .before .held-map .result .zero) (c .before .before .before .before .before .before .mark-zero .ensures) (c .before .before .rank .ensures) refl
+returns c = class-mapped (c .before .before .listed-map .ensures)
 
 pub class-map-spec : {M : Type 1} → statement M
-class-map-spec =
-    tie.close
-    (tie.spec
-    (λ c κs. search needs)
-    (λ c. search needs)
-    returns
-    mark-zero-requires
-    rank-requires
-    (λ c. search needs)
-    returns-2)
+class-map-spec = tie.close (tie.spec (λ c κs. search needs) (λ c. search needs) returns)

@@ -1,6 +1,5 @@
 use Rattle.class_maps.proofs.Entering.{Entering, entering-all, entering-inside, entering-room, entering-map, entering-none, entering-one, entering-end}
 use borrow.Author.Needs.{needs}
-use mathlib.Core.Path.{refl}
 use mathlib.Core.Logic.{⊎-elim}
 use Prim.Native.Nat.{_+_, _-_}
 use native.Mathlib.Omega.{arith}
@@ -8,43 +7,43 @@ use Rattle.class_maps.proofs.new_entries.Statement.{statement}
 use Rattle.class_maps.proofs.new_entries.Tie as tie
 
 abbrev Inv-loop : tie.InvT-loop
-Inv-loop t₀ list m n k₀ e₀ t k e = Entering t₀ t list m n k e
+Inv-loop t₀ list n m k₀ e₀ t k e = Entering t₀ t list n m k e
 
 abbrev μ-loop : tie.MeasureT-loop
-μ-loop t₀ list m n k₀ e₀ t k e = n - e
+μ-loop t₀ list n m k₀ e₀ t k e = n - e
 
 loop-holds : tie.Need-loop-holds Inv-loop μ-loop
-loop-holds c = entering-all refl (c .before .before .pre)
+loop-holds c = entering-all (c .before .pre)
 
 add-cell : tie.Need-add-cell Inv-loop μ-loop
-add-cell c = let i = c .before .loop .inv in omega (arith, entering-inside i (c .loop-test .taken), i .elsewhere .size, c .before .before .before .before .good)
+add-cell c = let i = c .before .loop .inv in omega (arith, entering-inside i (c .loop-test .taken), i .elsewhere .size, c .before .before .before .good)
 
 mul-cell : tie.Need-mul-cell Inv-loop μ-loop
-mul-cell c = let i = c .before .loop .inv in omega (arith, entering-inside i (c .loop-test .taken), i .elsewhere .size, c .before .before .before .before .good)
+mul-cell c = let i = c .before .loop .inv in omega (arith, entering-inside i (c .loop-test .taken), i .elsewhere .size, c .before .before .before .good)
 
 slice-read-cell : tie.Need-slice-read-cell Inv-loop μ-loop
 slice-read-cell c = entering-inside (c .before .before .loop .inv) (c .before .loop-test .taken)
 
 cast-cell : tie.Need-cast-cell Inv-loop μ-loop
-cast-cell c = let l = c .before .before in omega (arith, c .slice-known2 .given (l .before .before .before .args .list + l .loop .e))
+cast-cell c = let l = c .before .before in omega (arith, c .slice-known2 .given (l .before .before .args .list + l .loop .e))
 
 new-class-requires : tie.Need-new-class-requires Inv-loop μ-loop
 new-class-requires c κs = entering-map (c .before .before .before .loop .inv) (c .before .before .loop-test .taken)
 
 mul-t : tie.Need-mul-t Inv-loop μ-loop
-mul-t c = let l = c .before .before .before .before .before in omega (arith, c .before .before .before .slice-known2 .given (l .before .before .before .args .list + l .loop .e))
+mul-t c = let l = c .before .before .before .before .before in omega (arith, c .before .before .before .slice-known2 .given (l .before .before .args .list + l .loop .e))
 
 add-t : tie.Need-add-t Inv-loop μ-loop
-add-t c = let l = c .before .before .before .before .before in omega (arith, c .before .before .before .slice-known2 .given (l .before .before .before .args .list + l .loop .e), c .before .new-class .ensures .1)
+add-t c = let l = c .before .before .before .before .before in omega (arith, c .before .before .before .slice-known2 .given (l .before .before .args .list + l .loop .e), c .before .new-class .ensures .1)
 
 cast-t : tie.Need-cast-t Inv-loop μ-loop
-cast-t c = let l = c .before .before .before .before .before in omega (arith, c .before .before .before .slice-known2 .given (l .before .before .before .args .list + l .loop .e), c .before .new-class .ensures .1)
+cast-t c = let l = c .before .before .before .before .before in omega (arith, c .before .before .before .slice-known2 .given (l .before .before .args .list + l .loop .e), c .before .new-class .ensures .1)
 
 add-t-2 : tie.Need-add-t-2 Inv-loop μ-loop
-add-t-2 c = let i = c .before .before .before .before .before .loop .inv in omega (arith, entering-room i (c .before .before .before .before .loop-test .taken), i .elsewhere .size, c .before .before .before .before .before .before .before .before .good)
+add-t-2 c = let i = c .before .before .before .before .before .loop .inv in omega (arith, entering-room i (c .before .before .before .before .loop-test .taken), i .elsewhere .size, c .before .before .before .before .before .before .before .good)
 
 mul-t-2 : tie.Need-mul-t-2 Inv-loop μ-loop
-mul-t-2 c = let i = c .before .before .before .before .before .loop .inv in omega (arith, entering-room i (c .before .before .before .before .loop-test .taken), i .elsewhere .size, c .before .before .before .before .before .before .before .before .good)
+mul-t-2 c = let i = c .before .before .before .before .before .loop .inv in omega (arith, entering-room i (c .before .before .before .before .loop-test .taken), i .elsewhere .size, c .before .before .before .before .before .before .before .good)
 
 slice-write-t : tie.Need-slice-write-t Inv-loop μ-loop
 slice-write-t c = entering-room (c .before .before .before .before .before .loop .inv) (c .before .before .before .before .loop-test .taken)
@@ -70,7 +69,6 @@ new-entries-spec =
     (tie.spec
     Inv-loop
     μ-loop
-    (λ c. search needs)
     loop-holds
     add-cell
     mul-cell

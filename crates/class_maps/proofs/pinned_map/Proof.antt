@@ -1,30 +1,10 @@
-use mathlib.Core.Bool.{true}
-use Rattle.class_maps.proofs.Mapping.{pinned-few, marks-direct, zero-direct, pinned-done}
-use mathlib.Core.Path.{refl}
+use Rattle.class_maps.proofs.Mapping.{pinned-mapped}
 use borrow.Author.Needs.{needs}
 use Rattle.class_maps.proofs.pinned_map.Statement.{statement}
 use Rattle.class_maps.proofs.pinned_map.Tie as tie
 
 returns : tie.Need-returns
-returns c = pinned-few (c .before .before .before .before .before .held-map .ensures) (c .if1 .taken)
-
-mark-zero-requires : tie.Need-mark-zero-requires
-mark-zero-requires c κs = marks-direct (c .before .before .before .before .before .before .held-map .ensures) (c .before .if1 .left)
-
-rank-requires : tie.Need-rank-requires
-rank-requires c κs = zero-direct (c .before .before .before .before .before .before .before .before .before .before .held-map .ensures) (c .before .before .before .before .before .if1 .left) true (c .before .before .before .mark-zero .ensures)
-
-returns-2 : tie.Need-returns-2
-returns-2 c = pinned-done (c .before .before .before .before .before .before .before .before .before .before .before .before .before .held-map .ensures) (c .before .before .before .before .before .before .before .before .if1 .left) true (c .before .before .before .before .before .before .mark-zero .ensures) (c .before .before .rank .ensures) refl
+returns c = pinned-mapped (c .before .before .listed-map .ensures)
 
 pub pinned-map-spec : {M : Type 1} → statement M
-pinned-map-spec =
-    tie.close
-    (tie.spec
-    (λ c κs. search needs)
-    (λ c. search needs)
-    returns
-    mark-zero-requires
-    rank-requires
-    (λ c. search needs)
-    returns-2)
+pinned-map-spec = tie.close (tie.spec (λ c κs. search needs) (λ c. search needs) returns)

@@ -7,22 +7,20 @@ use borrow.Author.Needs.{needs}
 use Rattle.member_sets.specs.Dead.{Dead}
 use Rattle.rule_sets.specs.Left.{mapsIn, ruleLeft}
 use Rattle.repeats.specs.Book.{packs}
+use Rattle.class_maps.specs.Present.{top-small}
 use Rattle.class_slots.specs.Sets.{slots-near}
 use Rattle.class_slots.proofs.Filling.{filling-null, filling-set, filling-full}
-use Rattle.class_slots.proofs.Turns.{Turning, few-classes, turning-all, wrote-short, wrote-said, asked, turning-skip, turning-here, turn-asked, turned, wrote-full, wrote-all}
+use Rattle.class_slots.proofs.Turns.{found-some, found-none, Turning, few-classes, turning-all, wrote-short, wrote-said, asked, turning-skip, turning-here, turn-asked, turned, wrote-full, wrote-all}
 use Rattle.class_slots.proofs.write_slots.Statement.{statement}
 use Rattle.class_slots.proofs.write_slots.Tie as tie
 
 abbrev Inv-loop : tie.InvT-loop
-Inv-loop chained src t maps classes dead₀ area₀ book₀ slots first count₀ k₀ p₀ class₀ dead area book count k p class =
+Inv-loop chained src t maps classes dead₀ area₀ book₀ slots first last count₀ k₀ p₀ class₀ dead area book count k p class =
     Turning (packs book₀) chained src t maps (classes .marks) slots first area₀ area count k p class book × Dead (ruleLeft chained (mapsIn t maps) src) dead × (length dead ≡ length dead₀) × (length book ≡ length book₀)
 
 abbrev μ-loop : tie.MeasureT-loop
-μ-loop chained src t maps classes dead₀ area₀ book₀ slots first count₀ k₀ p₀ class₀ dead area book count k p class =
-    maps .input .mask + 1 - class
-
-slots-at-requires : tie.Need-slots-at-requires Inv-loop μ-loop
-slots-at-requires c κs = search needs
+μ-loop chained src t maps classes dead₀ area₀ book₀ slots first last count₀ k₀ p₀ class₀ dead area book count k p class =
+    last + 1 - class
 
 mul-first : tie.Need-mul-first Inv-loop μ-loop
 mul-first c = omega (arith, few-classes (c .before .before .before .before .before .before .before .pre .0) (c .before .slots-at .ensures) refl)
@@ -30,120 +28,81 @@ mul-first c = omega (arith, few-classes (c .before .before .before .before .befo
 add-first : tie.Need-add-first Inv-loop μ-loop
 add-first c = omega (arith, few-classes (c .before .before .before .before .before .before .before .pre .0) (c .before .slots-at .ensures) refl, c .before .slots-at .ensures, slots-near (c .before .before .before .before .before .before .before .args .chained))
 
-over-requires : tie.Need-over-requires Inv-loop μ-loop
-over-requires c κs = search needs
-
-same-length : tie.Need-same-length Inv-loop μ-loop
-same-length c = search needs
-
 returns : tie.Need-returns Inv-loop μ-loop
 returns c = (wrote-short (c .before .before .before .before .before .before .before .before .before .before .pre .0) (c .before .before .before .before .slots-at .ensures) refl (omega arith) (c .over .ensures), c .before .before .before .before .before .before .before .before .before .before .pre .2)
 
-begin-requires : tie.Need-begin-requires Inv-loop μ-loop
-begin-requires c κs = search needs
-
 loop-holds : tie.Need-loop-holds Inv-loop μ-loop
 loop-holds c =
-    let b = c .before .before .begin .ensures in
-    let i = c .before .before .before .before .before .before .before .before .before .before .before .before .pre in
-    (turning-all (i .0) (c .before .before .before .before .before .before .slots-at .ensures) refl (omega arith) (sym (ap (ltb 1) (b .same))) b (λ t. i .3 (sym (ap (ltb 1) (b .same)) ∙ t)), i .2, refl, refl)
+    let b = c .before .before .before .begin .ensures in
+    let i = c .before .before .before .before .before .before .before .before .before .before .before .before .before .pre in
+    (turning-all (i .0) (c .before .before .before .before .before .before .before .slots-at .ensures) refl (omega arith) (sym (ap (ltb 1) (b .same))) b (λ t. i .3 (sym (ap (ltb 1) (b .same)) ∙ t)), i .2, refl, refl)
 
 add-class : tie.Need-add-class Inv-loop μ-loop
-add-class c = search needs
+add-class c = omega (arith, top-small (c .before .before .before .before .before .before .before .before .before .before .before .before .before .before .before .args .maps .input) (c .before .before .before .before .before .before .before .before .before .before .before .before .before .before .before .pre .0 .few))
 
-add-if3 : tie.Need-add-if3 Inv-loop μ-loop
-add-if3 c = search (needs, c .before .before .before .before .before .before .before .before .before .before .before .before .before .before .before .before .pre .0 .inside .input .within)
-
-mul-if3 : tie.Need-mul-if3 Inv-loop μ-loop
-mul-if3 c = search (needs, c .before .before .before .before .before .before .before .before .before .before .before .before .before .before .before .before .pre .0 .inside .input .within)
-
-shared-slice-read-if3 : tie.Need-shared-slice-read-if3 Inv-loop μ-loop
-shared-slice-read-if3 c = search (needs, c .before .before .before .before .before .before .before .before .before .before .before .before .before .before .before .before .before .pre .0 .inside .input .within)
-
-cast-if3 : tie.Need-cast-if3 Inv-loop μ-loop
-cast-if3 c = omega (arith, c .shared-slice-known3 .given (c .before .before .before .before .before .before .before .before .before .before .before .before .before .before .before .before .before .args .maps .input .at + c .before .before .before .before .loop .class))
-
-loop-less : tie.Need-loop-less Inv-loop μ-loop
-loop-less c = search needs
+find-requires : tie.Need-find-requires Inv-loop μ-loop
+find-requires c κs = c .before .before .before .before .before .before .before .before .before .before .before .before .before .before .before .pre .0 .inside .input
 
 loop-again : tie.Need-loop-again Inv-loop μ-loop
 loop-again c =
-    let l = c .before .before .before .before .before in
-    (turning-skip (l .before .before .before .before .before .before .before .before .before .before .before .before .before .pre .0) (l .before .before .before .before .before .before .before .slots-at .ensures) refl (l .loop .inv .0) (omega arith) (c .if3 .taken), l .loop .inv .1, l .loop .inv .2, l .loop .inv .3)
+    let l = c .before .before .before .before in
+    (turning-skip (l .before .before .before .before .before .before .before .before .before .before .before .before .before .before .pre .0) (l .before .before .before .before .before .before .before .before .slots-at .ensures) refl (l .loop .inv .0) (omega arith) (found-none (c .before .before .find .ensures) (c .enum-told2 .given .1)), l .loop .inv .1, l .loop .inv .2, l .loop .inv .3)
 
 set-place-requires : tie.Need-set-place-requires Inv-loop μ-loop
 set-place-requires c κs = asked (c .before .before .before .before .before .before .before .before .before .before .before .before .before .before .before .before .before .before .pre .0) (c .before .before .before .before .before .before .before .before .before .before .before .before .slots-at .ensures) refl (omega arith)
 
-mul-t28 : tie.Need-mul-t28 Inv-loop μ-loop
-mul-t28 c = omega (arith, c .before .before .before .before .before .before .loop .inv .0 .few, c .before .before .before .before .before .before .before .before .before .before .before .before .before .slots-at .ensures, slots-near (c .before .before .before .before .before .before .before .before .before .before .before .before .before .before .before .before .before .before .before .args .chained))
+mul-t30 : tie.Need-mul-t30 Inv-loop μ-loop
+mul-t30 c = omega (arith, c .before .before .before .before .before .loop .inv .0 .few, c .before .before .before .before .before .before .before .before .before .before .before .before .before .slots-at .ensures, slots-near (c .before .before .before .before .before .before .before .before .before .before .before .before .before .before .before .before .before .before .before .args .chained))
 
-add-t32 : tie.Need-add-t32 Inv-loop μ-loop
-add-t32 c = omega (arith, c .before .before .before .before .before .before .loop .inv .0 .few, c .before .before .before .before .before .before .before .before .before .before .before .before .before .slots-at .ensures, slots-near (c .before .before .before .before .before .before .before .before .before .before .before .before .before .before .before .before .before .before .before .args .chained))
+add-t31 : tie.Need-add-t31 Inv-loop μ-loop
+add-t31 c = omega (arith, c .before .before .before .before .before .loop .inv .0 .few, c .before .before .before .before .before .before .before .before .before .before .before .before .before .slots-at .ensures, slots-near (c .before .before .before .before .before .before .before .before .before .before .before .before .before .before .before .before .before .before .before .args .chained))
 
 add-k : tie.Need-add-k Inv-loop μ-loop
-add-k c = omega (arith, c .before .before .before .before .before .before .loop .inv .0 .few)
+add-k c = omega (arith, c .before .before .before .before .before .loop .inv .0 .few)
 
 place-set-requires : tie.Need-place-set-requires Inv-loop μ-loop
 place-set-requires c κs =
-    let l = c .before .before .before .before .before .before .before .before .before in
-    (turn-asked (l .before .before .before .before .before .before .before .before .before .before .before .before .before .pre .0) (l .before .before .before .before .before .before .before .slots-at .ensures) refl (l .loop .inv .0) (omega arith) (c .before .before .before .before .if3 .left) (c .before .before .before .set-place .ensures), l .loop .inv .1)
-
-same-length-2 : tie.Need-same-length-2 Inv-loop μ-loop
-same-length-2 c = search needs
-
-same-length-3 : tie.Need-same-length-3 Inv-loop μ-loop
-same-length-3 c = search needs
-
-same-length-4 : tie.Need-same-length-4 Inv-loop μ-loop
-same-length-4 c = search needs
+    let l = c .before .before .before .before .before .before .before .before in
+    (turn-asked (l .before .before .before .before .before .before .before .before .before .before .before .before .before .before .pre .0) (l .before .before .before .before .before .before .before .before .slots-at .ensures) refl (l .loop .inv .0) (omega arith) (found-some (c .before .before .before .before .before .before .find .ensures) (c .before .before .before .before .enum-told .given .1)) (c .before .before .before .set-place .ensures), l .loop .inv .1)
 
 returns-2 : tie.Need-returns-2 Inv-loop μ-loop
 returns-2 c =
     let w = c .before .before .before .before .before .before .before in
     let g = w .before .before .before .before in
-    let l = g .before .before .before .before .before .before in
-    let e = l .before .before .before .before .before .before .before .slots-at .ensures in
-    let a = l .before .before .before .before .before .before .before .before .before .before .before .before .before .pre .0 in
-    let h = turning-here a e refl (l .loop .inv .0) (omega arith) (g .before .if3 .left) (g .set-place .ensures) in
-    (wrote-said (ap (ltb 1) (l .before .before .before .begin .ensures .same)) (wrote-full a e refl (l .loop .inv .0) (w .place-set .ensures .0 .same) (omega arith) (λ m. filling-full _ _ _ _ _ _ _ _ (g .set-place .result) h (w .place-set .ensures .0) (c .if4 .taken) m)), w .place-set .ensures .1)
-
-loop-less-2 : tie.Need-loop-less-2 Inv-loop μ-loop
-loop-less-2 c = search needs
+    let l = g .before .before .before .before .before in
+    let e = l .before .before .before .before .before .before .before .before .slots-at .ensures in
+    let a = l .before .before .before .before .before .before .before .before .before .before .before .before .before .before .pre .0 in
+    let h = turning-here a e refl (l .loop .inv .0) (omega arith) (found-some (g .before .before .before .find .ensures) (g .before .enum-told .given .1)) (g .set-place .ensures) in
+    (wrote-said (ap (ltb 1) (l .before .before .before .before .begin .ensures .same)) (wrote-full a e refl (l .loop .inv .0) (w .place-set .ensures .0 .same) (omega arith) (λ m. filling-full _ _ _ _ _ _ _ _ (g .set-place .result) h (w .place-set .ensures .0) (c .if2 .taken) m)), w .place-set .ensures .1)
 
 loop-again-2 : tie.Need-loop-again-2 Inv-loop μ-loop
 loop-again-2 c =
     let w = c .before .before .before .before .before .before .before .before in
     let g = w .before .before .before .before in
-    let l = g .before .before .before .before .before .before in
-    let e = l .before .before .before .before .before .before .before .slots-at .ensures in
-    let a = l .before .before .before .before .before .before .before .before .before .before .before .before .before .pre .0 in
-    let h = turning-here a e refl (l .loop .inv .0) (omega arith) (g .before .if3 .left) (g .set-place .ensures) in
-    (turned a e refl (l .loop .inv .0) (omega arith) (filling-null _ _ _ _ _ _ _ _ (g .set-place .result) h (w .place-set .ensures .0) (c .if5 .taken)), w .place-set .ensures .1, c .before .before .before .before .before .before .before .dead .given ∙ l .loop .inv .2, c .before .before .before .book2 .given ∙ l .loop .inv .3)
-
-loop-less-3 : tie.Need-loop-less-3 Inv-loop μ-loop
-loop-less-3 c = search needs
+    let l = g .before .before .before .before .before in
+    let e = l .before .before .before .before .before .before .before .before .slots-at .ensures in
+    let a = l .before .before .before .before .before .before .before .before .before .before .before .before .before .before .pre .0 in
+    let h = turning-here a e refl (l .loop .inv .0) (omega arith) (found-some (g .before .before .before .find .ensures) (g .before .enum-told .given .1)) (g .set-place .ensures) in
+    (turned a e refl (l .loop .inv .0) (omega arith) (filling-null _ _ _ _ _ _ _ _ (g .set-place .result) h (w .place-set .ensures .0) (c .if3 .taken)), w .place-set .ensures .1, c .before .before .before .before .before .before .before .dead .given ∙ l .loop .inv .2, c .before .before .before .book2 .given ∙ l .loop .inv .3)
 
 loop-again-3 : tie.Need-loop-again-3 Inv-loop μ-loop
 loop-again-3 c =
     let w = c .before .before .before .before .before .before .before .before in
     let g = w .before .before .before .before in
-    let l = g .before .before .before .before .before .before in
-    let e = l .before .before .before .before .before .before .before .slots-at .ensures in
-    let a = l .before .before .before .before .before .before .before .before .before .before .before .before .before .pre .0 in
-    let h = turning-here a e refl (l .loop .inv .0) (omega arith) (g .before .if3 .left) (g .set-place .ensures) in
-    (turned a e refl (l .loop .inv .0) (omega arith) (filling-set _ _ _ _ _ _ _ _ (g .set-place .result) h (w .place-set .ensures .0) (c .if5 .left) (c .before .if4 .left)), w .place-set .ensures .1, c .before .before .before .before .before .before .before .dead .given ∙ l .loop .inv .2, c .before .before .before .book2 .given ∙ l .loop .inv .3)
-
-same-length-5 : tie.Need-same-length-5 Inv-loop μ-loop
-same-length-5 c = search needs
+    let l = g .before .before .before .before .before in
+    let e = l .before .before .before .before .before .before .before .before .slots-at .ensures in
+    let a = l .before .before .before .before .before .before .before .before .before .before .before .before .before .before .pre .0 in
+    let h = turning-here a e refl (l .loop .inv .0) (omega arith) (found-some (g .before .before .before .find .ensures) (g .before .enum-told .given .1)) (g .set-place .ensures) in
+    (turned a e refl (l .loop .inv .0) (omega arith) (filling-set _ _ _ _ _ _ _ _ (g .set-place .result) h (w .place-set .ensures .0) (c .if3 .left) (c .before .if2 .left)), w .place-set .ensures .1, c .before .before .before .before .before .before .before .dead .given ∙ l .loop .inv .2, c .before .before .before .book2 .given ∙ l .loop .inv .3)
 
 same-length-6 : tie.Need-same-length-6 Inv-loop μ-loop
-same-length-6 c = c .before .before .loop .inv .0 .filling .same
+same-length-6 c = c .before .loop .inv .0 .filling .same
 
 same-length-7 : tie.Need-same-length-7 Inv-loop μ-loop
-same-length-7 c = c .before .before .loop .inv .3 ∙ c .before .before .before .before .before .begin .ensures .same
+same-length-7 c = c .before .loop .inv .3 ∙ c .before .before .before .before .before .begin .ensures .same
 
 returns-3 : tie.Need-returns-3 Inv-loop μ-loop
-returns-3 c = (wrote-said (ap (ltb 1) (c .before .before .before .before .before .begin .ensures .same)) (wrote-all (c .before .before .before .before .before .before .before .before .before .before .before .before .before .before .before .pre .0) (c .before .before .before .before .before .before .before .before .before .slots-at .ensures) refl (c .before .before .loop .inv .0) (omega arith)), c .before .before .loop .inv .1)
+returns-3 c = (wrote-said (ap (ltb 1) (c .before .before .before .before .before .begin .ensures .same)) (wrote-all (c .before .before .before .before .before .before .before .before .before .before .before .before .before .before .before .pre .0) (c .before .before .before .before .before .before .before .before .before .slots-at .ensures) refl (c .before .loop .inv .0) (omega arith)), c .before .loop .inv .1)
 
 pub write-slots-spec : {M : Type 1} → statement M
 write-slots-spec =
@@ -151,35 +110,35 @@ write-slots-spec =
     (tie.spec
     Inv-loop
     μ-loop
-    slots-at-requires
+    (λ c κs. search needs)
     mul-first
     add-first
-    over-requires
-    same-length
+    (λ c κs. search needs)
+    (λ c. search needs)
     returns
-    begin-requires
+    (λ c κs. search needs)
+    (λ c κs. search needs)
     loop-holds
     add-class
-    add-if3
-    mul-if3
-    shared-slice-read-if3
-    cast-if3
-    loop-less
+    find-requires
+    (λ c. search needs)
+    (λ c. search needs)
+    (λ c. search needs)
     loop-again
     set-place-requires
-    mul-t28
-    add-t32
+    mul-t30
+    add-t31
     add-k
     place-set-requires
-    same-length-2
-    same-length-3
-    same-length-4
+    (λ c. search needs)
+    (λ c. search needs)
+    (λ c. search needs)
     returns-2
-    loop-less-2
+    (λ c. search needs)
     loop-again-2
-    loop-less-3
+    (λ c. search needs)
     loop-again-3
-    same-length-5
+    (λ c. search needs)
     same-length-6
     same-length-7
     returns-3)

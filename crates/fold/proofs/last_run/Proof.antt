@@ -40,6 +40,7 @@ last-run-spec =
     (tie.spec
     Inv-loop
     μ-loop
+    (λ c. search needs)
     loop-holds
     add-loop
     (λ c. search needs)

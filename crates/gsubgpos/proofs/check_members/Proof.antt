@@ -36,7 +36,7 @@ loop-again-2 c =
     let w = z .before in
     let t = w .before in
     let k = t .before .loop .inv in
-    (lowest-sound (k .0) (t .loop-test .taken) (w .word-inside .ensures .0) (z .if1 .left) (k .1 .known _ (λ e. c .if2 .taken (b .byte .ensures .0 ∙ e))), k .1, k .2)
+    (lowest-sound (k .0) (t .loop-test .taken) (w .word-inside .ensures .0) (z .if1 .left) (k .1 .known _ (sym (b .has-bit .ensures) ∙ c .if2 .taken)), k .1, k .2)
 
 loop-again-3 : tie.Need-loop-again-3 Inv-loop μ-loop
 loop-again-3 c =
@@ -59,7 +59,7 @@ loop-again-4 c =
     let k = t .before .loop .inv in
     let a = t .before .before .before .before .args in
     let h = is-sound (memberFault (a .member) (a .src .now) _) (e .enum-told .given .1) (m .check-member .ensures) in
-    (lowest-sound (k .0) (t .loop-test .taken) (w .word-inside .ensures .0) (z .if1 .left) h, marked-more _ (k .1) h (p .put-byte .ensures), still-long (k .2) (search needs))
+    (lowest-sound (k .0) (t .loop-test .taken) (w .word-inside .ensures .0) (z .if1 .left) h, marked-more _ (k .1) h (p .put-bit .ensures), still-long (k .2) (search needs))
 
 loop-again-5 : tie.Need-loop-again-5 Inv-loop μ-loop
 loop-again-5 c =

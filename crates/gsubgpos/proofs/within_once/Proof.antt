@@ -9,7 +9,7 @@ use Rattle.gsubgpos.proofs.within_once.Tie as tie
 returns : tie.Need-returns
 returns c =
     let a = c .before .before .before .before .before in
-    (sym (a .pre .1 .known (a .args .at) (λ z. c .if1 .taken (c .before .byte .ensures .0 ∙ z))), a .pre .1)
+    (sym (a .pre .1 .known (a .args .at) (sym (c .before .has-bit .ensures) ∙ c .if1 .taken)), a .pre .1)
 
 returns-2 : tie.Need-returns-2
 returns-2 c =
@@ -22,7 +22,7 @@ returns-3 c =
     let i = p .before .before in
     let a = i .before .before .before .before .before .before .before in
     let h = passed (i .before .rule-within .ensures) (i .if2 .left) in
-    (sym h, marked-more (a .args .at) (a .pre .1) h (p .put-byte .ensures))
+    (sym h, marked-more (a .args .at) (a .pre .1) h (p .put-bit .ensures))
 
 pub within-once-spec : {M : Type 1} → statement M
 within-once-spec =

@@ -4,7 +4,7 @@ use native.Mathlib.Omega.{arith}
 use borrow.Author.Needs.{needs}
 use borrow.Fn.Kinds.{In}
 use borrow.Fn.PlainCycle.{Measures, is, falls, and}
-use Rattle.gsubgpos.specs.Marks.{none-marked}
+use Rattle.gsubgpos.specs.Marks.{marked-none}
 use Rattle.records.proofs.shared_within.Reads as shared-within
 use Rattle.records.proofs.shared_within.Kinds as shared-within-kinds
 use Rattle.records.proofs.+shared_within.Lts-shared_within as shared-within-lts
@@ -30,7 +30,7 @@ shared-within-requires t c κs =
 sets-within-requires : (t : ℕ) → shared-within-lts.Need-sets-within-requires (shared-within-below t, shared-within.Post, sets-within-reads.Asked, sets-within-reads.Learnt) (shared-within-at t) shared-within.Post
 sets-within-requires t c κs =
     let p = c .before .before .before .pre in
-    (p .1 .0, p .1 .1, none-marked 131072)
+    (p .1 .0, p .1 .1, marked-none 4096)
 
 pub +shared-within-spec : {M : Type 1} → statement M
 +shared-within-spec =

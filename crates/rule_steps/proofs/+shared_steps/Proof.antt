@@ -30,7 +30,7 @@ shared-steps-requires t c κs =
 most-in-sets-requires : (t : ℕ) → shared-steps-lts.Need-most-in-sets-requires (shared-steps-below t, shared-steps.Post, most-in-sets-reads.Asked, most-in-sets-reads.Learnt) (shared-steps-at t) shared-steps.Post
 most-in-sets-requires t c κs =
     let p = c .before .before .before .before .pre in
-    (p .1 .0, p .1 .1, none-counted 131072)
+    (p .1 .0, p .1 .1, none-counted 4096)
 
 pub +shared-steps-spec : {M : Type 1} → statement M
 +shared-steps-spec =

@@ -1,4 +1,4 @@
-use mathlib.Core.Path.{_∙_}
+use mathlib.Core.Path.{sym, _∙_}
 use borrow.Author.Needs.{needs}
 use Rattle.rule_steps.proofs.Most.{counted-before, counted-more, larger-of}
 use Rattle.rule_steps.proofs.most_once.Statement.{statement}
@@ -7,7 +7,7 @@ use Rattle.rule_steps.proofs.most_once.Tie as tie
 returns : tie.Need-returns
 returns c =
     let a = c .before .before .before .before .before .before in
-    (counted-before (a .pre .1) (a .args .at) (λ z. c .if1 .taken (c .before .byte .ensures .0 ∙ z)), a .pre .1)
+    (counted-before (a .pre .1) (a .args .at) (sym (c .before .has-bit .ensures) ∙ c .if1 .taken), a .pre .1)
 
 returns-2 : tie.Need-returns-2
 returns-2 c =
@@ -15,7 +15,7 @@ returns-2 c =
     let f = p .before .before in
     let a = f .before .before .before .before .before .before .before in
     let g = larger-of (a .args .most) (f .rule-steps .ensures) (c .larger .ensures) in
-    (g, counted-more (a .args .at) (a .pre .1) g (p .put-byte .ensures))
+    (g, counted-more (a .args .at) (a .pre .1) g (p .put-bit .ensures))
 
 pub most-once-spec : {M : Type 1} → statement M
 most-once-spec =

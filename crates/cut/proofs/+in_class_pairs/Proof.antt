@@ -1,0 +1,56 @@
+-- The proof of the cycle of calls {in_class_pairs}: a call of itself has one round less, and its scratch is enough for any pair table by classes. Assumes nothing.
+use Prim.Native.Nat.{ℕ, _<_}
+use mathlib.Core.Path.{sym}
+use native.Mathlib.Omega.{arith}
+use lib.ListN.{length}
+use borrow.Author.Needs.{needs}
+use borrow.Fn.Kinds.{In}
+use borrow.Fn.PlainCycle.{Measures, is, falls, and}
+use Rattle.cut.proofs.Sizes.{cleared, cleared-length, pair-cells, pair-bytes, never-short}
+use Rattle.cut.specs.Cutting.{classPairCells, classPairBytes}
+use Rattle.cut.proofs.cut_in.Reads as cut-in-reads
+use Rattle.cut.proofs.in_class_pairs.Reads as in-class-pairs
+use Rattle.cut.proofs.in_class_pairs.Kinds as in-class-pairs-kinds
+use Rattle.cut.proofs.+in_class_pairs.Lts-in_class_pairs as in-class-pairs-lts
+use Rattle.cut.proofs.+in_class_pairs.{statement}
+use Rattle.cut.proofs.+in_class_pairs.Tie.{close}
+
+abbrev μ-in-class-pairs : Measures 4 in-class-pairs-kinds.ps ℕ
+μ-in-class-pairs κs a = a .1 .1 .1 .1 .0
+
+-- what `in_class_pairs` is given at the measure t, and what a call of it asks below t
+abbrev in-class-pairs-at : ℕ → In 4 in-class-pairs-kinds.ps
+in-class-pairs-at t = and 4 in-class-pairs-kinds.ps (is 4 in-class-pairs-kinds.ps μ-in-class-pairs t) in-class-pairs.Pre
+
+abbrev in-class-pairs-below : ℕ → In 4 in-class-pairs-kinds.ps
+in-class-pairs-below t = and 4 in-class-pairs-kinds.ps (falls 4 in-class-pairs-kinds.ps _<_ μ-in-class-pairs t) in-class-pairs.Pre
+
+in-class-pairs-requires : (t : ℕ) → in-class-pairs-lts.Need-in-class-pairs-requires (in-class-pairs-below t, in-class-pairs.Post, cut-in-reads.Asked, cut-in-reads.Learnt) (in-class-pairs-at t) in-class-pairs.Post
+in-class-pairs-requires t c κs =
+    let p = c .before .before .before .before .before .before .pre in
+    (omega (arith, p .0), p .1)
+
+cut-in-requires : (t : ℕ) → in-class-pairs-lts.Need-cut-in-requires (in-class-pairs-below t, in-class-pairs.Post, cut-in-reads.Asked, cut-in-reads.Learnt) (in-class-pairs-at t) in-class-pairs.Post
+cut-in-requires t c κs =
+    let p = c .before .before .before .before .before .before .before .before .pre in
+    p .1 .0
+
+returns : (t : ℕ) → in-class-pairs-lts.Need-returns-2 (in-class-pairs-below t, in-class-pairs.Post, cut-in-reads.Asked, cut-in-reads.Learnt) (in-class-pairs-at t) in-class-pairs.Post
+returns t c =
+    let k = c .before .before .before .before in
+    let a = k .before .before .before .before .before .before .before .before .before in
+    never-short (a .args .marks .kind) (a .args .src .now) (length (cleared classPairCells)) (length (cleared classPairBytes)) (pair-cells (a .args .marks .kind) (a .args .src .now) (a .pre .1 .1)) (pair-bytes (a .args .marks .kind) (a .args .src .now) (a .pre .1 .1)) (k .cut-in .ensures)
+
+pub +in-class-pairs-spec : {M : Type 1} → statement M
++in-class-pairs-spec =
+    close μ-in-class-pairs
+    (λ t. in-class-pairs-lts.spec (in-class-pairs-below t, in-class-pairs.Post, cut-in-reads.Asked, cut-in-reads.Learnt) (in-class-pairs-at t) in-class-pairs.Post
+    (λ c. search needs)
+    (in-class-pairs-requires t)
+    (λ c. search needs)
+    (λ c. search needs)
+    (λ c. sym (cleared-length classPairCells))
+    (λ c. sym (cleared-length classPairBytes))
+    (cut-in-requires t)
+    (λ c. c .before .out2 .given)
+    (returns t))
