@@ -5,8 +5,8 @@ use Prim.Native.Nat.{ℕ, _/_, _%_}
 use mathlib.Core.Path.{_≡_, sym, _∙_}
 use mathlib.Core.List.{List}
 use Rattle.promises.specs.Refusals.{Call, answer, Meets, answer-meets}
-use Rattle.subset.specs.Answers.{numberOf, lengthOf, outcome, decoded}
-use Rattle.subset.specs.declared.Answer.{Answer}
+use Rattle.refusals.specs.Answers.{numberOf, lengthOf, outcome, decoded}
+use Rattle.refusals.specs.declared.Answer.{Answer}
 use Rattle.answers.specs.Apart.{same-number, same-len, same-out, answers-apart, numbers-apart}
 
 -- what the contracts of `subset` and `subset_in` say of the answer that is returned for a call, and of the buffer that is left

@@ -5,9 +5,9 @@ use mathlib.Core.List.{List, [], _∷_}
 use native.Mathlib.Omega.{arith}
 use lib.ListN.{getD}
 use Rattle.meaning.specs.Subset.{Outcome}
-use Rattle.subset.specs.Answers.{numberOf, lengthOf, outcome, decoded}
-use Rattle.subset.specs.declared.Answer.{Answer}
-use Rattle.subset.specs.declared.Answer.the-variants.{Kept, BadKind, BadForm, BadLayout, BadGlyphs, BadLookups, LongSource, BadFormat, Malformed, Device, PastRule, Nothing, TooBig, NoRoom, BadJob}
+use Rattle.refusals.specs.Answers.{numberOf, lengthOf, outcome, decoded}
+use Rattle.refusals.specs.declared.Answer.{Answer}
+use Rattle.refusals.specs.declared.Answer.the-variants.{Kept, BadKind, BadForm, BadLayout, BadGlyphs, BadLookups, LongSource, BadFormat, Malformed, Device, PastRule, Nothing, TooBig, NoRoom, BadJob}
 
 -- the answer of a number and a length, by a list in the order of the numbers; past its end any will do
 answerBy : ℕ → ℕ → Answer

@@ -1,4 +1,3 @@
 pub mod Extends
 pub mod Part
-pub mod Closed
 pub mod Stored

@@ -16,7 +16,7 @@ use Rattle.meaning.specs.Matching.{atPlace, match, substitute}
 use Rattle.meaning.specs.Job.{long, bytesOf}
 use Rattle.laws.specs.Left.{words-length}
 use Rattle.laws.specs.SoundGood.{part-sound}
-use Rattle.replaying.specs.Places.{backward, at-place, no-place}
+use Rattle.replay_laws.specs.Places.{backward, at-place, no-place}
 use Rattle.replaying.specs.Asking.{Answer, answerOf, ask}
 use Rattle.replaying.specs.Listed.{entryAt, entriesFrom, listed, sourceOf, lookupOf, lookupsOf}
 use Rattle.replaying.specs.Applying.{lookupAt}

@@ -22,8 +22,8 @@ use Rattle.laws.specs.Through.{Opt}
 use Rattle.laws.specs.Runs.{both}
 use Rattle.laws.specs.SoundGood.{Bytes, part-sound, lowest-none, header-good}
 use Rattle.numbers.specs.Alike.{Alike, holds-alike}
-use Rattle.pair_sets.specs.Formats.{pairSize, placesOf}
-use Rattle.pair_sets.specs.Puts.{Puts}
+use Rattle.pair_places.specs.Formats.{pairSize, placesOf}
+use Rattle.pair_places.specs.Puts.{Puts}
 use Rattle.pair_sets.specs.declared.Formats.{Formats}
 use Rattle.pair_formats.specs.New.{formatIn, AsksFormats, NewFormats, format-alike}
 use Rattle.tried.specs.Tries.{Tries}
@@ -38,17 +38,17 @@ use Rattle.fold.specs.Laid.{Laid}
 use Rattle.fold.specs.Runs.{LaidGlyphs}
 use Rattle.glyph_runs.specs.Runs.{GlyphMap, form-is}
 use Rattle.fold.specs.declared.Map.{Map}
-use Rattle.rule_sets.specs.declared.Maps.{Maps}
-use Rattle.meet.specs.Met.{met, Met, met-count}
-use Rattle.meet_runs.specs.Either.{Most, MeetsGlyphs}
-use Rattle.meet_runs.proofs.Forms.{met-most}
-use Rattle.kept_sets.specs.Sorts.{headerSize, setFaultOf, leftIn, Told, told-pairs, pairs-sound, left-kept, inside-kept}
-use Rattle.kept_sets.specs.Kept.{setAt, keptOf, Ready, keptIn}
-use Rattle.kept_sets.specs.declared.Sort.{Sort}
-use Rattle.kept_sets.specs.declared.Sort.the-variants.{Rules, Ligatures, Pairs}
-use Rattle.kept_table.specs.Table.{tableOf}
+use Rattle.kept_rules.specs.declared.Maps.{Maps}
+use Rattle.meet_ranges.specs.Met.{met, Met, met-count}
+use Rattle.meets.specs.Either.{Most, MeetsGlyphs}
+use Rattle.meets.proofs.Forms.{met-most}
+use Rattle.placed_sets.specs.Sorts.{headerSize, setFaultOf, leftIn, Told, told-pairs, pairs-sound, left-kept, inside-kept}
+use Rattle.placed_sets.specs.Kept.{setAt, keptOf, Ready, keptIn}
+use Rattle.placed_sets.specs.declared.Sort.{Sort}
+use Rattle.placed_sets.specs.declared.Sort.the-variants.{Rules, Ligatures, Pairs}
+use Rattle.kept_header.specs.Table.{tableOf}
 use Rattle.by_glyph.specs.Asked.{SoundSets, behind, MapsLaid, keptFrom}
-use Rattle.kept_table.specs.Answers.{ByCover, Answered, answered-as, answered-said}
+use Rattle.kept_header.specs.Answers.{ByCover, Answered, answered-as, answered-said}
 use Rattle.by_glyph.specs.Whole.{cellsMost}
 use Rattle.by_glyph.specs.PairTables.{pairTable, pairFault, pairsOf, oneMap, AnsweredPairs, sound-pairs, pairs-cut}
 use Rattle.by_glyph.proofs.Smallness.{small-left}

@@ -25,9 +25,9 @@ use Rattle.laws.specs.FitsExactly.{by-glyph-exactly, ligatures-exactly, pairs-e
 use Rattle.laws.specs.FitsPacked.{packed-by-glyph-exactly, packed-ligatures-exactly, packed-pairs-exactly}
 use Rattle.laws.specs.PackedReading.{sharedBlocks, packed-sets}
 use Rattle.glyph_runs.specs.Runs.{GlyphMap, map-good}
-use Rattle.kept_sets.specs.Sorts.{setFaultOf}
-use Rattle.kept_sets.specs.declared.Sort.the-variants.{Rules, Ligatures}
-use Rattle.kept_table.specs.Answers.{ByCover}
+use Rattle.placed_sets.specs.Sorts.{setFaultOf}
+use Rattle.placed_sets.specs.declared.Sort.the-variants.{Rules, Ligatures}
+use Rattle.kept_header.specs.Answers.{ByCover}
 use Rattle.by_glyph.specs.Whole.{glyphContext, ligatureTable}
 use Rattle.by_glyph.specs.PairTables.{pairTable, pairFault}
 

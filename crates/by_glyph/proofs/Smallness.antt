@@ -19,15 +19,15 @@ use Rattle.laws.specs.SoundGood.{Bytes, word-small, rule-set-good, ligature-set
 use Rattle.laws.specs.FitsPacked.{rule-set-fits, ligature-set-fits}
 use Rattle.numbers.specs.Entries.{entriesIn}
 use Rattle.numbers.specs.Leaves.{none-some}
-use Rattle.pair_sets.specs.Pairs.{valueAt, pairsIn, rows, pairSetOf, pairsLeft}
-use Rattle.pair_sets.specs.Formats.{pairSize, placesOf}
-use Rattle.rule_sets.specs.Left.{mapsIn}
-use Rattle.rule_sets.specs.Good.{entries-values, maps-good}
-use Rattle.rule_sets.specs.declared.Maps.{Maps}
-use Rattle.kept_sets.specs.Sorts.{setLeft, leftIn, leftWords}
-use Rattle.kept_sets.specs.Kept.{Small}
-use Rattle.kept_sets.specs.declared.Sort.{Sort}
-use Rattle.kept_sets.specs.declared.Sort.the-variants.{Rules, Ligatures, Pairs}
+use Rattle.pair_fields.specs.Pairs.{valueAt, pairsIn, rows, pairSetOf, pairsLeft}
+use Rattle.pair_places.specs.Formats.{pairSize, placesOf}
+use Rattle.kept_rules.specs.Left.{mapsIn}
+use Rattle.kept_rules.specs.Good.{entries-values, maps-good}
+use Rattle.kept_rules.specs.declared.Maps.{Maps}
+use Rattle.placed_sets.specs.Sorts.{setLeft, leftIn, leftWords}
+use Rattle.placed_sets.specs.Kept.{Small}
+use Rattle.placed_sets.specs.declared.Sort.{Sort}
+use Rattle.placed_sets.specs.declared.Sort.the-variants.{Rules, Ligatures, Pairs}
 
 -- no words, and words
 small-none : Small none

@@ -18,14 +18,14 @@ use Rattle.meaning.specs.Subset.{limit, wordsIn}
 use Rattle.glyph_runs.specs.Runs.{GlyphMap}
 use Rattle.fold.specs.Cells.{Holds}
 use Rattle.numbers.specs.Alike.{holds-alike, set-alike, ligatures-alike}
-use Rattle.rule_sets.specs.Left.{AllInside}
-use Rattle.rule_sets.specs.declared.Maps.{Maps}
-use Rattle.meet.specs.Met.{met}
-use Rattle.kept_sets.specs.Sorts.{headerSize, setFaultOf, setLeft, leftIn, AllBefore}
-use Rattle.kept_sets.specs.Kept.{keptOf}
-use Rattle.kept_sets.specs.declared.Sort.{Sort}
-use Rattle.kept_sets.specs.declared.Sort.the-variants.{Rules, Ligatures}
-use Rattle.kept_table.specs.Table.{tableOf}
+use Rattle.kept_rules.specs.Left.{AllInside}
+use Rattle.kept_rules.specs.declared.Maps.{Maps}
+use Rattle.meet_ranges.specs.Met.{met}
+use Rattle.placed_sets.specs.Sorts.{headerSize, setFaultOf, setLeft, leftIn, AllBefore}
+use Rattle.placed_sets.specs.Kept.{keptOf}
+use Rattle.placed_sets.specs.declared.Sort.{Sort}
+use Rattle.placed_sets.specs.declared.Sort.the-variants.{Rules, Ligatures}
+use Rattle.kept_header.specs.Table.{tableOf}
 use Rattle.by_glyph.specs.KeptIs.{kept-met, rules-as, ligatures-as}
 use Rattle.by_glyph.specs.Whole.{glyphContext, ligatureTable}
 

@@ -15,11 +15,11 @@ use Rattle.meaning.specs.Layout.{offsets, blocks, block, ruleWords, ligatureWor
 use Rattle.meaning.specs.Packed.{firstOfEach, together, setsHeader, header, packed, packedWords}
 use Rattle.meaning.specs.Subset.{wordsIn}
 use Rattle.laws.specs.PackedReading.{sharedOffsets, sharedBlocks, packed-sets}
-use Rattle.area.specs.Closed.{members}
-use Rattle.meet.specs.Met.{met}
-use Rattle.kept_sets.specs.Kept.{setAt, keptOf, wordsOf}
-use Rattle.kept_sets.specs.declared.Sort.the-variants.{Rules, Ligatures}
-use Rattle.kept_table.specs.Table.{setsIn, tableOf}
+use Rattle.handing.specs.Closed.{members}
+use Rattle.meet_ranges.specs.Met.{met}
+use Rattle.placed_sets.specs.Kept.{setAt, keptOf, wordsOf}
+use Rattle.placed_sets.specs.declared.Sort.the-variants.{Rules, Ligatures}
+use Rattle.kept_header.specs.Table.{setsIn, tableOf}
 
 -- a kept set as the words of its layout
 abbrev pub asWords : {A : Type 0} → (A → List ℕ) → List (ℕ × A) → List (ℕ × List ℕ)

@@ -18,21 +18,21 @@ use Rattle.meaning.specs.Subset.{wordsIn}
 use Rattle.fold.specs.Cells.{Holds}
 use Rattle.fold.specs.declared.Map.{Map}
 use Rattle.area.specs.Part.{notes}
-use Rattle.area.specs.Closed.{members}
+use Rattle.handing.specs.Closed.{members}
 use Rattle.numbers.specs.Entries.{entriesIn}
 use Rattle.numbers.specs.Alike.{holds-alike, pairs-alike}
-use Rattle.rule_sets.specs.declared.Maps.{Maps}
-use Rattle.meet.specs.Met.{met}
-use Rattle.pair_sets.specs.Formats.{pairs-left}
+use Rattle.kept_rules.specs.declared.Maps.{Maps}
+use Rattle.meet_ranges.specs.Met.{met}
+use Rattle.pair_places.specs.Formats.{pairs-left}
 use Rattle.pair_sets.specs.declared.Formats.{Formats}
 use Rattle.pair_formats.specs.New.{NewFormats, first-format, second-format}
-use Rattle.kept_sets.specs.Sorts.{setFaultOf, setLeft, leftIn}
-use Rattle.kept_sets.specs.Kept.{wordsOf, Small, Ready, keptIn}
-use Rattle.kept_sets.specs.declared.Sort.{Sort}
-use Rattle.kept_sets.specs.declared.Sort.the-variants.{Pairs}
+use Rattle.placed_sets.specs.Sorts.{setFaultOf, setLeft, leftIn}
+use Rattle.placed_sets.specs.Kept.{wordsOf, Small, Ready, keptIn}
+use Rattle.placed_sets.specs.declared.Sort.{Sort}
+use Rattle.placed_sets.specs.declared.Sort.the-variants.{Pairs}
 use Rattle.tried.specs.declared.Tried.{Tried}
-use Rattle.kept_table.specs.Table.{setsIn, tableOf}
-use Rattle.kept_table.specs.Answers.{Answered}
+use Rattle.kept_header.specs.Table.{setsIn, tableOf}
+use Rattle.kept_header.specs.Answers.{Answered}
 use Rattle.by_glyph.specs.KeptIs.{asWords, kept-met, glyphs-as, sets-in}
 use Rattle.by_glyph.specs.Asked.{SoundSets, keptFrom}
 

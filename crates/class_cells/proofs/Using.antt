@@ -12,8 +12,8 @@ use borrow.Author.Tests.{eq-eqb, ne-eqb}
 use Rattle.meaning.specs.Words.{word, find, isSome}
 use Rattle.meaning.specs.Tables.{fieldCount}
 use Rattle.meaning.specs.Cut.{keepIf, standIn}
-use Rattle.pair_sets.specs.Pairs.{valueAt}
-use Rattle.pair_sets.specs.Formats.{fieldPlace}
+use Rattle.pair_fields.specs.Pairs.{valueAt}
+use Rattle.pair_places.specs.Formats.{fieldPlace}
 use Rattle.class_cells.specs.Cells.{rowUses, rowsUse, cellsUse, formatIn, HasRow, HasCells}
 use Rattle.class_cells.specs.Kept.{cellSize, NewFormats, first-format, second-format}
 

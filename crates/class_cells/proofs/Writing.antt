@@ -7,9 +7,9 @@ use native.Mathlib.Omega.{arith}
 use lib.ListN.{length, take, length-append}
 use Rattle.meaning.specs.Words.{word, find}
 use Rattle.area.specs.Extends.{Extends, Tried, extends-none, extends-more, extends-said, tried-over}
-use Rattle.pair_sets.specs.Pairs.{valueAt, Places, Reads}
-use Rattle.pair_sets.specs.Formats.{placesOf, pairSize, places-inside}
-use Rattle.pair_sets.specs.Puts.{Puts}
+use Rattle.pair_fields.specs.Pairs.{valueAt, Places, Reads}
+use Rattle.pair_places.specs.Formats.{placesOf, pairSize, places-inside}
+use Rattle.pair_places.specs.Puts.{Puts}
 use Rattle.pair_sets.specs.declared.Formats.{Formats}
 use Rattle.class_cells.specs.Cells.{ifKept, rowLeft, rowsLeft, cellsLeft, HasRow, HasCells}
 use Rattle.class_cells.specs.Kept.{cellSize, AsksRows, keptCells, cells-left}

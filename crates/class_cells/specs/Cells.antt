@@ -8,8 +8,8 @@ use lib.ListN.{length}
 use lib.Dec.{eqb}
 use Rattle.meaning.specs.Words.{word, find, isSome}
 use Rattle.meaning.specs.Cut.{keepIf}
-use Rattle.pair_sets.specs.Pairs.{valueAt}
-use Rattle.pair_sets.specs.Formats.{fieldPlace}
+use Rattle.pair_fields.specs.Pairs.{valueAt}
+use Rattle.pair_places.specs.Formats.{fieldPlace}
 
 -- some kept one of n cells from p on, of the second classes from c on, has a value at `place` that is not 0
 unfoldable pub rowUses : List (ℕ × ℕ) → List ℕ → ℕ → ℕ → ℕ → ℕ → ℕ → Bool

@@ -14,8 +14,8 @@ use Rattle.meaning.specs.Layout.{cellWords, rowWords}
 use Rattle.fold.specs.Cells.{Inside}
 use Rattle.fold.specs.declared.Map.{Map}
 use Rattle.numbers.specs.Alike.{Alike}
-use Rattle.pair_sets.specs.Pairs.{valueAt}
-use Rattle.pair_sets.specs.Formats.{fields, fieldPlace, keptPlaces, placesOf, Below, below, value-is, pick-is, map-append}
+use Rattle.pair_fields.specs.Pairs.{valueAt}
+use Rattle.pair_places.specs.Formats.{fields, fieldPlace, keptPlaces, placesOf, Below, below, value-is, pick-is, map-append}
 use Rattle.pair_sets.specs.declared.Formats.{Formats}
 use Rattle.class_cells.specs.Cells.{rowUses, rowsUse, cellsUse, formatIn, ifKept, rowLeft, rowsLeft, cellsLeft, HasCells}
 

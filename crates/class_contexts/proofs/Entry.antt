@@ -8,8 +8,7 @@ use native.Mathlib.Decide.{decLt}
 use native.Mathlib.Nat.{zero-add}
 use native.Mathlib.Numerals.{add-one}
 use native.Mathlib.Omega.{arith}
-use lib.ListN.{length, take}
-use lib.Seq.{length-take-le}
+use lib.ListN.{length}
 use lib.Dec.{eqb}
 use borrow.Author.Tests.{ne-eqb}
 use Rattle.meaning.specs.Words.{word, inside, find, push, mapSome, isSome, keys, member}
@@ -30,19 +29,19 @@ use Rattle.fold.specs.Runs.{LaidGlyphs}
 use Rattle.fold.specs.declared.Map.{Map}
 use Rattle.area.specs.Part.{part, news}
 use Rattle.member_sets.specs.Sound.{inside-is, through-sound}
-use Rattle.meet.specs.Met.{Met, met-news, met-count, met-few}
-use Rattle.meet_runs.specs.Either.{Most, MeetsGlyphs}
+use Rattle.meet_ranges.specs.Met.{Met, met-news, met-count, met-few}
+use Rattle.meets.specs.Either.{Most, MeetsGlyphs}
 use Rattle.glyph_runs.specs.Runs.{GlyphMap, map-good}
 use Rattle.glyph_runs.specs.Found.{entries-few}
-use Rattle.class_lists.specs.Tables.{classesAt, NullOrSound}
-use Rattle.class_maps.specs.SlotWalk.{trim-blocks}
-use Rattle.tried.specs.Tries.{Tries, tries-less}
+use Rattle.class_stretches.specs.Tables.{classesAt, NullOrSound}
+use Rattle.class_spots.specs.SlotWalk.{trim-blocks}
+use Rattle.tried.specs.Tries.{Tries}
 use Rattle.tried.specs.declared.Tried.{Tried}
-use Rattle.class_layouts.specs.Table.{tableInto}
-use Rattle.class_contexts.specs.Meaning.{inputAt, setsOf, SoundContext, rulesMaps, tablesOf, cut-words}
-use Rattle.class_contexts.specs.Cutting.{enoughCells, Sound, Behind, Covers, NotesCovered, Cuts, Least}
+use Rattle.class_finish.specs.Table.{tableInto}
+use Rattle.context_classes.specs.Meaning.{inputAt, setsOf, SoundContext, rulesMaps, tablesOf, cut-words}
+use Rattle.context_classes.specs.Cutting.{enoughCells, Sound, Behind, Covers, NotesCovered, Cuts}
 use Rattle.marks.specs.declared.Marks.{Marks}
-use Rattle.class_tail.specs.declared.Noted.{Noted}
+use Rattle.remade_classes.specs.declared.Noted.{Noted}
 
 -- the part that an offset leads to is sound, if the offset is not null
 slot-sound : (P : ℕ → Type 0) (s : List ℕ) (slot : ℕ) → Opt P (reach (λ (at : ℕ). at) s 0 slot) → (word s slot ≡ 0 → ⊥) → P (word s slot)
@@ -223,15 +222,3 @@ module _ {chained : Bool} {s : List ℕ} {form : ℕ} {glyphs lookups : List ℕ
     -- the cells are as many
     pub noted-cut : (area : List ℕ) (r : Tried) (out after : List ℕ) (made : Outcome) → Tries (length t₁ < enoughCells) (length area < enoughArea) r out after made → Tries (length t₀ < enoughCells) (length area < enoughArea) r out after made
     noted-cut area r out after made h = subst (λ (i : ℕ). Tries (i < enoughCells) (length area < enoughArea) r out after made) (n .size) h
-
--- A front of the scratch that is long enough, or all of it.
-pub front-length : {n c : ℕ} (t : List ℕ) → Least (length t) c n → n ≡ length (take n t)
-front-length {n} t h = sym (length-take-le n t (h .first))
-
-front-short : {n c : ℕ} (t : List ℕ) → Least (length t) c n → length (take n t) < c → length t < c
-front-short {n} {c} t h l = omega (arith, front-length t h, h .one (omega (arith, front-length t h)))
-
-pub front-tries : {n k : ℕ} (t area : List ℕ) (r : Tried) (out after : List ℕ) (made : Outcome) → Least (length t) enoughCells n → Least (length area) enoughArea k
-    → Tries (length (take n t) < enoughCells) (length (take k area) < enoughArea) r out after made → Tries (length t < enoughCells) (length area < enoughArea) r out after made
-front-tries {n} {k} t area r out after made h g =
-    tries-less (length (take n t) < enoughCells) (length (take k area) < enoughArea) (length t < enoughCells) (length area < enoughArea) r out after made (front-short t h) (front-short area g)

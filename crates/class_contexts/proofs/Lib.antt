@@ -1,4 +1,1 @@
-pub mod Smallness
-pub mod Siding
-pub mod Cutting
 pub mod Entry

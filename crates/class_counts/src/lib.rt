@@ -1,30 +1,23 @@
 // The header of a pair table by class, with its cells, checked: where neither class table is null, the first class of each covered glyph and the second class of any glyph are below their counts.
 // Class tables are gone over by their stretches, a range or an id of an array each, never glyph by glyph, and a coverage is searched only for those whose class is not below its count.
-use halving::reach;
+use covered_between::Stretch;
+use covered_between::past;
+use faults::Fault;
 use pair_pos::pair_size;
 use view::header;
 use view::subtable_place;
-use wire::Fault;
 use wire::inside;
 use wire::word_at;
 ghost use mathlib.Core.Path.{_≡_};
-ghost use mathlib.Core.Bool.{true, _&&_, not};
-ghost use Prim.Native.Nat.{_+_, _*_, _≤_, _<_};
+ghost use mathlib.Core.Bool.{true, _&&_};
+ghost use Prim.Native.Nat.{_+_, _*_, _<_};
 ghost use lib.ListN.{length, getD};
 ghost use lib.Dec.{ltb};
-ghost use Rattle.meaning.specs.Words.{words, triples, every};
-ghost use Rattle.meaning.specs.Parts.{rangeGlyphs, coverage, coverageSound, classes, classesSound, classOf};
+ghost use Rattle.meaning.specs.Words.{every};
+ghost use Rattle.meaning.specs.Parts.{coverage, coverageSound, classes, classesSound, classOf};
 ghost use Rattle.meaning.specs.Fault.{firstBelow, secondBelow, classesBelow, goodFormats};
-ghost use Rattle.coverage_index.specs.Index.{SoundList, SoundRanges};
-ghost use Rattle.class_counts.specs.Stretches.{stretches, anyBetween};
-ghost use Rattle.class_counts.specs.Header.{goodHeader};
-
-// Glyphs in a row that a class table gives one class.
-struct Stretch {
-    first: usize,
-    last: usize,
-    class: usize,
-}
+ghost use Rattle.covered_between.specs.Stretches.{stretches};
+ghost use Rattle.covered_between.specs.Header.{goodHeader};
 
 // How many stretches the class table at `at` has: ids of its array, or ranges.
 fn count(src: &[u8], at: usize) -> usize
@@ -58,42 +51,6 @@ fn stretch_at(src: &[u8], at: usize, i: usize) -> Stretch
     }
 }
 
-// Whether one of the `n` glyphs that are listed from `at` on is from `first` to `last`: the first that is not below decides.
-fn lists_between(src: &[u8], at: usize, n: usize, first: usize, last: usize) -> bool
-    requires { ⌜ SoundList (now src) at n × (at < 65540) ⌝ }
-    ensures { λ r. ⌜ r ≡ anyBetween first last (words (now (src .entry)) at n) ⌝ }
-{
-    let i = reach(src, at, 2, n, 0, 0, first);
-    if n <= i {
-        return false;
-    }
-    word_at(src, at + 2 * i) <= last
-}
-
-// Whether one of the glyphs that the `n` ranges from `at` on cover is from `first` to `last`: the first range that does not end below decides.
-fn ranges_between(src: &[u8], at: usize, n: usize, first: usize, last: usize) -> bool
-    requires { ⌜ SoundRanges (now src) at n × (at < 65540) × (first ≤ last) ⌝ }
-    ensures { λ r. ⌜ r ≡ anyBetween first last (rangeGlyphs (triples (now (src .entry)) at n)) ⌝ }
-{
-    let i = reach(src, at + 2, 6, n, 0, 0, first);
-    if n <= i {
-        return false;
-    }
-    word_at(src, at + 6 * i) <= last
-}
-
-// Whether a glyph of the sound coverage at `at` is from `first` to `last`.
-fn covers_between(src: &[u8], at: usize, first: usize, last: usize) -> bool
-    requires { ⌜ (coverageSound (now src) at ≡ true) × (at < 65536) × (first ≤ last) ⌝ }
-    ensures { λ r. ⌜ r ≡ anyBetween first last (coverage (now (src .entry)) at) ⌝ }
-{
-    let n = word_at(src, at + 2);
-    if word_at(src, at) == 1 {
-        return lists_between(src, at + 4, n, first, last);
-    }
-    ranges_between(src, at + 4, n, first, last)
-}
-
 // Whether each class that the sound class table at `at` lists is below `n`.
 fn listed_below(src: &[u8], at: usize, n: usize) -> bool
     requires { ⌜ (classesSound (now src) at ≡ true) × (at < 65536) × (0 < n) ⌝ }
@@ -108,17 +65,6 @@ fn listed_below(src: &[u8], at: usize, n: usize) -> bool
         i += 1;
     }
     true
-}
-
-// Whether a stretch is past the count `n`: its class is not below, and a glyph of the sound coverage at `cover` is in it.
-fn past(src: &[u8], cover: usize, s: Stretch, n: usize) -> bool
-    requires { ⌜ (coverageSound (now src) cover ≡ true) × (cover < 65536) × (s .first ≤ s .last) ⌝ }
-    ensures { λ r. ⌜ r ≡ not (ltb (s .class) n) && anyBetween (s .first) (s .last) (coverage (now (src .entry)) cover) ⌝ }
-{
-    if s.class < n {
-        return false;
-    }
-    covers_between(src, cover, s.first, s.last)
 }
 
 // Whether the class of each glyph of the sound coverage at `cover` is below `n` in the sound class table at `at`.
@@ -153,7 +99,7 @@ fn first_below(src: &[u8], n: usize) -> bool
         return true;
     };
     if n == 0 {
-        return coverage::count(src, cover) == 0;
+        return coverage_glyphs::count(src, cover) == 0;
     }
     covered_below(src, cover, at, n)
 }

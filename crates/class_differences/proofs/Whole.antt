@@ -19,7 +19,7 @@ use Rattle.laws.specs.SoundGood.{Bytes, part-sound, header-good}
 use Rattle.coverage_index.specs.Index.{indexOf}
 use Rattle.differences.specs.Content.{Says, ruleSays, classRuns?, setHolds, byClass, Content, content}
 use Rattle.differences.specs.Entries.{sameSays, each, beside, ruleEntries, firstEntries, differences}
-use Rattle.differences.specs.Ranks.{each-ranks}
+use Rattle.difference_laws.specs.Ranks.{each-ranks}
 use Rattle.first_glyphs.specs.First.{coverOf, soundCover, sound-cover, bind-same, cover-words, atGlyph, first-ids}
 use Rattle.rule_rows.specs.Rows.{sideOf}
 use Rattle.rule_says.specs.declared.Shape.{Shape}
@@ -27,7 +27,7 @@ use Rattle.rule_says.specs.Said.{saysBy}
 use Rattle.set_numbers.specs.Sets.{codesOf, AllNumbered, SetsNumbered, Told}
 use Rattle.set_differences.specs.Gathered.{numbersAt}
 use Rattle.set_differences.specs.Said.{place-says, glyph-told}
-use Rattle.class_lists.specs.Tables.{tableAt}
+use Rattle.class_stretches.specs.Tables.{tableAt}
 use Rattle.class_tables.specs.Contexts.{backAt, inputAt, aheadAt, countAt, setAt, setPlace, rulesAt, SoundTables, TablesNumbered, classSays, classSaysBy}
 use Rattle.class_tables.proofs.Telling.{class-says-tell, code-says}
 use Rattle.class_tables.proofs.Numbering.{class-table, tables-sound, class-set}

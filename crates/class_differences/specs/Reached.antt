@@ -13,7 +13,7 @@ use Rattle.differences.specs.Entries.{beside}
 use Rattle.first_glyphs.specs.First.{coverOf, soundCover}
 use Rattle.rule_says.specs.declared.Shape.{Shape}
 use Rattle.set_differences.specs.Gathered.{numbersAt}
-use Rattle.class_lists.specs.Tables.{NullOrSound}
+use Rattle.class_stretches.specs.Tables.{NullOrSound}
 use Rattle.class_tables.specs.Contexts.{inputAt, countAt, setPlace}
 
 -- a sound context by class, plain or chained

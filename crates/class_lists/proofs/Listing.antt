@@ -20,11 +20,11 @@ use Rattle.area.specs.Stored.{part-same, part-store}
 use Rattle.glyph_runs.specs.Runs.{GlyphMap, runCount, oldOf, newOf, IsRun, Past, Reached, map-good}
 use Rattle.glyph_runs.specs.Found.{entries-few, run-is, apart, run-found, none-found}
 use Rattle.glyph_runs.specs.declared.Run.{Run}
-use Rattle.class_lists.specs.Tables.{classesAt, NullOrSound}
-use Rattle.class_lists.specs.Stretches.{Hint, Found}
+use Rattle.class_stretches.specs.Tables.{classesAt, NullOrSound}
+use Rattle.class_stretches.specs.Stretches.{Hint, Found}
 use Rattle.class_lists.specs.From.{fromOld, from-first, from-low, from-few, from-gap, from-end, from-one, from-steps}
 use Rattle.class_lists.specs.Listed.{classed, holdsZero, Listed, Greater, rising, PutRun, ToFill, Filled, Passes}
-use Rattle.class_lists.specs.declared.Stretch.{Stretch}
+use Rattle.class_stretches.specs.declared.Stretch.{Stretch}
 use Rattle.class_lists.specs.declared.Place.{Place}
 
 -- Cells in a row.

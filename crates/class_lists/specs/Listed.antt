@@ -14,7 +14,7 @@ use Rattle.fold.specs.Cells.{Kept}
 use Rattle.area.specs.Part.{notes}
 use Rattle.glyph_runs.specs.Runs.{GlyphMap, Reached}
 use Rattle.class_lists.specs.From.{fromOld}
-use Rattle.class_lists.specs.declared.Stretch.{Stretch}
+use Rattle.class_stretches.specs.declared.Stretch.{Stretch}
 use Rattle.class_lists.specs.declared.Place.{Place}
 use Rattle.class_lists.specs.declared.ClassList.{ClassList}
 

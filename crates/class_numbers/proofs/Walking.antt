@@ -12,10 +12,10 @@ use lib.Seq.{getD-set-same, getD-set-other}
 use lib.Dec.{eqb, leb, ltb}
 use borrow.Author.Tests.{eqb-true, eqb-false, eq-eqb, ne-eqb, le-leb, lt-leb, lt-ltb, le-ltb, ltb-true, ltb-false}
 use Rattle.meaning.specs.Parts.{classIn}
-use Rattle.differences.specs.ClassNumbers.{lowest, strays, classNumber, lowest-within, lowest-held, unheld-stays}
-use Rattle.class_lists.specs.declared.Stretch.{Stretch}
-use Rattle.class_lists.specs.Tables.{tableAt}
-use Rattle.class_lists.specs.Stretches.{Hint, Found}
+use Rattle.difference_laws.specs.ClassNumbers.{lowest, strays, classNumber, lowest-within, lowest-held, unheld-stays}
+use Rattle.class_stretches.specs.declared.Stretch.{Stretch}
+use Rattle.class_stretches.specs.Tables.{tableAt}
+use Rattle.class_stretches.specs.Stretches.{Hint, Found}
 use Rattle.class_lists.specs.Elsewhere.{Elsewhere, elsewhere-all, elsewhere-set, elsewhere-more, elsewhere-wide}
 use Rattle.class_numbers.specs.Numbered.{Holding, Cleared, firstPut, Lowest, lowestIn, compared, markedWith, Marked, ClassesNumbered}
 

@@ -7,10 +7,10 @@ use mathlib.Core.List.{List}
 use lib.ListN.{getD, set}
 use lib.Dec.{leb, eqb}
 use Rattle.meaning.specs.Parts.{classIn}
-use Rattle.differences.specs.ClassNumbers.{lowest, strays, classNumber}
-use Rattle.class_lists.specs.declared.Stretch.{Stretch}
-use Rattle.class_lists.specs.Tables.{tableAt}
-use Rattle.class_lists.specs.Stretches.{Hint}
+use Rattle.difference_laws.specs.ClassNumbers.{lowest, strays, classNumber}
+use Rattle.class_stretches.specs.declared.Stretch.{Stretch}
+use Rattle.class_stretches.specs.Tables.{tableAt}
+use Rattle.class_stretches.specs.Stretches.{Hint}
 use Rattle.class_lists.specs.Elsewhere.{Elsewhere}
 
 -- the glyphs from x to the last of the stretch r, if there are any, hold its class, and the search for a later one may begin with its next range

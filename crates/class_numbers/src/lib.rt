@@ -2,15 +2,15 @@
 // Both tables are walked by stretches of ids that hold one class, so that a walk costs their ranges, not the 65,536 ids.
 use cells::cell;
 use cells::put_cell;
-use class_lists::Stretch;
-use class_lists::stretch_from;
+use class_stretches::Stretch;
+use class_stretches::stretch_from;
 ghost use mathlib.Core.Path.{_≡_};
 ghost use mathlib.Core.Bool.{cond};
 ghost use Prim.Native.Nat.{_+_, _≤_, _<_};
 ghost use lib.ListN.{length};
 ghost use lib.Dec.{ltb};
 ghost use Rattle.meaning.specs.Parts.{classIn};
-ghost use Rattle.class_lists.specs.Tables.{tableAt, NullOrSound};
+ghost use Rattle.class_stretches.specs.Tables.{tableAt, NullOrSound};
 ghost use Rattle.class_lists.specs.Elsewhere.{Elsewhere};
 ghost use Rattle.class_numbers.specs.Numbered.{Holding, Cleared, firstPut, Lowest, lowestIn, compared, Marked, ClassesNumbered};
 

@@ -8,17 +8,17 @@ use native.Mathlib.Omega.{arith}
 use lib.ListN.{length, take, length-append}
 use Rattle.meaning.specs.Cut.{trim}
 use Rattle.room.specs.Laid.{enoughArea}
-use Rattle.repeats.specs.Shared.{blocksIn}
-use Rattle.repeats.specs.Book.{bookCells, packs, inBook, Booked}
-use Rattle.rule_sets.specs.Left.{mapsIn}
-use Rattle.rule_sets.specs.declared.Maps.{Maps}
-use Rattle.class_maps.specs.SlotWalk.{Slotting, slotting-all, slotting-said, slotting-null, slotting-set, slotting-end}
-use Rattle.class_slots.specs.Sets.{setLeft, wordsIn}
-use Rattle.class_slots.specs.Slots.{Noted, setsFull}
-use Rattle.class_slots.specs.Placing.{Gathered, PlacedSet}
-use Rattle.class_slots.specs.declared.Turn.{Turn}
-use Rattle.class_slots.proofs.Halves.{block-most, blocks-onward}
-use Rattle.class_slots.proofs.Gathering.{gathered-all}
+use Rattle.known_blocks.specs.Shared.{blocksIn}
+use Rattle.known_blocks.specs.Book.{bookCells, packs, inBook, Booked}
+use Rattle.kept_rules.specs.Left.{mapsIn}
+use Rattle.kept_rules.specs.declared.Maps.{Maps}
+use Rattle.class_spots.specs.SlotWalk.{Slotting, slotting-all, slotting-said, slotting-null, slotting-set, slotting-end}
+use Rattle.class_spots.specs.Sets.{setLeft, wordsIn}
+use Rattle.class_spots.specs.Slots.{Noted, setsFull}
+use Rattle.class_spots.specs.Placing.{Gathered, PlacedSet}
+use Rattle.class_spots.specs.declared.Turn.{Turn}
+use Rattle.class_spots.proofs.Halves.{block-most, blocks-onward}
+use Rattle.class_spots.proofs.Gathering.{gathered-all}
 
 -- a slot's block takes its words, among others
 one-most : (packed : Bool) (done : List (Option (List ℕ))) (o : Option (List ℕ)) (rest : List (Option (List ℕ))) → length (wordsIn o) ≤ length (blocksIn packed (done ++ (o ∷ rest)))

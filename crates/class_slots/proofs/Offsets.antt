@@ -12,11 +12,11 @@ use Rattle.laws.specs.Stands.{All, Word, flat-length}
 use Rattle.laws.specs.Written.{Wrote}
 use Rattle.area.specs.Extends.{wrote-extends}
 use Rattle.area.specs.Part.{part}
-use Rattle.area.proofs.Moved.{part-behind}
+use Rattle.handing.proofs.Moved.{part-behind}
 use Rattle.numbers.proofs.Fronts.{extends-part}
-use Rattle.repeats.specs.Shared.{offsetsIn, blocksIn}
-use Rattle.class_slots.specs.Slots.{halvesIn, settled, Noted}
-use Rattle.class_slots.proofs.Halves.{offsets-many, halves-many, settled-offsets, offsets-take}
+use Rattle.known_blocks.specs.Shared.{offsetsIn, blocksIn}
+use Rattle.class_spots.specs.Slots.{halvesIn, settled, Noted}
+use Rattle.class_spots.proofs.Halves.{offsets-many, halves-many, settled-offsets, offsets-take}
 
 -- The offsets of the first n slots stand from `slots` on, counted as if the first set stood at q, and the blocks of all from `first` up to `end`.
 pub record Placed (packed : Bool) (slots first q n : ℕ) (bs : List (Option (List ℕ))) (area : List ℕ) (end : ℕ) : Type 0 where

@@ -13,25 +13,25 @@ use Rattle.meaning.specs.Fault.{ruleFault, setFault}
 use Rattle.meaning.specs.Cut.{cutSet}
 use Rattle.meaning.specs.Layout.{block, ruleWords, setWords}
 use Rattle.room.specs.Laid.{enoughArea}
-use Rattle.repeats.specs.Shared.{blocksIn}
-use Rattle.repeats.specs.Book.{bookCells, packs, Begun}
+use Rattle.known_blocks.specs.Shared.{blocksIn}
+use Rattle.known_blocks.specs.Book.{bookCells, packs, Begun}
 use Rattle.bits.specs.Bits.{marked}
 use Rattle.fold.specs.Cells.{folded}
 use Rattle.fold.specs.Found.{foundOf, Answers}
 use Rattle.fold.specs.declared.Map.{Map}
 use Rattle.fold.specs.declared.Found.{Found}
 use Rattle.fold.specs.declared.Found.the-variants.{New, Gone}
-use Rattle.rule_sets.specs.Left.{mapsIn}
-use Rattle.rule_sets.specs.declared.Maps.{Maps}
-use Rattle.class_maps.specs.Present.{topOf, top-small, present, present-in}
-use Rattle.class_maps.specs.SlotWalk.{slotsFrom, walk-all, walk-one, walk-none, walk-end}
-use Rattle.class_slots.specs.Sets.{slotsAt, slots-near, countAt, setPlace, setLeft, SetSound, Asked, place-slot}
-use Rattle.class_slots.specs.Slots.{setsFull, markedOf, setsIn, slotBlocks, Ready, WroteSlots, blocks-many, present-few, marked-member}
-use Rattle.class_slots.specs.Placing.{SetAsked}
-use Rattle.class_slots.specs.declared.Classes.{Classes}
-use Rattle.class_slots.specs.declared.Slots.{Slots}
-use Rattle.class_slots.proofs.Noting.{noted-moved}
-use Rattle.class_slots.proofs.Gathering.{gathered-count}
+use Rattle.kept_rules.specs.Left.{mapsIn}
+use Rattle.kept_rules.specs.declared.Maps.{Maps}
+use Rattle.class_ranks.specs.Present.{topOf, top-small, present, present-in}
+use Rattle.class_spots.specs.SlotWalk.{slotsFrom, walk-all, walk-one, walk-none, walk-end}
+use Rattle.class_spots.specs.Sets.{slotsAt, slots-near, countAt, setPlace, setLeft, SetSound, Asked, place-slot}
+use Rattle.class_spots.specs.Slots.{setsFull, markedOf, setsIn, slotBlocks, Ready, WroteSlots, blocks-many, present-few, marked-member}
+use Rattle.class_spots.specs.Placing.{SetAsked}
+use Rattle.class_spots.specs.declared.Classes.{Classes}
+use Rattle.class_spots.specs.declared.Slots.{Slots}
+use Rattle.class_spots.proofs.Noting.{noted-moved}
+use Rattle.class_spots.proofs.Gathering.{gathered-count}
 use Rattle.class_slots.proofs.Filling.{Filling, filling-all, filling-said, filling-few, filling-end}
 
 -- a class has an entry just if it is found

@@ -18,13 +18,13 @@ use Rattle.laws.specs.PartsBack.{Classes}
 use Rattle.laws.specs.SoundGood.{bytes-all, classes-good}
 use Rattle.differences.specs.Content.{ruleSays, oneGlyph, classRuns?}
 use Rattle.differences.specs.Entries.{sameList, sameTwo, sameSays}
-use Rattle.differences.specs.Equal.{Tells, tells-two, tells-list}
-use Rattle.differences.specs.Classes.{same-class}
-use Rattle.differences.specs.ClassNumbers.{classNumber, own-numbers, class-content}
+use Rattle.difference_laws.specs.Equal.{Tells, tells-two, tells-list}
+use Rattle.difference_laws.specs.Classes.{same-class}
+use Rattle.difference_laws.specs.ClassNumbers.{classNumber, own-numbers, class-content}
 use Rattle.rule_rows.specs.Rows.{sideOf, numberBy}
 use Rattle.rule_says.specs.declared.Shape.{Shape}
 use Rattle.rule_says.specs.Said.{numbered, saysAt, baseOf, saysBy, lowest}
-use Rattle.class_lists.specs.Tables.{tableAt, NullOrSound, null-table, table-there}
+use Rattle.class_stretches.specs.Tables.{tableAt, NullOrSound, null-table, table-there}
 use Rattle.class_numbers.specs.Numbered.{ClassesNumbered}
 use Rattle.class_tables.specs.Contexts.{backAt, inputAt, aheadAt, SoundTables, TablesNumbered, classSays, classSaysBy}
 

@@ -7,7 +7,7 @@ use Rattle.meaning.specs.Words.{word}
 use Rattle.meaning.specs.Parts.{classIn}
 use Rattle.meaning.specs.Tables.{Rule, rule, ruleSet}
 use Rattle.differences.specs.Content.{Says, ruleSays, classRuns?}
-use Rattle.class_lists.specs.Tables.{tableAt, NullOrSound}
+use Rattle.class_stretches.specs.Tables.{tableAt, NullOrSound}
 use Rattle.class_numbers.specs.Numbered.{ClassesNumbered}
 use Rattle.rule_rows.specs.Rows.{sideOf}
 

@@ -1,11 +1,11 @@
 // Contexts by class: the set that a glyph reaches, and the classes of two contexts, numbered. The class tables are those of backtrack, input and lookahead; in a plain context those of backtrack and lookahead are null.
-use class_lists::class_of;
 use class_numbers::number_classes;
+use class_stretches::class_of;
 use wire::word_at;
 ghost use mathlib.Core.Path.{_≡_};
 ghost use Prim.Native.Nat.{_≤_, _<_};
 ghost use lib.ListN.{length};
-ghost use Rattle.class_lists.specs.Tables.{NullOrSound};
+ghost use Rattle.class_stretches.specs.Tables.{NullOrSound};
 ghost use Rattle.class_lists.specs.Elsewhere.{Elsewhere};
 ghost use Rattle.class_tables.specs.Contexts.{backAt, inputAt, aheadAt, countAt, setPlace, SoundTables, TablesNumbered};
 

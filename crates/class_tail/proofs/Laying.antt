@@ -16,21 +16,21 @@ use Rattle.area.specs.Extends.{Keeps, Extends, Tried, keeps-extends, extends-mo
 use Rattle.area.specs.Part.{part, part-length, news}
 use Rattle.area.specs.Stored.{extends-store}
 use Rattle.numbers.proofs.Fronts.{part-extends}
-use Rattle.repeats.specs.Shared.{offsetsIn, blocksIn}
-use Rattle.repeats.specs.Book.{bookCells, packs, Begun}
+use Rattle.known_blocks.specs.Shared.{offsetsIn, blocksIn}
+use Rattle.known_blocks.specs.Book.{bookCells, packs, Begun}
 use Rattle.class_lists.specs.Elsewhere.{Elsewhere, elsewhere-all, elsewhere-more}
-use Rattle.class_slots.specs.Slots.{settled, Noted}
-use Rattle.class_slots.specs.Placing.{Gathered}
-use Rattle.class_slots.specs.declared.Turn.{Turn}
-use Rattle.class_slots.proofs.Halves.{offsets-many}
-use Rattle.class_slots.proofs.Gathering.{gathered-all, gathered-count}
+use Rattle.class_spots.specs.Slots.{settled, Noted}
+use Rattle.class_spots.specs.Placing.{Gathered}
+use Rattle.class_spots.specs.declared.Turn.{Turn}
+use Rattle.class_spots.proofs.Halves.{offsets-many}
+use Rattle.class_spots.proofs.Gathering.{gathered-all, gathered-count}
 use Rattle.class_slots.proofs.Offsets.{offsets-back, noted-settled}
-use Rattle.class_tail.specs.Made.{newTable, OldIn, old-stays, MakeAsked}
-use Rattle.class_tail.specs.Tail.{coverOf, tableBlocks, cover-short, tablesFit, tailOffsets, TailIn, Touches, BlockAsked, PlacedTable, NotedTables, LaidTables, Lays, Places, TablesAsked}
-use Rattle.class_tail.specs.declared.OldTable.{OldTable}
-use Rattle.class_tail.specs.declared.Tail.{Tail}
-use Rattle.class_tail.proofs.Fitting.{none-fits, front-fits, halves-fit, tail-fits, tail-fit}
-use Rattle.class_tail.proofs.Placing.{keeps-store, touches-none, touches-next, sets-again}
+use Rattle.remade_classes.specs.Made.{newTable, OldIn, old-stays, MakeAsked}
+use Rattle.remade_classes.specs.Tail.{coverOf, tableBlocks, cover-short, tablesFit, tailOffsets, TailIn, Touches, BlockAsked, PlacedTable, NotedTables, LaidTables, Lays, Places, TablesAsked}
+use Rattle.remade_classes.specs.declared.OldTable.{OldTable}
+use Rattle.remade_classes.specs.declared.Tail.{Tail}
+use Rattle.new_class_tables.proofs.Fitting.{none-fits, front-fits, halves-fit, tail-fits, tail-fit}
+use Rattle.new_class_tables.proofs.Placing.{keeps-store, touches-none, touches-next, sets-again}
 
 -- what the class tables are, by the places that stand for them in the book
 abbrev pub leftOf : List (Option (List ℕ)) → ℕ → Option (List ℕ)

@@ -1,4 +1,1 @@
-pub mod Fitting
-pub mod Placing
 pub mod Laying
-pub mod Making

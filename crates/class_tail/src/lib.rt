@@ -1,133 +1,30 @@
 // What follows the sets of format 2 of contexts and chained contexts, written into the area: the coverage, from what cells hold, and the class tables, each made again from the source when it is written.
 use area::over;
 use area::put;
-use area::write_classes;
 use area::write_cover;
-use class_lists::ClassList;
-use class_lists::list_classes;
-use class_maps::new_entries;
-use class_slots::Turn;
-use class_slots::place_spot;
 use class_slots::settle_slots;
-use class_slots::slots_at;
-use fold::Map;
-use repeats::begin;
+use class_spots::Turn;
+use class_spots::slots_at;
+use known_blocks::begin;
+use new_class_tables::write_table;
+use remade_classes::OldTable;
+use remade_classes::Tail;
+use remade_classes::make_table;
 use room::HIGHEST;
-use room::LONGEST;
 ghost use mathlib.Core.Path.{_≡_};
 ghost use mathlib.Core.Bool.{true};
-ghost use Prim.Native.Nat.{_+_, _≤_, _<_};
+ghost use Prim.Native.Nat.{_≤_, _<_};
 ghost use lib.ListN.{length};
 ghost use Rattle.meaning.specs.Maps.{glyphEntries};
-ghost use Rattle.repeats.specs.Book.{bookCells, packs};
-ghost use Rattle.glyph_runs.specs.Runs.{GlyphMap};
-ghost use Rattle.class_lists.specs.Tables.{classesAt, NullOrSound};
+ghost use Rattle.known_blocks.specs.Book.{bookCells, packs};
 ghost use Rattle.class_lists.specs.Elsewhere.{Elsewhere};
-ghost use Rattle.class_tail.specs.Made.{ListedFront, newTable, tableBlock, TableIn, MakeAsked, Made};
-ghost use Rattle.class_tail.specs.Tail.{coverOf, tableBlocks, TailIn, BlockAsked, PlacedTable, NotedTables, LaidTables, Lays, Places, TablesAsked};
-
-// Cells in a row: where the first stands, and how many there are.
-pub struct Noted {
-    pub at: usize,
-    pub len: usize,
-}
-
-// A class table of the source: where it stands, which is 0 if it is null, and its class map in cells.
-pub struct OldTable {
-    pub at: usize,
-    pub map: Map,
-}
-
-// A new class table: where the old one stands in the source, which is 0 if it is null, and the cells that its entries are noted in.
-struct NewTable {
-    old: usize,
-    list: usize,
-    len: usize,
-}
-
-// What follows the sets, and what it takes to write it: whether the context is chained, and the form of the glyph map; the glyphs of the new coverage, which are noted in cells; and the class tables, whose maps stand behind the notes. The cells before the notes are free once the sets are written.
-pub struct Tail {
-    pub chained: bool,
-    pub form: usize,
-    pub cover: Noted,
-    pub back: OldTable,
-    pub input: OldTable,
-    pub ahead: OldTable,
-}
+ghost use Rattle.remade_classes.specs.Made.{newTable, MakeAsked};
+ghost use Rattle.remade_classes.specs.Tail.{coverOf, tableBlocks, TailIn, BlockAsked, PlacedTable, NotedTables, LaidTables, Lays, Places, TablesAsked};
 
 // Where a class table goes to, and the gap by which its offset is less than its place.
 struct Goal {
     turn: Turn,
     gap: usize,
-}
-
-// The classes of the retained glyphs in the class table at `at`, which may be null, at 0, in the first `front` cells, if there is room for them all; the other cells are as before.
-pub fn list_front(
-    src: &[u8],
-    at: usize,
-    glyphs: &[u8],
-    form: usize,
-    t: &mut [u32],
-    front: usize,
-) -> ClassList
-    requires { ⌜ NullOrSound (now src) at × GlyphMap form (now glyphs) × (front ≤ length (now t)) ⌝ }
-    ensures { λ r. ⌜ ListedFront (classesAt (now (src .entry)) at) (glyphEntries form (now (glyphs .entry))) (now (t .entry)) (now (t .exit)) front r ⌝ }
-{
-    list_classes(src, at, glyphs, form, &mut t[..front], 0)
-}
-
-// The new class table of an old one, noted in the first `front` cells.
-fn make_table(
-    src: &[u8],
-    old: OldTable,
-    glyphs: &[u8],
-    form: usize,
-    t: &mut [u32],
-    front: usize,
-) -> NewTable
-    requires { ⌜ MakeAsked (now src) old (now glyphs) form (now t) front ⌝ }
-    ensures { λ r. ⌜ Made (glyphEntries form (now (glyphs .entry))) (now (src .entry)) (old .at) (now (t .entry)) (now (t .exit)) front r ⌝ }
-{
-    let l = list_front(src, old.at, glyphs, form, t, front);
-    let len = new_entries(t, 0, l.len, old.map);
-    NewTable {
-        old: old.at,
-        list: 0,
-        len,
-    }
-}
-
-// A new class table behind those so far: its slot is noted, as that of the earlier one that is equal, if the book has one. The place after all; a null table stays null. Past the area where there is no room, or where the table's offset, its place less the gap, or its count doesn't fit a word.
-fn write_table(
-    t: &[u32],
-    table: NewTable,
-    area: &mut [u8],
-    book: &mut [u32],
-    turn: Turn,
-    gap: usize,
-) -> usize
-    requires { ⌜ TableIn (now t) table × BlockAsked (tableBlock (now t) table) turn gap (now area) (now book) ⌝ }
-    ensures { λ r. ⌜ PlacedTable (tableBlock (now (t .entry)) table) turn gap (now (area .entry)) (now (book .entry)) (now (area .exit)) (now (book .exit)) r ⌝ }
-{
-    if table.old == 0 {
-        put(area, turn.slot, 0);
-        return turn.pos;
-    }
-    let q = write_classes(t, table.list, table.len, area, turn.pos);
-    if area.len() < q {
-        return q;
-    }
-    if turn.pos + LONGEST < q {
-        return over(area);
-    }
-    let end = place_spot(area, book, turn, q);
-    if end == turn.pos {
-        return end;
-    }
-    if HIGHEST < turn.pos - gap {
-        return over(area);
-    }
-    end
 }
 
 // The new class table of an old one, made and written so.

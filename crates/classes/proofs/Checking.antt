@@ -10,8 +10,8 @@ use Rattle.meaning.specs.Words.{word, triples, inside}
 use Rattle.meaning.specs.Parts.{rangesAscend, classesSound}
 use Rattle.meaning.specs.Fault.{partFault, classesFault}
 use Rattle.laws.specs.Left.{triples-left, triples-all, triples-none}
-use Rattle.wire.specs.Fault.{faultOf}
-use Rattle.wire.specs.declared.Fault.the-variants.{At, Sound}
+use Rattle.faults.specs.Fault.{faultOf}
+use Rattle.faults.specs.declared.Fault.the-variants.{At, Sound}
 use Rattle.classes.specs.Formats.{arraySound}
 
 -- bytes after others lie inside as the others do with them

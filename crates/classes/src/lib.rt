@@ -1,5 +1,5 @@
 // Class tables: checked.
-use wire::Fault;
+use faults::Fault;
 use wire::inside;
 use wire::word_at;
 ghost use mathlib.Core.Path.{_≡_};
@@ -8,7 +8,7 @@ ghost use Prim.Native.Nat.{_+_, _*_, _<_};
 ghost use Rattle.meaning.specs.Words.{triples};
 ghost use Rattle.meaning.specs.Parts.{rangesAscend, classesSound};
 ghost use Rattle.meaning.specs.Fault.{classesFault};
-ghost use Rattle.wire.specs.Fault.{faultOf};
+ghost use Rattle.faults.specs.Fault.{faultOf};
 ghost use Rattle.classes.specs.Formats.{arraySound};
 
 // Where the class table at `at` is faulty: at its start, or nowhere.

@@ -20,13 +20,13 @@ use Rattle.differences.specs.Entries.{Entry, differences}
 use Rattle.differences.specs.Compare.{entryWords, comparedKind, comparedFormat, Refusal, malformed, tableRefusal, orElse, refusal, listBytes, listInto, answerTo, compare}
 use Rattle.listing.specs.Listed.{words-length}
 use Rattle.listing.specs.Laid.{LaidList}
-use Rattle.compare.specs.Answers.{numberOf, lengthOf, comparedOf, decoded, refusalOf}
-use Rattle.compare.specs.declared.Compared.{Compared}
-use Rattle.compare.specs.declared.Compared.the-variants.{Listed, BadKind, LongSource, BadFormat, Malformed, Device, NoRoom}
-use Rattle.compare.specs.Passes.{Passes}
-use Rattle.compare.specs.declared.Judged.{Judged}
-use Rattle.compare.specs.declared.Judged.the-variants.{Refused, Sound}
-use Rattle.compare.proofs.Refusing.{call-passes}
+use Rattle.compare_refusals.specs.Answers.{numberOf, lengthOf, comparedOf, decoded, refusalOf}
+use Rattle.compare_refusals.specs.declared.Compared.{Compared}
+use Rattle.compare_refusals.specs.declared.Compared.the-variants.{Listed, BadKind, LongSource, BadFormat, Malformed, Device, NoRoom}
+use Rattle.compare_refusals.specs.Passes.{Passes}
+use Rattle.compare_refusals.specs.declared.Judged.{Judged}
+use Rattle.compare_refusals.specs.declared.Judged.the-variants.{Refused, Sound}
+use Rattle.compare_refusals.proofs.Refusing.{call-passes}
 
 -- a refusal's length, where there is one, is not past twice the highest offset
 abbrev lengthIn : Option Refusal → ℕ

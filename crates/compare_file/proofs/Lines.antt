@@ -4,8 +4,8 @@ use mathlib.Core.Path.{_≡_}
 use mathlib.Core.List.{List, _++_}
 use borrow.Author.Tests.{eq-eqb, ne-eqb}
 use Rattle.meaning.specs.Job.{ascii, hexLines}
-use Rattle.report.specs.Text.{Put, lineText}
-use Rattle.report.proofs.Writing.{left-all, left-put, left-end}
+use Rattle.report_lines.specs.Text.{Put, lineText}
+use Rattle.report_lines.proofs.Writing.{left-all, left-put, left-end}
 use Rattle.compare_file.specs.CompareFile.{printed}
 
 -- a refusal, and a list

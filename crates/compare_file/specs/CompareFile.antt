@@ -8,7 +8,7 @@ use lib.Dec.{leb, eqb}
 use Rattle.meaning.specs.Words.{word}
 use Rattle.meaning.specs.Job.{Part, long, partAt, ascii, hexLines}
 use Rattle.file_parts.specs.Parts.{endsBy}
-use Rattle.report.specs.Text.{lineText}
+use Rattle.report_lines.specs.Text.{lineText}
 
 -- the most bytes of a compare file
 unfoldable pub fileLimit : ℕ

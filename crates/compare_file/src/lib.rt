@@ -3,14 +3,14 @@ use file_parts::ends_by;
 use file_parts::part_at;
 use lookup_list::long_at;
 use report::put_line;
-use report::put_lines;
+use report_lines::put_lines;
 use wire::word_at;
 ghost use mathlib.Core.Path.{_≡_};
 ghost use mathlib.Core.Bool.{true};
 ghost use Prim.Native.Nat.{_≤_, _<_};
 ghost use lib.ListN.{length};
 ghost use Rattle.meaning.specs.Job.{bytesOf};
-ghost use Rattle.report.specs.Text.{Put};
+ghost use Rattle.report_lines.specs.Text.{Put};
 ghost use Rattle.compare_file.specs.CompareFile.{goodFile, kindIn, leftPart, rightPart, printed};
 
 // The most bytes of a compare file.

@@ -11,13 +11,13 @@ use borrow.Author.Tests.{ne-eqb}
 use Rattle.meaning.specs.Subset.{Outcome, left}
 use Rattle.meaning.specs.Job.{ascii, bytesOf, hexLines}
 use Rattle.differences.specs.Compare.{compare}
-use Rattle.differences.specs.Answers.{Call, answer, list}
-use Rattle.differences.specs.Promises.{kept-is-the-list}
-use Rattle.report.specs.Text.{Put, Printable, lineText}
-use Rattle.report.specs.Lengths.{line-length, lines-length}
-use Rattle.report.proofs.Writing.{put-length}
-use Rattle.compare.specs.Answers.{numberOf, lengthOf, comparedOf}
-use Rattle.compare.specs.declared.Compared.{Compared}
+use Rattle.difference_laws.specs.Answers.{Call, answer, list}
+use Rattle.difference_laws.specs.Promises.{kept-is-the-list}
+use Rattle.report_lines.specs.Text.{Put, Printable, lineText}
+use Rattle.report_lines.specs.Lengths.{line-length, lines-length}
+use Rattle.report_lines.proofs.Writing.{put-length}
+use Rattle.compare_refusals.specs.Answers.{numberOf, lengthOf, comparedOf}
+use Rattle.compare_refusals.specs.declared.Compared.{Compared}
 use Rattle.compare_file.specs.CompareFile.{kindIn, leftPart, rightPart, goodFile, printed}
 use Rattle.compare_job.specs.Program.{compareFile, said, room, program, outcomeOf, textRoom}
 use Rattle.compare_job.specs.declared.Answered.{Answered}

@@ -12,7 +12,7 @@ use input::read_input;
 ghost use mathlib.Core.Path.{_≡_};
 ghost use Prim.Native.Nat.{_≤_};
 ghost use lib.ListN.{length};
-ghost use Rattle.report.specs.Text.{Put, Printable};
+ghost use Rattle.report_lines.specs.Text.{Put, Printable};
 ghost use Rattle.compare_job.specs.Program.{compareFile, said, outcomeOf, program, textRoom};
 
 // One byte more than the longest compare file has, so that a longer one is seen.

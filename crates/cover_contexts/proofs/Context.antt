@@ -23,16 +23,16 @@ use Rattle.fold.specs.declared.Map.{Map}
 use Rattle.area.specs.Extends.{Extends, extends-none, extends-said}
 use Rattle.numbers.specs.Entries.{entriesIn}
 use Rattle.numbers.specs.Leaves.{Leaves, leaves-room}
-use Rattle.repeats.specs.Book.{packs}
-use Rattle.cover_rows.specs.Behind.{offsetsBehind, blocksBehind, behind-length}
-use Rattle.cover_rows.specs.Rows.{leftAt, blocksLeft, rowLeft, highestEnd, Stood, Lays, LaysLeft, Standing, SoundRow, WritesRow, Bounds}
-use Rattle.cover_rows.specs.Parts.{recordsAt, Plain, Chained}
+use Rattle.known_blocks.specs.Book.{packs}
+use Rattle.cover_parts.specs.Behind.{offsetsBehind, blocksBehind, behind-length}
+use Rattle.cover_parts.specs.Rows.{leftAt, blocksLeft, rowLeft, highestEnd, Stood, Lays, LaysLeft, Standing, SoundRow, WritesRow, Bounds}
+use Rattle.cover_parts.specs.Parts.{recordsAt, Plain, Chained}
 use Rattle.cover_contexts.specs.Context.{coversFrom, coversWords, contextLeft, offsetsFit, contextFit, Settles, Asks, Begins, Writes}
-use Rattle.cover_rows.specs.declared.Row.{Row}
-use Rattle.cover_rows.specs.declared.Places.{Places}
-use Rattle.cover_rows.specs.declared.Held.{Held}
-use Rattle.cover_rows.specs.declared.CoverParts.{CoverParts}
-use Rattle.cover_rows.proofs.Lays.{some-none, some-same, stood-store, stood-more, laid-zero}
+use Rattle.cover_parts.specs.declared.Row.{Row}
+use Rattle.cover_parts.specs.declared.Places.{Places}
+use Rattle.cover_parts.specs.declared.Held.{Held}
+use Rattle.cover_parts.specs.declared.CoverParts.{CoverParts}
+use Rattle.cover_parts.proofs.Lays.{some-none, some-same, stood-store, stood-more, laid-zero}
 use Rattle.cover_contexts.proofs.Grows.{Ends, grows-start, grows-words, grows-row, grows-counted, grows-end, head-length, row-length}
 use Rattle.cover_contexts.proofs.Layouts.{no-offsets, no-blocks}
 

@@ -19,10 +19,10 @@ use Rattle.laws.specs.Written.{Wrote, sets-flat, flat-one}
 use Rattle.room.specs.Laid.{enoughArea}
 use Rattle.area.specs.Extends.{Extends, extends-more, wrote-extends}
 use Rattle.area.specs.Stored.{extends-store}
-use Rattle.cover_rows.specs.Behind.{offsetsBehind, blocksBehind, behind-length}
-use Rattle.cover_rows.specs.Rows.{blockLeft, blocksLeft, rowLeft, Lays}
-use Rattle.cover_rows.specs.declared.Row.{Row}
-use Rattle.cover_rows.proofs.Lays.{some-none, some-same, and-true}
+use Rattle.cover_parts.specs.Behind.{offsetsBehind, blocksBehind, behind-length}
+use Rattle.cover_parts.specs.Rows.{blockLeft, blocksLeft, rowLeft, Lays}
+use Rattle.cover_parts.specs.declared.Row.{Row}
+use Rattle.cover_parts.proofs.Lays.{some-none, some-same, and-true}
 
 -- The words `head` stand from the start on, and the words `parts` from `first` on, and the offsets fit, as `fit` says; r is the place after them, or past the area: then it has not enough bytes, or not all offsets fit.
 pub record Grows (before : List ℕ) (first : ℕ) (head parts : List ℕ) (fit : Bool) (after : List ℕ) (r : ℕ) : Type 0 where

@@ -16,8 +16,8 @@ use Rattle.laws.specs.ReadsBack.{Good}
 use Rattle.laws.specs.PackedReading.{sharedOffset, sharedOffsets, sharedBlocks, allCovers, coversAt, packed-covers, packed-chained-covers}
 use Rattle.laws.specs.FitsExactly.{covers-exactly, chained-covers-exactly}
 use Rattle.laws.specs.FitsPacked.{rows-offsets, rows-blocks, packed-by-cover-exactly, packed-chained-cover-exactly}
-use Rattle.repeats.specs.Shared.{offsetsIn, blocksIn}
-use Rattle.cover_rows.specs.Behind.{offsetsBehind, blocksBehind, behind-length, offsets-after, offsets-split, split-fit, blocks-after, blocks-split}
+use Rattle.known_blocks.specs.Shared.{offsetsIn, blocksIn}
+use Rattle.cover_parts.specs.Behind.{offsetsBehind, blocksBehind, behind-length, offsets-after, offsets-split, split-fit, blocks-after, blocks-split}
 use Rattle.cover_contexts.specs.Context.{coversFrom, coversWords, offsetsFit}
 
 -- with nothing before them

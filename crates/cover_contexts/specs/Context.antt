@@ -16,12 +16,12 @@ use Rattle.fold.specs.Cells.{Inside}
 use Rattle.fold.specs.declared.Map.{Map}
 use Rattle.area.specs.Extends.{Extends}
 use Rattle.numbers.specs.Entries.{entriesIn}
-use Rattle.repeats.specs.Book.{bookCells, packs, inBook, Booked}
-use Rattle.cover_rows.specs.Behind.{offsetsBehind, blocksBehind}
-use Rattle.cover_rows.specs.Rows.{rowLeft, Ready, Bounds}
-use Rattle.cover_rows.specs.Parts.{recordsAt, IsContext}
-use Rattle.cover_rows.specs.declared.CoverParts.{CoverParts}
-use Rattle.cover_rows.specs.declared.Held.{Held}
+use Rattle.known_blocks.specs.Book.{bookCells, packs, inBook, Booked}
+use Rattle.cover_parts.specs.Behind.{offsetsBehind, blocksBehind}
+use Rattle.cover_parts.specs.Rows.{rowLeft, Ready, Bounds}
+use Rattle.cover_parts.specs.Parts.{recordsAt, IsContext}
+use Rattle.cover_parts.specs.declared.CoverParts.{CoverParts}
+use Rattle.cover_parts.specs.declared.Held.{Held}
 
 -- where the coverages of format 3 begin: behind the header, with its counts, its offsets and its records
 unfoldable pub coversFrom : Bool → List (Option (List ℕ)) → List (Option (List ℕ)) → List (Option (List ℕ)) → List (ℕ × ℕ) → ℕ

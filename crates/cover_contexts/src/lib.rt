@@ -2,16 +2,16 @@
 // The area's header has its parts where the source has them, since each row of coverages stays whole.
 use area::put;
 use area::put_three;
-use cover_rows::CoverParts;
-use cover_rows::Held;
-use cover_rows::Places;
+use cover_parts::CoverParts;
+use cover_parts::Held;
+use cover_parts::Places;
 use cover_rows::write_counted_row;
 use cover_rows::write_row;
 use fold::Map;
-use numbers::write_counted_records;
-use numbers::write_records;
+use lookup_records::write_counted_records;
+use lookup_records::write_records;
 ghost use mathlib.Core.Bool.{true, false};
-ghost use Rattle.repeats.specs.Book.{packs};
+ghost use Rattle.known_blocks.specs.Book.{packs};
 ghost use Rattle.cover_contexts.specs.Context.{Asks, Begins, Writes};
 
 // Both maps in cells, the glyph map with its form.

@@ -18,7 +18,7 @@ use Rattle.laws.specs.Through.{Opt}
 use Rattle.laws.specs.SoundGood.{part-sound, one-good}
 use Rattle.differences.specs.Content.{joinRun, glyphRuns, coverRuns}
 use Rattle.differences.specs.Entries.{sameList, sameTwo}
-use Rattle.differences.specs.Equal.{tells-two, tells-list}
+use Rattle.difference_laws.specs.Equal.{tells-two, tells-list}
 use Rattle.cover_differences.specs.Stretches.{glyphsIn, coverAt, soundAt}
 use Rattle.cover_differences.specs.Rows.{SoundRow, rowRuns, sameRow}
 use Rattle.cover_differences.proofs.Stretching.{Long, span-front, span-one}

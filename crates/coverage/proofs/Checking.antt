@@ -10,8 +10,8 @@ use borrow.Author.Tests.{leb-true, ne-eqb}
 use Rattle.meaning.specs.Words.{word, triples, inside, ascends}
 use Rattle.meaning.specs.Parts.{rangesAscend, rangesCount, coverageSound}
 use Rattle.meaning.specs.Fault.{partFault, coverageFault}
-use Rattle.wire.specs.Fault.{faultOf}
-use Rattle.wire.specs.declared.Fault.the-variants.{At, Sound}
+use Rattle.faults.specs.Fault.{faultOf}
+use Rattle.faults.specs.declared.Fault.the-variants.{At, Sound}
 use Rattle.laws.specs.Runs.{both}
 use Rattle.laws.specs.Left.{column, triples-left, triples-all, triples-none, words-column}
 

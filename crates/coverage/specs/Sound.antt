@@ -7,9 +7,9 @@ use mathlib.Core.List.{List}
 use native.Mathlib.Omega.{arith}
 use Rattle.meaning.specs.Parts.{coverageSound}
 use Rattle.meaning.specs.Fault.{partFault, coverageFault}
-use Rattle.wire.specs.declared.Fault.{Fault}
-use Rattle.wire.specs.declared.Fault.the-variants.{At, Sound}
-use Rattle.wire.specs.Fault.{faultOf, is-at, is-sound}
+use Rattle.faults.specs.declared.Fault.{Fault}
+use Rattle.faults.specs.declared.Fault.the-variants.{At, Sound}
+use Rattle.faults.specs.Fault.{faultOf, is-at, is-sound}
 
 module _ (s : List ℕ) (at : ℕ) {r : Fault} (e : r ≡ faultOf (coverageFault s at)) where
   pub cover-sound : r ≡ Sound → coverageSound s at ≡ true

@@ -1,18 +1,16 @@
-// Coverage tables: the covered glyphs in order, listed one by one (format 1) or in ranges (format 2). Checked, counted and read.
-use wire::Fault;
+// Coverage tables: the covered glyphs in order, listed one by one (format 1) or in ranges (format 2). Checked.
+use faults::Fault;
 use wire::ascending;
 use wire::inside;
 use wire::word_at;
 ghost use mathlib.Core.Path.{_≡_};
 ghost use mathlib.Core.Bool.{true, _&&_};
 ghost use Prim.Native.Nat.{_+_, _*_, _<_};
-ghost use lib.ListN.{length};
 ghost use lib.Dec.{leb, eqb};
 ghost use Rattle.meaning.specs.Words.{triples};
-ghost use Rattle.meaning.specs.Parts.{rangeGlyphs, rangesAscend, rangesCount, coverage, coverageSound};
+ghost use Rattle.meaning.specs.Parts.{rangesAscend, rangesCount, coverageSound};
 ghost use Rattle.meaning.specs.Fault.{coverageFault};
-ghost use Rattle.wire.specs.Fault.{faultOf};
-ghost use Rattle.coverage.specs.Answers.{Counts, Gives, SoundRanges};
+ghost use Rattle.faults.specs.Fault.{faultOf};
 
 // Whether the range from `first` to `last` may stand where `low` is the lowest glyph that is left, and its index is the number of glyphs before it.
 fn range_fits(low: usize, before: usize, first: usize, last: usize, index: usize) -> bool
@@ -74,61 +72,4 @@ pub fn check(src: &[u8], at: usize) -> Fault
         return Fault::Sound;
     }
     Fault::At(at)
-}
-
-// How many glyphs the `n` ranges from `at` on cover: the last one's index says how many are before it.
-fn ranges_count(src: &[u8], at: usize, n: usize) -> usize
-    requires { ⌜ SoundRanges (now src) at n ⌝ }
-    ensures { λ r. ⌜ Counts (rangeGlyphs (triples (now (src .entry)) at n)) r ⌝ }
-{
-    if n == 0 {
-        return 0;
-    }
-    let p = at + 6 * (n - 1);
-    let first = word_at(src, p);
-    let last = word_at(src, p + 2);
-    word_at(src, p + 4) + (last + 1 - first)
-}
-
-// How many glyphs the coverage at `at` covers.
-pub fn count(src: &[u8], at: usize) -> usize
-    requires { ⌜ coverageSound (now src) at ≡ true ⌝ }
-    ensures { λ r. ⌜ Counts (coverage (now (src .entry)) at) r ⌝ }
-{
-    let n = word_at(src, at + 2);
-    if word_at(src, at) == 1 {
-        return n;
-    }
-    ranges_count(src, at + 4, n)
-}
-
-// The glyph that has index `i` among those that the `n` ranges from `at` on cover: by halving, the last range whose own index is at most `i` holds it.
-fn range_glyph(src: &[u8], at: usize, n: usize, i: usize) -> usize
-    requires { ⌜ SoundRanges (now src) at n × (i < length (rangeGlyphs (triples (now src) at n))) ⌝ }
-    ensures { λ r. ⌜ Gives (rangeGlyphs (triples (now (src .entry)) at n)) i r ⌝ }
-{
-    let mut lo = 0;
-    let mut hi = n;
-    while lo + 1 < hi {
-        let mid = lo + (hi - lo) / 2;
-        if word_at(src, at + 6 * mid + 4) <= i {
-            lo = mid;
-        } else {
-            hi = mid;
-        }
-    }
-    let index = word_at(src, at + 6 * lo + 4);
-    word_at(src, at + 6 * lo) + (i - index)
-}
-
-// The glyph that has the coverage index `i` in the coverage at `at`.
-pub fn glyph_at(src: &[u8], at: usize, i: usize) -> usize
-    requires { ⌜ (coverageSound (now src) at ≡ true) × (i < length (coverage (now src) at)) ⌝ }
-    ensures { λ r. ⌜ Gives (coverage (now (src .entry)) at) i r ⌝ }
-{
-    let n = word_at(src, at + 2);
-    if word_at(src, at) == 1 {
-        return word_at(src, at + 4 + 2 * i);
-    }
-    range_glyph(src, at + 4, n, i)
 }

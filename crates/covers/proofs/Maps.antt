@@ -1,16 +1,15 @@
 -- Both maps in the cells of lent scratch, and how many cells are enough.
 use Prim.Native.Nat.{ℕ, _+_, _≤_, _<_}
-use mathlib.Core.Path.{_≡_, sym}
+use mathlib.Core.Path.{_≡_}
 use mathlib.Core.Bool.{Bool}
 use mathlib.Core.List.{List}
 use native.Mathlib.Decide.{decLt}
 use native.Mathlib.Omega.{arith}
-use lib.ListN.{length, take}
-use lib.Seq.{length-take-le}
+use lib.ListN.{length}
 use Rattle.meaning.specs.Maps.{mapEntries, glyphEntries}
 use Rattle.meaning.specs.Tables.{coverContext}
 use Rattle.meaning.specs.Cut.{cut}
-use Rattle.meaning.specs.Subset.{Outcome, writtenIn}
+use Rattle.meaning.specs.Subset.{writtenIn}
 use Rattle.laws.specs.SoundGood.{Bytes}
 use Rattle.laws.specs.CallBack.{map-values}
 use Rattle.room.specs.Laid.{enoughArea}
@@ -20,7 +19,7 @@ use Rattle.fold.specs.Runs.{LaidGlyphs}
 use Rattle.fold.specs.declared.Map.{Map}
 use Rattle.tried.specs.Tries.{Tries, tries-less}
 use Rattle.tried.specs.declared.Tried.{Tried}
-use Rattle.covers.specs.Cutting.{Cuts, CutsInto, Sound, enoughCells, Least}
+use Rattle.cover_layouts.specs.Cutting.{Cuts, CutsInto, Sound, enoughCells}
 
 module _ {chained : Bool} {form : ℕ} {s glyphs lookups : List ℕ} (o : Sound chained form s glyphs lookups) {t₀ t₁ : List ℕ} {l : Map} (a : Laid lookups t₀ t₁ 0 l) where
   -- too few cells for the lookups
@@ -69,15 +68,3 @@ module _ {chained : Bool} {form : ℕ} {s glyphs lookups : List ℕ} (o : Sound 
       maps-cut {packing} {area} {r} {out} {after} bl c =
           tries-less (length t₂ ≤ m .at + m .mask + 1 + 65536) (length area < enoughArea) (length t₀ < enoughCells) (length area < enoughArea) r out after (writtenIn packing out (cut (glyphEntries form glyphs) (mapEntries lookups) (coverContext chained s)))
           (λ f. omega (arith, f, notes-near, a .kept .size, b .kept .size)) (λ f. f) (c .cuts lookups-held (map-values lookups bl))
-
--- A front of the scratch that is long enough, or all of it.
-pub front-length : {n c : ℕ} (t : List ℕ) → Least (length t) c n → n ≡ length (take n t)
-front-length {n} t h = sym (length-take-le n t (h .first))
-
-front-short : {n c : ℕ} (t : List ℕ) → Least (length t) c n → length (take n t) < c → length t < c
-front-short {n} {c} t h l = omega (arith, front-length t h, h .one (omega (arith, front-length t h)))
-
-pub front-tries : {n k : ℕ} (t area : List ℕ) (r : Tried) (out after : List ℕ) (made : Outcome) → Least (length t) 196609 n → Least (length area) enoughArea k
-    → Tries (length (take n t) < enoughCells) (length (take k area) < enoughArea) r out after made → Tries (length t < enoughCells) (length area < enoughArea) r out after made
-front-tries {n} {k} t area r out after made h g =
-    tries-less (length (take n t) < enoughCells) (length (take k area) < enoughArea) (length t < enoughCells) (length area < enoughArea) r out after made (front-short t h) (front-short area g)

@@ -1,27 +1,26 @@
 // Format 3 of contexts and chained contexts: coverages for backtrack, input and lookahead, and records; cut in one walk, from the source into the area.
-use area::hand_over;
 use cover_contexts::Cells;
-use cover_contexts::write_context;
-use cover_rows::CoverParts;
-use cover_rows::Held;
-use cover_rows::cover_parts;
-use cover_rows::most_row;
-use fold::lay;
-use fold::lay_glyphs;
+use cover_layouts::write_in;
+use cover_parts::CoverParts;
+use cover_parts::Held;
+use cover_parts::cover_parts;
+use cover_parts::most_row;
+use fold_glyphs::lay_glyphs;
+use fold_pairs::lay;
+use handing::hand_over;
 use marks::Marks;
-use repeats::BOOK;
-use repeats::begin;
 use room::AREA;
 use room::Laid;
 use tried::Tried;
+use tried::least;
 ghost use mathlib.Core.Bool.{true};
 ghost use Prim.Native.Nat.{_+_, _-_, _*_, _≤_, _<_};
 ghost use lib.ListN.{length};
 ghost use Rattle.meaning.specs.Maps.{mapEntries, glyphEntries};
-ghost use Rattle.cover_contexts.specs.Context.{MostNotes, Asks, Writes};
-ghost use Rattle.cover_rows.specs.Rows.{SoundRow};
+ghost use Rattle.cover_contexts.specs.Context.{MostNotes};
+ghost use Rattle.cover_parts.specs.Rows.{SoundRow};
 ghost use Rattle.glyph_runs.specs.Runs.{GlyphMap};
-ghost use Rattle.covers.specs.Cutting.{HandsOver, Cuts, CutsInto, Sound, enoughCells, isPacked, Least};
+ghost use Rattle.cover_layouts.specs.Cutting.{HandsOver, Cuts, CutsInto, Sound, enoughCells};
 ghost use Rattle.meaning.specs.Tables.{coverContext};
 ghost use Rattle.meaning.specs.Cut.{cut};
 ghost use Rattle.meaning.specs.Subset.{writtenIn};
@@ -30,60 +29,6 @@ ghost use Rattle.tried.specs.Tries.{Tries};
 
 // The number of cells that is enough for any source: two maps of 65,536 cells each, and a note for each glyph and one more.
 pub const CELLS: usize = 196609;
-
-// What is left of a context by coverages, written from the area's start on, with no coverage written twice, and a book of them; the place after it, and 0 if nothing is left.
-// It calls itself, so that the compiler keeps the book out of its caller's frame: a call for the plain layout would pay for it. How often it does, `rounds`, is 0 for a map of whole entries.
-fn write_packed(
-    chained: bool,
-    src: &[u8],
-    parts: CoverParts,
-    glyphs: &[u8],
-    cells: Cells,
-    t: &mut [u32],
-    rounds: usize,
-    area: &mut [u8],
-) -> usize
-    requires { ⌜ Asks chained (now src) parts (now glyphs) (cells .glyphs) (cells .lookups) (now t) (now area) ⌝ }
-    ensures { λ r. ⌜ Writes true chained (now (src .entry)) parts (now (glyphs .entry)) (cells .glyphs) (cells .lookups) (now (t .entry)) (now (area .entry)) (now (area .exit)) r ⌝ }
-{
-    if rounds != 0 {
-        return write_packed(chained, src, parts, glyphs, cells, t, rounds - 1, area);
-    }
-    let mut book = [0u32; BOOK];
-    begin(&mut book);
-    write_context(chained, src, parts, glyphs, cells, t, area, &mut book)
-}
-
-// The same in the layout that is asked for, with a book of our own.
-fn write_in(
-    packing: usize,
-    chained: bool,
-    src: &[u8],
-    parts: CoverParts,
-    glyphs: &[u8],
-    cells: Cells,
-    t: &mut [u32],
-    area: &mut [u8],
-) -> usize
-    requires { ⌜ Asks chained (now src) parts (now glyphs) (cells .glyphs) (cells .lookups) (now t) (now area) ⌝ }
-    ensures { λ r. ⌜ Writes (isPacked packing) chained (now (src .entry)) parts (now (glyphs .entry)) (cells .glyphs) (cells .lookups) (now (t .entry)) (now (area .entry)) (now (area .exit)) r ⌝ }
-{
-    if packing == 1 {
-        return write_packed(
-            chained,
-            src,
-            parts,
-            glyphs,
-            cells,
-            t,
-            glyphs.len() % 2,
-            area,
-        );
-    }
-    let mut book = [0u32; 1];
-    begin(&mut book);
-    write_context(chained, src, parts, glyphs, cells, t, area, &mut book)
-}
 
 // What was written into the area up to `end`, handed over: nothing if `end` is 0; where it is past the area, the layout is too big if the area has enough bytes.
 fn settle(end: usize, area: &[u8], out: &mut [u8]) -> Tried
@@ -168,16 +113,6 @@ fn cut_in(
         lookups: l,
     };
     cut_context(chained, src, glyphs, marks.layout, cells, t, area, out)
-}
-
-// The lesser of two numbers.
-fn least(a: usize, b: usize) -> usize
-    ensures { λ r. ⌜ Least a b r ⌝ }
-{
-    if a < b {
-        return a;
-    }
-    b
 }
 
 // What is left of a sound context by coverages, plain or chained, under a glyph map and a lookup map, handed over if there is room, with lent scratch whose content is arbitrary.

@@ -15,7 +15,7 @@ use Rattle.tried.specs.Tries.{Tries, tries-less}
 use Rattle.tried.proofs.Tried.{the-type}
 use Rattle.tried.specs.declared.Tried.{Tried}
 use Rattle.tried.specs.declared.Tried.the-variants.{FewCells, Short, Became}
-use Rattle.cut.specs.Cutting.{classPairCells, classPairBytes, otherCells, pairsByClass, cellsFor, bytesFor, UnlessShort, NeverShort}
+use Rattle.cut_sizes.specs.Cutting.{classPairCells, classPairBytes, otherCells, pairsByClass, cellsFor, bytesFor, UnlessShort, NeverShort}
 
 -- scratch as it begins
 abbrev pub cleared : ℕ → List ℕ

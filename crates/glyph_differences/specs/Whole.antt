@@ -17,7 +17,7 @@ use Rattle.laws.specs.SoundGood.{Bytes, part-sound, header-good, word-small}
 use Rattle.coverage_index.specs.Index.{indexOf}
 use Rattle.differences.specs.Content.{Says, ruleSays, oneGlyph, ligatureSays, byIndex, Content, content}
 use Rattle.differences.specs.Entries.{sameSays, each, beside, ruleEntries, firstEntries, differences}
-use Rattle.differences.specs.Ranks.{each-ranks}
+use Rattle.difference_laws.specs.Ranks.{each-ranks}
 use Rattle.first_glyphs.specs.First.{coverOf, soundCover, sound-cover, covered-below, bind-same, by-slot, index-glyphs, cover-words, index-below, atGlyph, first-ids}
 use Rattle.rule_rows.specs.Rows.{sideOf, numberBy}
 use Rattle.rule_says.specs.Said.{numbered, ligatureBy, saysAt, baseOf, saysBy}

@@ -8,11 +8,11 @@ use lib.ListN.{length}
 use borrow.Author.Tests.{leb-true}
 use Rattle.meaning.specs.Words.{word, inside}
 use Rattle.meaning.specs.Fault.{lowest}
-use Rattle.wire.specs.declared.Fault.{Fault}
-use Rattle.wire.specs.declared.Fault.the-variants.{At, Sound}
-use Rattle.wire.specs.Fault.{faultOf, placeOf}
-use Rattle.wire.specs.Low.{From, from-rule, from-ligature}
-use Rattle.wire.specs.Reached.{Lowest, lowest-part, passed}
+use Rattle.faults.specs.declared.Fault.{Fault}
+use Rattle.faults.specs.declared.Fault.the-variants.{At, Sound}
+use Rattle.faults.specs.Fault.{faultOf, placeOf}
+use Rattle.faults.specs.Low.{From, from-rule, from-ligature}
+use Rattle.faults.specs.Reached.{Lowest, lowest-part, passed}
 use Rattle.gsubgpos.specs.Members.{memberFault}
 use Rattle.gsubgpos.specs.declared.Member.{Member}
 use Rattle.gsubgpos.specs.declared.Member.the-variants.{Rule, ChainedRule, Ligature}

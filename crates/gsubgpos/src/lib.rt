@@ -1,13 +1,13 @@
 // Sets of rules of contexts, plain and chained, and of ligatures: checked. The work: the check looks once at the counts of each member.
 use bits::has_bit;
 use bits::put_bit;
+use faults::Fault;
+use faults::found_before;
+use faults::lowest;
 use ligature_subst::check_ligature;
 use rules::check_rule;
 use rules::rule_within;
-use wire::Fault;
-use wire::found_before;
 use wire::inside;
-use wire::lowest;
 use wire::word_at;
 use wire::word_inside;
 ghost use mathlib.Core.Path.{_≡_};
@@ -21,7 +21,7 @@ ghost use Rattle.meaning.specs.Tables.{rule, ruleSet, reaches};
 ghost use Rattle.meaning.specs.Fault.{faultThrough, setFault};
 ghost use Rattle.meaning.specs.Records.{ruleWithin, setsWithin};
 ghost use Rattle.laws.specs.EachLeft.{passes};
-ghost use Rattle.wire.specs.Fault.{faultOf};
+ghost use Rattle.faults.specs.Fault.{faultOf};
 ghost use Rattle.gsubgpos.specs.Marks.{Marked};
 ghost use Rattle.gsubgpos.specs.Members.{memberFault, goodRule};
 

@@ -7,7 +7,7 @@ use native.Mathlib.Omega.{arith}
 use lib.ListN.{drop}
 use lib.Dec.{ltb}
 use borrow.Author.Tests.{lt-ltb, le-ltb, not-true, not-false}
-use Rattle.replaying.specs.Places.{backward}
+use Rattle.replay_laws.specs.Places.{backward}
 use Rattle.rules.specs.declared.RuleParts.{RuleParts}
 use Rattle.holding.specs.Held.{Fine, runsOn}
 use Rattle.holding.specs.Fitting.{sequenceOf, partsFit}

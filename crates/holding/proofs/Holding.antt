@@ -12,11 +12,11 @@ use Rattle.meaning.specs.Words.{word, words, isSome}
 use Rattle.meaning.specs.Parts.{coverage, classIn}
 use Rattle.meaning.specs.Matching.{covers?, inClass}
 use Rattle.laws.specs.Left.{words-length, words-all}
-use Rattle.replaying.specs.Places.{backward, fitsOn, on-turn, on-short, on-end, fitsBack, back-turn, back-short, back-end, glyph-at}
+use Rattle.replay_laws.specs.Places.{backward, fitsOn, on-turn, on-short, on-end, fitsBack, back-turn, back-short, back-end, glyph-at}
 use Rattle.coverage_index.specs.Index.{indexOf, coveredOf, is-at, is-not, member-index}
 use Rattle.coverage_index.specs.declared.Covered.{Covered}
 use Rattle.coverage_index.specs.declared.Covered.the-variants.{At, Not}
-use Rattle.class_lists.specs.Tables.{tableAt}
+use Rattle.class_stretches.specs.Tables.{tableAt}
 use Rattle.holding.specs.Held.{coverAt, held, runsOn}
 use Rattle.holding.specs.declared.Sequence.{Sequence}
 

@@ -4,7 +4,7 @@ use mathlib.Core.Bool.{Bool, _&&_}
 use mathlib.Core.List.{List}
 use lib.ListN.{drop}
 use lib.Dec.{ltb}
-use Rattle.replaying.specs.Places.{backward}
+use Rattle.replay_laws.specs.Places.{backward}
 use Rattle.rules.specs.declared.Row.{Row}
 use Rattle.rules.specs.declared.RuleParts.{RuleParts}
 use Rattle.holding.specs.Held.{Fine, runsOn}

@@ -8,7 +8,7 @@ use lib.Dec.{eqb}
 use Rattle.meaning.specs.Words.{word, words}
 use Rattle.meaning.specs.Parts.{coverage, coverageSound}
 use Rattle.meaning.specs.Matching.{fits, covers?, inClass}
-use Rattle.class_lists.specs.Tables.{tableAt, NullOrSound}
+use Rattle.class_stretches.specs.Tables.{tableAt, NullOrSound}
 use Rattle.holding.specs.declared.Sequence.{Sequence}
 
 -- the coverage at an offset; there is none where it is null

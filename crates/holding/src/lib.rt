@@ -1,5 +1,5 @@
 // Sequences of numbers held against the glyphs of a string: numbers are glyphs, classes, or the offsets of coverages. A string is `n` glyphs in a slice, two bytes a glyph.
-use class_lists::class_of;
+use class_stretches::class_of;
 use coverage_index::Covered;
 use coverage_index::index_of;
 use rules::Row;
@@ -12,7 +12,7 @@ ghost use lib.ListN.{drop};
 ghost use Rattle.meaning.specs.Words.{words};
 ghost use Rattle.meaning.specs.Parts.{coverageSound};
 ghost use Rattle.meaning.specs.Matching.{covers?};
-ghost use Rattle.replaying.specs.Places.{backward};
+ghost use Rattle.replay_laws.specs.Places.{backward};
 ghost use Rattle.holding.specs.Held.{coverAt, held, Fine, SoundNumber, runsOn};
 ghost use Rattle.holding.specs.Fitting.{FineParts, sequenceOf, partsFit};
 

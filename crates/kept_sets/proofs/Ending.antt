@@ -9,17 +9,17 @@ use Rattle.meaning.specs.Words.{word}
 use Rattle.meaning.specs.Cut.{RuleMaps, glyphsOf}
 use Rattle.room.specs.Laid.{enoughArea}
 use Rattle.fold.specs.Cells.{Kept}
-use Rattle.area.specs.Closed.{members}
+use Rattle.handing.specs.Closed.{members}
 use Rattle.numbers.specs.Entries.{entries-kept}
-use Rattle.repeats.specs.Shared.{blocksIn}
-use Rattle.repeats.specs.Book.{packs}
-use Rattle.kept_sets.specs.Sorts.{headerSize, setFaultOf, setLeft, leftIn, AllBefore}
-use Rattle.kept_sets.specs.Kept.{wordsOf, PlacedSet, Reaches, Ready, WroteKept, keptIn}
-use Rattle.kept_sets.specs.declared.Sort.{Sort}
-use Rattle.kept_sets.specs.declared.Turn.{Turn}
-use Rattle.rule_sets.specs.Left.{mapsIn}
-use Rattle.rule_sets.specs.declared.Maps.{Maps}
-use Rattle.kept_sets.proofs.Settling.{packs-same}
+use Rattle.known_blocks.specs.Shared.{blocksIn}
+use Rattle.known_blocks.specs.Book.{packs}
+use Rattle.placed_sets.specs.Sorts.{headerSize, setFaultOf, setLeft, leftIn, AllBefore}
+use Rattle.placed_sets.specs.Kept.{wordsOf, PlacedSet, Reaches, Ready, WroteKept, keptIn}
+use Rattle.placed_sets.specs.declared.Sort.{Sort}
+use Rattle.placed_sets.specs.declared.Turn.{Turn}
+use Rattle.kept_rules.specs.Left.{mapsIn}
+use Rattle.kept_rules.specs.declared.Maps.{Maps}
+use Rattle.placed_sets.proofs.Settling.{packs-same}
 use Rattle.kept_sets.proofs.Keeping.{Keeping, keeping-whole}
 
 -- cells behind the maps may change: what became of a set stays the same

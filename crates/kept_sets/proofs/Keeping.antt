@@ -13,13 +13,13 @@ use Rattle.room.specs.Laid.{enoughArea}
 use Rattle.fold.specs.Cells.{Kept, kept-all, kept-more, kept-set}
 use Rattle.area.specs.Part.{part, part-left, part-all, part-none, news, notes}
 use Rattle.area.specs.Stored.{part-store}
-use Rattle.area.specs.Closed.{members}
-use Rattle.repeats.specs.Shared.{blocksIn}
-use Rattle.repeats.specs.Book.{packs, Begun}
-use Rattle.kept_sets.specs.Kept.{setAt, keptOf, wordsOf, Roomy, Standing, Small, TurnInside, Next, PlacedSet}
-use Rattle.kept_sets.specs.declared.Turn.{Turn}
-use Rattle.kept_sets.proofs.Placing.{taken-most}
-use Rattle.kept_sets.proofs.Settling.{packs-same, standing-all}
+use Rattle.handing.specs.Closed.{members}
+use Rattle.known_blocks.specs.Shared.{blocksIn}
+use Rattle.known_blocks.specs.Book.{packs, Begun}
+use Rattle.placed_sets.specs.Kept.{setAt, keptOf, wordsOf, Roomy, Standing, Small, TurnInside, Next, PlacedSet}
+use Rattle.placed_sets.specs.declared.Turn.{Turn}
+use Rattle.placed_sets.proofs.Placing.{taken-most}
+use Rattle.placed_sets.proofs.Settling.{packs-same, standing-all}
 
 -- glyphs and words of kept sets put together
 glyphs-append : (xs ys : List (ℕ × List ℕ)) → glyphsOf (xs ++ ys) ≡ glyphsOf xs ++ glyphsOf ys

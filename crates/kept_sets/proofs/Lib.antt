@@ -1,4 +1,2 @@
-pub mod Placing
-pub mod Settling
 pub mod Keeping
 pub mod Ending

@@ -7,11 +7,11 @@ use native.Mathlib.Omega.{arith}
 use lib.ListN.{length, replicate, length-replicate}
 use lib.Dec.{eqb}
 use borrow.Author.Tests.{lt-ltb, le-ltb, eq-eqb, ne-eqb}
-use Rattle.repeats.specs.Book.{bookCells, packs}
-use Rattle.rule_sets.specs.declared.Maps.{Maps}
-use Rattle.kept_sets.specs.Kept.{Roomy, WroteKept}
-use Rattle.kept_sets.specs.declared.Sort.{Sort}
-use Rattle.kept_sets.specs.declared.Sets.{Sets}
+use Rattle.known_blocks.specs.Book.{bookCells, packs}
+use Rattle.kept_rules.specs.declared.Maps.{Maps}
+use Rattle.placed_sets.specs.Kept.{Roomy, WroteKept}
+use Rattle.placed_sets.specs.declared.Sort.{Sort}
+use Rattle.placed_sets.specs.declared.Sets.{Sets}
 
 pub book-roomy : (n : ℕ) → bookCells ≤ n → Roomy (replicate n 0)
 book-roomy n h = λ k. omega (arith, length-replicate {A = ℕ} n 0)

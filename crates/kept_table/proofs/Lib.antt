@@ -1,4 +1,1 @@
-pub mod Lessening
 pub mod Booking
-pub mod Finishing
-pub mod Joining

@@ -1,77 +1,27 @@
 // The table of the kept sets of format 1: the sets are written into the area, the table is put together around them, and it is handed over to the buffer.
-use area::hand_over;
-use area::lessen;
-use area::put_three;
-use area::put_two;
-use area::write_cover;
+use handing::hand_over;
+use kept_header::cover_fits;
+use kept_header::finish;
+use kept_rules::Maps;
 use kept_sets::Notes;
-use kept_sets::Sets;
-use kept_sets::Sort;
-use kept_sets::header_size;
 use kept_sets::write_kept;
+use placed_sets::Sets;
+use placed_sets::Sort;
+use placed_sets::header_size;
 use repeats::BOOK;
 use room::AREA;
-use room::HIGHEST;
 use room::Laid;
-use rule_sets::Maps;
 use tried::Tried;
 ghost use mathlib.Core.Bool.{true};
-ghost use mathlib.Core.List.{[], _∷_, _++_};
-ghost use mathlib.Core.Path.{_≡_};
 ghost use Prim.Native.Nat.{_-_, _≤_};
 ghost use lib.ListN.{length};
-ghost use lib.Dec.{eqb, ltb};
-ghost use Rattle.laws.specs.Written.{Wrote};
+ghost use lib.Dec.{eqb};
 ghost use Rattle.room.specs.Laid.{enoughArea};
-ghost use Rattle.rule_sets.specs.Left.{mapsIn};
-ghost use Rattle.kept_sets.specs.Sorts.{moreOf, headerSize, Told};
-ghost use Rattle.kept_sets.specs.Kept.{Ready, WroteKept, keptIn};
-ghost use Rattle.kept_table.specs.Table.{Finishes, Finished, tableOf};
-ghost use Rattle.kept_table.specs.Answers.{NoRoom, Answered};
-
-// The words before the offsets of the sets; the place after them.
-fn write_header(sort: Sort, area: &mut [u8], cover: usize, k: usize) -> usize
-    requires { ⌜ headerSize sort ≤ length (now area) ⌝ }
-    ensures { λ r. ⌜ Wrote (now (area .entry)) 0 (1 ∷ cover ∷ (moreOf sort ++ (k ∷ []))) (now (area .exit)) r ⌝ }
-{
-    match sort {
-        Sort::Rules(_) => put_three(area, 0, 1, cover, k),
-        Sort::Ligatures => put_three(area, 0, 1, cover, k),
-        Sort::Pairs(f) => {
-            let p = put_three(area, 0, 1, cover, f.n1);
-            put_two(area, p, f.n2, k)
-        }
-    }
-}
-
-// The table of the `k` kept sets, which stand from `first` up to `p`, with their places written as their offsets: the offsets without the gap before `first`, the coverage behind the sets, and the header; the place after it.
-fn finish(
-    sort: Sort,
-    t: &[u32],
-    notes: usize,
-    k: usize,
-    first: usize,
-    p: usize,
-    area: &mut [u8],
-) -> usize
-    requires { ⌜ Finishes sort (now t) notes k first p (now area) ⌝ }
-    ensures { λ r. ⌜ Finished sort (now (t .entry)) notes k first p (now (area .entry)) (now (area .exit)) r ⌝ }
-{
-    let slots = header_size(sort);
-    let gap = first - (slots + 2 * k);
-    lessen(area, slots, k, gap);
-    let end = write_cover(t, notes, k, area, p);
-    write_header(sort, area, p - gap, k);
-    end
-}
-
-// Whether the coverage's offset, which is the highest, fits a word: the coverage stands at `p` while the gap between `head` and `first` is open.
-fn cover_fits(head: usize, first: usize, p: usize) -> bool
-    requires { ⌜ (head ≤ first) × (first ≤ p) ⌝ }
-    ensures { λ r. ⌜ r ≡ ltb (p - (first - head)) 65536 ⌝ }
-{
-    p - (first - head) <= HIGHEST
-}
+ghost use Rattle.kept_rules.specs.Left.{mapsIn};
+ghost use Rattle.placed_sets.specs.Sorts.{Told};
+ghost use Rattle.placed_sets.specs.Kept.{Ready, WroteKept, keptIn};
+ghost use Rattle.kept_header.specs.Table.{tableOf};
+ghost use Rattle.kept_header.specs.Answers.{NoRoom, Answered};
 
 // There is no room in the area: it is too short; or it has what is enough for any source, and then the layout is too big.
 fn no_room(area: &[u8]) -> Tried

@@ -13,10 +13,10 @@ use Rattle.laws.specs.Written.{sets-front}
 use Rattle.promises.specs.Refusals.{Call}
 use Rattle.promises.specs.Promises.{kept-is-small}
 use Rattle.job.proofs.Runs.{job-faulty, job-runs}
-use Rattle.subset.specs.Answers.{numberOf, lengthOf, outcome}
-use Rattle.subset.specs.declared.Answer.{Answer}
-use Rattle.report.specs.Text.{Put, Printable}
-use Rattle.report.specs.Lengths.{textRoom, printed-length}
+use Rattle.refusals.specs.Answers.{numberOf, lengthOf, outcome}
+use Rattle.refusals.specs.declared.Answer.{Answer}
+use Rattle.report_lines.specs.Text.{Put, Printable}
+use Rattle.report_lines.specs.Lengths.{textRoom, printed-length}
 use Rattle.label_job.specs.Answered.{Answered}
 
 module _ (f out : List ℕ) where

@@ -1,14 +1,14 @@
 // The program: reads a label job from standard input, and prints what is kept of its table, or the number of the refusal.
+use answer_numbers::length_of;
+use answer_numbers::number_of;
 use input::Input;
 use input::read_input;
 use job::run;
 use report::report;
-use subset::length_of;
-use subset::number_of;
 ghost use mathlib.Core.Path.{_≡_};
 ghost use Prim.Native.Nat.{_≤_};
 ghost use lib.ListN.{length};
-ghost use Rattle.report.specs.Lengths.{textRoom};
+ghost use Rattle.report_lines.specs.Lengths.{textRoom};
 ghost use Rattle.label_job.specs.Answered.{Answered};
 
 // One byte more than the longest job file has, so that a longer one is seen.

@@ -5,9 +5,9 @@ use mathlib.Core.Bool.{Bool, true, false, not}
 use mathlib.Core.List.{List}
 use Rattle.meaning.specs.Words.{word, inside}
 use Rattle.meaning.specs.Fault.{partFault, ligatureFault}
-use Rattle.wire.specs.Fault.{faultOf}
-use Rattle.wire.specs.declared.Fault.the-variants.{At, Sound}
-use Rattle.wire.specs.Reached.{refused, passed}
+use Rattle.faults.specs.Fault.{faultOf}
+use Rattle.faults.specs.declared.Fault.the-variants.{At, Sound}
+use Rattle.faults.specs.Reached.{refused, passed}
 
 module _ (s : List ℕ) (at : ℕ) where
   -- a ligature whose first two words do not lie inside

@@ -1,11 +1,11 @@
 // A ligature: checked.
-use wire::Fault;
+use faults::Fault;
 use wire::inside;
 use wire::word_at;
 ghost use mathlib.Core.Path.{_≡_};
 ghost use Prim.Native.Nat.{_+_, _-_, _*_, _<_};
 ghost use Rattle.meaning.specs.Fault.{ligatureFault};
-ghost use Rattle.wire.specs.Fault.{faultOf};
+ghost use Rattle.faults.specs.Fault.{faultOf};
 
 // How many components a ligature with this count lists: all but the first; a count of 0 lists none.
 fn listed(count: usize) -> usize

@@ -12,9 +12,9 @@ use Rattle.meaning.specs.Tables.{table}
 use Rattle.meaning.specs.Fault.{fault}
 use Rattle.meaning.specs.Records.{recordsWithin}
 use Rattle.meaning.specs.Subset.{limit, hasFormat}
-use Rattle.wire.specs.Fault.{faultOf, is-at, is-sound}
-use Rattle.wire.specs.declared.Fault.{Fault}
-use Rattle.wire.specs.declared.Fault.the-variants.{At, Sound}
+use Rattle.faults.specs.Fault.{faultOf, is-at, is-sound}
+use Rattle.faults.specs.declared.Fault.{Fault}
+use Rattle.faults.specs.declared.Fault.the-variants.{At, Sound}
 use Rattle.replaying.specs.Listed.{orElse, entryAt, entriesFrom, listed, sourceOf, malformed, lookupRefusal, firstRefusal}
 use Rattle.lookup_list.specs.Ready.{sourceAt}
 use Rattle.lookup_checks.specs.Checks.{refusalBy}

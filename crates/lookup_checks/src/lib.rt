@@ -1,11 +1,11 @@
 // The lookups of a list, checked as the subsetter checks its sources: 4, 5, 6 or 12 for the first faulty one.
 use checks::check;
 use checks::other_format;
+use faults::Fault;
 use lookup_list::long_at;
 use lookup_list::part;
 use records::records_within;
 use room::LIMIT;
-use wire::Fault;
 use wire::word_at;
 ghost use mathlib.Core.Path.{_≡_};
 ghost use mathlib.Core.Bool.{true};

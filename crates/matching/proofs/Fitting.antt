@@ -12,7 +12,7 @@ use Rattle.meaning.specs.Words.{word}
 use Rattle.meaning.specs.Tables.{reach, reaches, dropNull, plainRule, chainedRule, rule, ruleSet}
 use Rattle.meaning.specs.Matching.{fits, ruleFits, firstFit}
 use Rattle.laws.specs.Left.{words-length}
-use Rattle.replaying.specs.Places.{backward}
+use Rattle.replay_laws.specs.Places.{backward}
 use Rattle.rules.specs.Parts.{IsRule}
 use Rattle.rules.specs.declared.RuleParts.{RuleParts}
 use Rattle.holding.specs.Held.{held, runsOn}

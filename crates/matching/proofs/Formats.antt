@@ -13,11 +13,11 @@ use Rattle.meaning.specs.Words.{word, words, bind, member}
 use Rattle.meaning.specs.Parts.{coverage, coverageSound, classes, classOf, listed, classIn}
 use Rattle.meaning.specs.Tables.{reach, reaches, ruleSet}
 use Rattle.meaning.specs.Matching.{match, firstFit, covers?, sameGlyph, sameClass}
-use Rattle.replaying.specs.Places.{backward}
+use Rattle.replay_laws.specs.Places.{backward}
 use Rattle.coverage_index.specs.Index.{indexOf, coveredOf, is-at, is-not, set-index}
 use Rattle.coverage_index.specs.declared.Covered.{Covered}
 use Rattle.coverage_index.specs.declared.Covered.the-variants.{At, Not}
-use Rattle.class_lists.specs.Tables.{tableAt, null-table, table-there}
+use Rattle.class_stretches.specs.Tables.{tableAt, null-table, table-there}
 use Rattle.holding.specs.Held.{coverAt, held}
 use Rattle.matching.specs.Fitting.{heldBy, SoundTables, Told}
 use Rattle.matching.specs.Formats.{SoundCover, matchAt, setFit, glyphContext, classesAt}

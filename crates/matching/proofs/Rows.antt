@@ -17,9 +17,9 @@ use Rattle.meaning.specs.Fault.{faultThrough, coverageFault, classesFault, cove
 use Rattle.meaning.specs.Matching.{atPlace, match, fits, covers?}
 use Rattle.laws.specs.Left.{words-length}
 use Rattle.laws.specs.SoundGood.{part-sound, lowest-none, header-good}
-use Rattle.replaying.specs.Places.{backward, at-place, no-place}
+use Rattle.replay_laws.specs.Places.{backward, at-place, no-place}
 use Rattle.rules.specs.declared.RuleParts.{RuleParts}
-use Rattle.class_lists.specs.Tables.{tableAt, NullOrSound}
+use Rattle.class_stretches.specs.Tables.{tableAt, NullOrSound}
 use Rattle.holding.specs.Held.{held, runsOn}
 use Rattle.holding.specs.Fitting.{partsFit, FineParts}
 use Rattle.matching.specs.Fitting.{SoundTables, Told}

@@ -9,8 +9,8 @@ use lib.Dec.{eqb}
 use Rattle.meaning.specs.Words.{entries}
 use Rattle.meaning.specs.Tables.{rule}
 use Rattle.meaning.specs.Matching.{Holds, ruleFits}
-use Rattle.replaying.specs.Places.{backward}
-use Rattle.class_lists.specs.Tables.{NullOrSound}
+use Rattle.replay_laws.specs.Places.{backward}
+use Rattle.class_stretches.specs.Tables.{NullOrSound}
 use Rattle.holding.specs.Held.{held}
 use Rattle.holding.specs.declared.How.{How}
 use Rattle.matching.specs.declared.Matched.{Matched}

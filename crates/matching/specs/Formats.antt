@@ -10,8 +10,8 @@ use Rattle.meaning.specs.Words.{word, bind}
 use Rattle.meaning.specs.Parts.{coverage, coverageSound}
 use Rattle.meaning.specs.Tables.{Table, reach, reaches, ruleSet}
 use Rattle.meaning.specs.Matching.{match, firstFit}
-use Rattle.replaying.specs.Places.{backward}
-use Rattle.class_lists.specs.Tables.{tableAt, NullOrSound}
+use Rattle.replay_laws.specs.Places.{backward}
+use Rattle.class_stretches.specs.Tables.{tableAt, NullOrSound}
 use Rattle.matching.specs.Fitting.{heldBy}
 use Rattle.holding.specs.declared.How.{How}
 

@@ -1,5 +1,5 @@
 // Matching contexts, plain and chained, at a place of a string. A string is `n` glyphs in a slice, two bytes a glyph.
-use class_lists::class_of;
+use class_stretches::class_of;
 use coverage_index::Covered;
 use coverage_index::index_of;
 use holding::How;
@@ -19,7 +19,7 @@ ghost use Rattle.meaning.specs.Words.{words};
 ghost use Rattle.meaning.specs.Tables.{ruleSet, classContext, coverContext, context};
 ghost use Rattle.meaning.specs.Fault.{coversFault, contextFault};
 ghost use Rattle.meaning.specs.Matching.{atPlace, firstFit, match};
-ghost use Rattle.replaying.specs.Places.{backward};
+ghost use Rattle.replay_laws.specs.Places.{backward};
 ghost use Rattle.matching.specs.Fitting.{SoundTables, Told, heldBy, reachFits};
 ghost use Rattle.matching.specs.Formats.{SoundCover, SoundClasses, setFit, matchAt, glyphContext, classesAt};
 ghost use Rattle.matching.specs.Rows.{IsCovers};

@@ -15,8 +15,8 @@ use Rattle.laws.specs.Left.{entries-length}
 use Rattle.laws.specs.SoundGood.{coverage-up}
 use Rattle.fold.specs.Cells.{folded}
 use Rattle.fold.specs.declared.Map.{Map}
-use Rattle.meet.specs.Met.{met, Met, Meets, met-same, met-few}
-use Rattle.meet.specs.Walks.{MeetsList, MeetsRanges, MeetsEntries}
+use Rattle.meet_ranges.specs.Met.{met, Met, Meets, met-same, met-few}
+use Rattle.meet_ranges.specs.Walks.{MeetsList, MeetsRanges, MeetsEntries}
 
 -- what lies inside
 pub inside-fits : (s : List ℕ) (at n : ℕ) → inside s at n ≡ true → at + n ≤ length s

@@ -1,3 +1,1 @@
-pub mod Met
-pub mod Walks
 pub mod Answered

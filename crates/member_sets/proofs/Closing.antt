@@ -14,8 +14,8 @@ use Rattle.laws.specs.Through.{offsets-append, blocks-append}
 use Rattle.laws.specs.Written.{flat-one}
 use Rattle.area.specs.Extends.{Keeps, Extends, extends-none, extends-more, extends-said, extends-keeps, keeps-none, keeps-more, keeps-less, keeps-extends}
 use Rattle.area.specs.Part.{part, part-append}
-use Rattle.area.specs.Closed.{Closed, members, lessBy, offsets-less, offsets-most}
-use Rattle.area.proofs.Moved.{part-behind}
+use Rattle.handing.specs.Closed.{Closed, members, lessBy, offsets-less, offsets-most}
+use Rattle.handing.proofs.Moved.{part-behind}
 use Rattle.numbers.specs.Leaves.{Leaves, leaves-none, leaves-words}
 use Rattle.numbers.proofs.Fronts.{part-keeps, extends-part, extends-one}
 use Rattle.member_sets.specs.Sets.{Unclosed, setOf, ClosedSet}

@@ -10,7 +10,7 @@ use Rattle.meaning.specs.Words.{word, bytes2, push}
 use Rattle.meaning.specs.Cut.{unlessEmpty}
 use Rattle.meaning.specs.Layout.{offsets, blocks, block, setWords}
 use Rattle.laws.specs.Members.{wordsLeft, memberBlocks, members, members-left, members-all, members-none, member-null, member-there}
-use Rattle.area.specs.Closed as closed
+use Rattle.handing.specs.Closed as closed
 use Rattle.numbers.specs.Leaves.{Leaves, none-some, leaves-full, leaves-gone, leaves-stays, leaves-said}
 use Rattle.member_sets.specs.Sets.{Unclosed, setOf, ClosedSet, setMost, blocks-are, set-left}
 use Rattle.member_sets.proofs.Closing.{unclosed-all, unclosed-kept, unclosed-one, members-blocks}

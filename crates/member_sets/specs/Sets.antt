@@ -11,7 +11,7 @@ use Rattle.meaning.specs.Layout.{offsets, blocks, block, setWords}
 use Rattle.laws.specs.Members.{wordsLeft, memberBlocks}
 use Rattle.area.specs.Extends.{Keeps}
 use Rattle.area.specs.Part.{part}
-use Rattle.area.specs.Closed.{members}
+use Rattle.handing.specs.Closed.{members}
 use Rattle.numbers.specs.Leaves.{Leaves}
 
 -- The words `bs` of members stand from `first` up to `end`, and from pos + 2 on their offsets from `pos`, counted with the gap before `first`; what stood before `pos` is as before.

@@ -1,6 +1,6 @@
 // Sets whose members are written one after the other, behind a place for the count and for each offset of the source: what is left is put together.
-use area::close_up;
 use area::put;
+use handing::close_up;
 use wire::word_at;
 ghost use Prim.Native.Nat.{_+_, _*_, _≤_, _<_};
 ghost use lib.ListN.{length};

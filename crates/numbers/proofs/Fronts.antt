@@ -10,7 +10,7 @@ use Rattle.laws.specs.Stands.{flat-length}
 use Rattle.laws.specs.Written.{Wrote, flat-one}
 use Rattle.area.specs.Extends.{Keeps, Extends, extends-more, extends-keeps, keeps-less, keeps-byte, keeps-extends, wrote-extends}
 use Rattle.area.specs.Part.{part, take-part}
-use Rattle.area.proofs.Moved.{part-behind}
+use Rattle.handing.proofs.Moved.{part-behind}
 
 -- a stretch of a front that stays
 pub part-keeps : {a b : List ℕ} {n : ℕ} → Keeps a n b → (at m : ℕ) → at + m ≤ n → part b at m ≡ part a at m

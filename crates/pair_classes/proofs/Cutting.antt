@@ -32,22 +32,22 @@ use Rattle.fold.specs.declared.Map.{Map}
 use Rattle.area.specs.Part.{part, part-length, news, notes}
 use Rattle.area.specs.Extends.{wrote-extends}
 use Rattle.numbers.specs.Alike.{holds-alike}
-use Rattle.meet.specs.Met.{met, Met, met-few, met-count, met-news}
-use Rattle.meet_runs.specs.Either.{Most, MeetsGlyphs}
+use Rattle.meet_ranges.specs.Met.{met, Met, met-few, met-count, met-news}
+use Rattle.meets.specs.Either.{Most, MeetsGlyphs}
 use Rattle.glyph_runs.specs.Runs.{GlyphMap, map-good}
 use Rattle.glyph_runs.specs.Found.{entries-few}
-use Rattle.class_lists.specs.Tables.{classesAt, lists-there}
-use Rattle.class_maps.specs.Same.{Same, kept-same, part-alike, holds-same}
+use Rattle.class_stretches.specs.Tables.{classesAt, lists-there}
+use Rattle.class_ranks.specs.Same.{Same, kept-same, part-alike, holds-same}
 use Rattle.class_cells.specs.Kept.{cellSize, has-cells, kept-alike}
 use Rattle.covered_map.specs.Named.{named, Names, named-met, noted-indexes, named-length}
 use Rattle.tried.specs.Tries.{Tries, tries-less}
 use Rattle.tried.specs.declared.Tried.{Tried}
-use Rattle.pair_classes.specs.Kerning.{leftInto}
+use Rattle.pair_layouts.specs.Kerning.{leftInto}
 use Rattle.pair_classes.specs.Sides.{tableCells, Asks, Side, Sided}
-use Rattle.pair_classes.specs.Laying.{Front, Ready}
+use Rattle.pair_layouts.specs.Laying.{Front, Ready}
 use Rattle.pair_classes.specs.Cutting.{enoughCells, Sound, hasNull, kernTable, Kerning, Begins, Noting, coveredOf, FirstIn}
-use Rattle.pair_classes.specs.declared.Noted.{Noted}
-use Rattle.pair_classes.specs.declared.Classed.{Classed}
+use Rattle.pair_layouts.specs.declared.Noted.{Noted}
+use Rattle.pair_layouts.specs.declared.Classed.{Classed}
 use Rattle.pair_classes.proofs.Kept.{none-kept, kern-cut, kern-up}
 
 -- What the check says.

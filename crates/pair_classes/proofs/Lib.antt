@@ -1,5 +1,3 @@
 pub mod Siding
-pub mod Sharing
-pub mod Laying
 pub mod Kept
 pub mod Cutting

@@ -10,9 +10,9 @@ use Rattle.fold.specs.Cells.{Inside, Kept, kept-more}
 use Rattle.class_lists.specs.Elsewhere.{elsewhere-kept}
 use Rattle.class_lists.specs.Listed.{Listed}
 use Rattle.class_lists.specs.declared.ClassList.{ClassList}
-use Rattle.class_maps.specs.Same.{after-same, holds-same}
-use Rattle.class_maps.specs.Mapped.{Lists, ToMap, Classes, Mapped, Entries, lists-made, lists-kept, may-map}
-use Rattle.class_maps.specs.declared.ClassMap.{ClassMap}
+use Rattle.class_ranks.specs.Same.{after-same, holds-same}
+use Rattle.class_ranks.specs.Mapped.{Lists, ToMap, Classes, Mapped, Entries, lists-made, lists-kept, may-map}
+use Rattle.class_ranks.specs.declared.ClassMap.{ClassMap}
 use Rattle.pair_classes.specs.Sides.{tableCells, Asks, Sided}
 
 module _ {s : List ℕ} {at form : ℕ} {glyphs : List ℕ} {list : ℕ} (a : Asks s at form glyphs list) {cs g : List (ℕ × ℕ)} {t₀ t₁ : List ℕ} {l : ClassList} (o : Listed cs g t₀ t₁ list l) where

@@ -16,14 +16,14 @@ use Rattle.laws.specs.ReadsBack.{Good}
 use Rattle.fold.specs.Cells.{Holds}
 use Rattle.fold.specs.declared.Map.{Map}
 use Rattle.area.specs.Part.{news, notes}
-use Rattle.meet.specs.Met.{met}
+use Rattle.meet_ranges.specs.Met.{met}
 use Rattle.glyph_runs.specs.Runs.{GlyphMap}
-use Rattle.class_maps.specs.Present.{mostCells}
+use Rattle.class_ranks.specs.Present.{mostCells}
 use Rattle.class_cells.specs.Cells.{HasCells}
 use Rattle.class_cells.specs.Kept.{cellSize}
 use Rattle.pair_classes.specs.Sides.{tableCells, Side}
-use Rattle.pair_classes.specs.declared.Noted.{Noted}
-use Rattle.pair_classes.specs.declared.Classed.{Classed}
+use Rattle.pair_layouts.specs.declared.Noted.{Noted}
+use Rattle.pair_layouts.specs.declared.Classed.{Classed}
 
 -- cells that are enough for any source: 65,536 for the glyph map, as many for the notes, and those of two class tables
 abbrev pub enoughCells : ℕ

@@ -1,4 +1,2 @@
-pub mod Kerning
 pub mod Sides
-pub mod Laying
 pub mod Cutting

@@ -7,9 +7,9 @@ use Rattle.meaning.specs.Cut.{classesUnder}
 use Rattle.fold.specs.Cells.{Holds, Kept}
 use Rattle.area.specs.Part.{notes}
 use Rattle.glyph_runs.specs.Runs.{GlyphMap}
-use Rattle.class_lists.specs.Tables.{NullOrSound}
-use Rattle.class_maps.specs.Present.{mostCells}
-use Rattle.pair_classes.specs.declared.Classed.{Classed}
+use Rattle.class_stretches.specs.Tables.{NullOrSound}
+use Rattle.class_ranks.specs.Present.{mostCells}
+use Rattle.pair_layouts.specs.declared.Classed.{Classed}
 
 -- cells that are enough for any class table: 65,536 for the classes of the glyphs, and those of the class map
 abbrev pub tableCells : ℕ

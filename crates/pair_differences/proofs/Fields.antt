@@ -9,7 +9,7 @@ use borrow.Author.Tests.{eq-eqb, ne-eqb, eqb-true}
 use Rattle.meaning.specs.Words.{word, words}
 use Rattle.meaning.specs.Tables.{bit, fieldCount, fieldsBelow, field}
 use Rattle.laws.specs.Left.{words-at}
-use Rattle.pair_sets.specs.Formats.{Below, below}
+use Rattle.pair_places.specs.Formats.{Below, below}
 use Rattle.pair_differences.specs.Held.{isField}
 
 -- what holds of each of the four fields holds of any of them

@@ -21,8 +21,8 @@ use Rattle.laws.specs.SoundGood.{Bytes, part-sound, header-good, word-small}
 use Rattle.coverage_index.specs.Index.{indexOf}
 use Rattle.differences.specs.Content.{Content, pairSays, setHolds, byIndex, covered, content}
 use Rattle.differences.specs.Entries.{each, beside, pairEntries, firstEntries, differences}
-use Rattle.differences.specs.Empty.{SortedPairs, Sorted}
-use Rattle.differences.specs.Sound.{sound-sorted}
+use Rattle.difference_laws.specs.Empty.{SortedPairs, Sorted}
+use Rattle.difference_laws.specs.Sound.{sound-sorted}
 use Rattle.first_glyphs.specs.First.{coverOf, soundCover, sound-cover, covered-below, bind-same, by-slot, index-glyphs, cover-words, index-below, atGlyph, first-ids}
 use Rattle.pair_differences.specs.Held.{pairsFrom, countIn, held}
 

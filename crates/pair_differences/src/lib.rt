@@ -3,7 +3,7 @@ use coverage_index::Covered;
 use first_glyphs::cover_index;
 use first_glyphs::list_right;
 use listing::put_listed;
-use pair_sets::field_count;
+use pair_places::field_count;
 use wire::word_at;
 ghost use mathlib.Core.Path.{_≡_};
 ghost use mathlib.Core.Bool.{true};

@@ -9,7 +9,7 @@ use Rattle.meaning.specs.Words.{word}
 use Rattle.meaning.specs.Tables.{fieldCount}
 use Rattle.meaning.specs.Cut.{keepIf, standIn}
 use Rattle.area.specs.Part.{part-left, part-all, part-none, notes, oldAt}
-use Rattle.pair_sets.specs.Formats.{fieldPlace, pairSize, Below, place-inside}
+use Rattle.pair_places.specs.Formats.{fieldPlace, pairSize, Below, place-inside}
 use Rattle.pair_formats.specs.New.{formatIn, NewFormats}
 use Rattle.pair_formats.specs.Used.{setUses, usedIn, NamesSets, absent-unused}
 

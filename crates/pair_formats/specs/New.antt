@@ -9,8 +9,8 @@ use Rattle.meaning.specs.Cut.{cutPairs, keepIf, keptSets, newFormat, standIn, n
 use Rattle.fold.specs.Cells.{Inside}
 use Rattle.fold.specs.declared.Map.{Map}
 use Rattle.numbers.specs.Alike.{Alike}
-use Rattle.meet.specs.Met.{met}
-use Rattle.pair_sets.specs.Formats.{fieldPlace, pairSize, below, used-first, used-second}
+use Rattle.meet_ranges.specs.Met.{met}
+use Rattle.pair_places.specs.Formats.{fieldPlace, pairSize, below, used-first, used-second}
 use Rattle.pair_sets.specs.declared.Formats.{Formats}
 use Rattle.pair_formats.specs.Used.{usedIn, NamesSets, used-alike, used-met}
 

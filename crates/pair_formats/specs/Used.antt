@@ -13,8 +13,8 @@ use Rattle.meaning.specs.Tables.{Pair, reach, reaches, pairSet}
 use Rattle.meaning.specs.Cut.{unlessEmpty, cutPair, cutPairs, used, keptSets}
 use Rattle.area.specs.Part.{oldAt}
 use Rattle.numbers.specs.Alike.{Alike}
-use Rattle.meet.specs.Met.{met}
-use Rattle.pair_sets.specs.Pairs.{valueAt, fieldUsed}
+use Rattle.meet_ranges.specs.Met.{met}
+use Rattle.pair_fields.specs.Pairs.{valueAt, fieldUsed}
 
 module _ (g : List (ℕ × ℕ)) (s : List ℕ) (size place : ℕ) where
   -- of the pair set at a place, whose records have this size; a null offset reaches none

@@ -1,9 +1,9 @@
 // The new value formats of a pair table: a field stays if some surviving pair of the sets that notes name has it nonzero.
 use fold::Map;
+use pair_fields::field_used;
+use pair_places::field_count;
+use pair_places::field_place;
 use pair_sets::Formats;
-use pair_sets::field_count;
-use pair_sets::field_place;
-use pair_sets::field_used;
 use wire::word_inside;
 ghost use mathlib.Core.Path.{_≡_};
 ghost use Prim.Native.Nat.{_+_, _*_, _<_, _≤_};

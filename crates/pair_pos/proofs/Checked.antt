@@ -9,8 +9,8 @@ use Rattle.meaning.specs.Words.{word, inside, ascends}
 use Rattle.meaning.specs.Tables.{Pair, pairRecords, pairSet}
 use Rattle.meaning.specs.Fault.{partFault, pairSetFault}
 use Rattle.laws.specs.Left.{column}
-use Rattle.wire.specs.Fault.{faultOf}
-use Rattle.wire.specs.declared.Fault.the-variants.{At, Sound}
+use Rattle.faults.specs.Fault.{faultOf}
+use Rattle.faults.specs.declared.Fault.the-variants.{At, Sound}
 
 -- the second glyphs of pair records are a column of words
 seconds-column : (s : List ℕ) (a b at n : ℕ) → map (λ (p : Pair). p .second) (pairRecords s a b at n) ≡ column s (2 + 2 * a + 2 * b) at n

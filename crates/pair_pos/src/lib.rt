@@ -1,5 +1,5 @@
 // Pair sets and value formats of pair positioning: checked; device bits.
-use wire::Fault;
+use faults::Fault;
 use wire::ascending;
 use wire::inside;
 use wire::word_at;
@@ -11,7 +11,7 @@ ghost use Rattle.meaning.specs.Words.{word};
 ghost use Rattle.meaning.specs.Tables.{fieldCount};
 ghost use Rattle.meaning.specs.Fault.{pairSetFault};
 ghost use Rattle.meaning.specs.Subset.{hasDevice};
-ghost use Rattle.wire.specs.Fault.{faultOf};
+ghost use Rattle.faults.specs.Fault.{faultOf};
 
 // How many fields a value record of the format `f` has: one for each set bit of the lower eight.
 fn field_count(f: usize) -> usize

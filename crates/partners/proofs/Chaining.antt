@@ -13,7 +13,7 @@ use lib.Dec.{eqb}
 use borrow.Author.Tests.{eqb-true, eqb-false}
 use Rattle.laws.specs.Stands.{All}
 use Rattle.differences.specs.Entries.{ranked, partner}
-use Rattle.differences.specs.Ranks.{ranksOf, first, leftOver, partner-is, left-none, left-takes, left-leaves}
+use Rattle.difference_laws.specs.Ranks.{ranksOf, first, leftOver, partner-is, left-none, left-takes, left-leaves}
 use Rattle.rule_differences.specs.Ranked.{rankOf, Partners}
 use Rattle.partners.specs.Chains.{numbersFrom, numbersIn, Chain, nextIn, nextOf, Below, Cleared, Linked, Left, Kept, Paired}
 

@@ -4,7 +4,7 @@ use mathlib.Core.Path.{_≡_}
 use mathlib.Core.List.{List, [], _∷_}
 use lib.ListN.{getD, drop}
 use lib.Dec.{eqb}
-use Rattle.differences.specs.Ranks.{ranksOf, leftOver}
+use Rattle.difference_laws.specs.Ranks.{ranksOf, leftOver}
 use Rattle.rule_differences.specs.Ranked.{Partners}
 
 -- n numbers that stand in the cells from i on

@@ -13,8 +13,8 @@ use Rattle.replaying.specs.Listed.{ifSome}
 use Rattle.replaying.specs.Applying.{run}
 use Rattle.replaying.specs.Trace.{Run, runAt, runLength, goodRun, runsOf}
 use Rattle.replaying.specs.Replay.{Tally as TallyOf, agreeing, firstOut, counted, changed, played, runsIn}
-use Rattle.replaying.specs.Tallies.{play, in-place}
-use Rattle.replaying.specs.Turns.{runsLeft, runs-all, runs-turn, runs-short, runs-end}
+use Rattle.replay_laws.specs.Tallies.{play, in-place}
+use Rattle.replay_laws.specs.Turns.{runsLeft, runs-all, runs-turn, runs-short, runs-end}
 use Rattle.traces.specs.Whole.{Whole}
 use Rattle.runs.specs.Verdicts.{verdictOf}
 use Rattle.replay.specs.Counting.{tallyOf, replayedOf, isDeep, doesAgree}

@@ -8,7 +8,7 @@ use Rattle.meaning.specs.Words.{isSome}
 use Rattle.replaying.specs.Listed.{orElse, listed, goodList, lookupsOf, firstRefusal, allNamed}
 use Rattle.replaying.specs.Trace.{runsOf}
 use Rattle.replaying.specs.Replay.{Replayed, refusing, refusal, replay, played, runsIn}
-use Rattle.replaying.specs.Tallies.{refused-first, replays}
+use Rattle.replay_laws.specs.Tallies.{refused-first, replays}
 use Rattle.lookup_list.specs.Ready.{Ready}
 use Rattle.lookup_list.proofs.Readying.{list-ready}
 use Rattle.lookup_checks.specs.Checks.{refusalBy}

@@ -16,7 +16,7 @@ use Rattle.meaning.specs.Job.{bytesOf}
 use Rattle.replaying.specs.Listed.{orElse, Entry, listed, goodList, sourceOf, lookupsOf, malformed, lookupRefusal, firstRefusal, allNamed}
 use Rattle.replaying.specs.Trace.{runsOf}
 use Rattle.replaying.specs.Replay.{shallow, played, refusing, refusal, runsIn, replay}
-use Rattle.replaying.specs.Tallies.{refused-first, replays}
+use Rattle.replay_laws.specs.Tallies.{refused-first, replays}
 use Rattle.checks.specs.Near.{place-near}
 
 -- the bytes of a part

@@ -1,8 +1,8 @@
 // The replay and its cost for other languages, on byte slices and one number.
+use put_words::put_entry;
 use replay::Tally;
 use replay::replay_all;
 use replay_cost::replay_cost;
-use wire::put_entry;
 ghost use mathlib.Core.Path.{_≡_};
 ghost use Prim.Native.Nat.{_+_, _*_, _≤_, _<_};
 ghost use lib.Seq.{sets};

@@ -8,9 +8,9 @@ use lib.ListN.{length, take, length-append}
 use lib.Seq.{length-take-le}
 use Rattle.meaning.specs.Job.{ascii}
 use Rattle.replaying.specs.Replay.{Replayed}
-use Rattle.report.specs.Text.{Put, lineText}
-use Rattle.report.specs.Lengths.{line-length}
-use Rattle.report.proofs.Writing.{left-all, left-put, left-end, put-length}
+use Rattle.report_lines.specs.Text.{Put, lineText}
+use Rattle.report_lines.specs.Lengths.{line-length}
+use Rattle.report_lines.proofs.Writing.{left-all, left-put, left-end, put-length}
 use Rattle.replay_job.specs.ReplayFile.{replayFile, printed, asksCost, fileSteps, costText, program}
 
 -- the five lines of an answer

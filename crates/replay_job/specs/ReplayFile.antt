@@ -10,7 +10,7 @@ use Rattle.meaning.specs.Job.{Part, long, partAt, bytesOf, ascii}
 use Rattle.replaying.specs.Replay.{Replayed, refusing, replay}
 use Rattle.replaying.specs.Cost.{replayCost}
 use Rattle.file_parts.specs.Parts.{endsBy}
-use Rattle.report.specs.Text.{lineText}
+use Rattle.report_lines.specs.Text.{lineText}
 
 -- the most bytes of a replay file
 unfoldable pub fileLimit : ℕ

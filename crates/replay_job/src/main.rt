@@ -14,7 +14,7 @@ ghost use mathlib.Core.Bool.{true};
 ghost use Prim.Native.Nat.{_≤_, _<_};
 ghost use lib.ListN.{length};
 ghost use Rattle.replay.specs.Counting.{replayedOf};
-ghost use Rattle.report.specs.Text.{Put};
+ghost use Rattle.report_lines.specs.Text.{Put};
 ghost use Rattle.replay_job.specs.ReplayFile.{goodFile, replayFile, printed, asksCost, fileSteps, costText, program};
 
 // The most bytes of a replay file.

@@ -1,4 +1,2 @@
-pub mod Writing
 pub mod Spelling
-pub mod Lines
 pub mod Whole

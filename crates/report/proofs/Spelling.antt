@@ -8,7 +8,7 @@ use lib.ListN.{length, set, drop, length-set, drop-of-length-le}
 use lib.Seq.{drop-cons, drop-set-add}
 use borrow.Author.Tests.{lt-ltb, le-ltb}
 use Rattle.meaning.specs.Job.{digits, decimal}
-use Rattle.report.specs.Text.{Spelled}
+use Rattle.report_lines.specs.Text.{Spelled}
 
 -- what stands from the place of a store on
 stored : (l : List ℕ) (i x : ℕ) → i < length l → drop i (set l i x) ≡ x ∷ drop (suc i) l

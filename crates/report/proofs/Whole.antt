@@ -7,8 +7,8 @@ use lib.ListN.{length, take, drop, length-drop}
 use lib.Seq.{take-all, length-take-le}
 use borrow.Author.Tests.{eq-eqb, ne-eqb}
 use Rattle.meaning.specs.Job.{ascii, digits, decimal, newline, hexLines, printed}
-use Rattle.report.specs.Text.{Put, Spelled, Printable, lineText, keptText}
-use Rattle.report.proofs.Writing.{left-all, left-put, left-end}
+use Rattle.report_lines.specs.Text.{Put, Spelled, Printable, lineText, keptText}
+use Rattle.report_lines.proofs.Writing.{left-all, left-put, left-end}
 
 -- the part of the twenty bytes that holds the digits
 pub spelled-part : {n : ℕ} {small : List ℕ} {first : ℕ} → Spelled n small first → take (20 - first) (drop first small) ≡ decimal n

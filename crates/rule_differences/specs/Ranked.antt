@@ -10,7 +10,7 @@ use lib.Dec.{ltb}
 use borrow.Author.Tests.{ltb-true, ltb-false}
 use Rattle.meaning.specs.Words.{upFrom}
 use Rattle.differences.specs.Entries.{Entry, each, ranked, partner, leftRule, rightRule, ifThere, atRank, longer, ruleEntries}
-use Rattle.differences.specs.Ranks.{each-ranks}
+use Rattle.difference_laws.specs.Ranks.{each-ranks}
 
 -- the rank that a cell stands for: 0 for none
 abbrev pub rankOf : ℕ → Option ℕ

@@ -10,7 +10,7 @@ use lib.Dec.{eqb}
 use borrow.Author.Tests.{eqb-true, eqb-false}
 use Rattle.differences.specs.Content.{Says}
 use Rattle.differences.specs.Entries.{sameSays}
-use Rattle.differences.specs.Equal.{tells-says}
+use Rattle.difference_laws.specs.Equal.{tells-says}
 use Rattle.rule_numbers.specs.Book.{codeAt, Is, Book}
 use Rattle.rule_numbers.proofs.Keeping.{filled-few}
 

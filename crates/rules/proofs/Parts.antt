@@ -10,8 +10,8 @@ use borrow.Author.Tests.{le-leb, leb-true}
 use Rattle.meaning.specs.Words.{word, words, inside}
 use Rattle.meaning.specs.Tables.{plainRule, chainedRule, rule}
 use Rattle.meaning.specs.Fault.{ruleSound, ruleFault, partFault}
-use Rattle.wire.specs.Fault.{faultOf}
-use Rattle.wire.specs.declared.Fault.the-variants.{At, Sound}
+use Rattle.faults.specs.Fault.{faultOf}
+use Rattle.faults.specs.declared.Fault.the-variants.{At, Sound}
 use Rattle.rules.specs.Parts.{IsRule}
 use Rattle.rules.specs.declared.RuleParts.{RuleParts}
 

@@ -1,5 +1,5 @@
 // Rules of contexts, plain and chained, with their sequences and lookup records: checked.
-use wire::Fault;
+use faults::Fault;
 use wire::inside;
 use wire::word_at;
 ghost use mathlib.Core.Path.{_≡_};
@@ -9,7 +9,7 @@ ghost use Rattle.meaning.specs.Words.{entries};
 ghost use Rattle.meaning.specs.Tables.{rule};
 ghost use Rattle.meaning.specs.Fault.{ruleFault};
 ghost use Rattle.meaning.specs.Records.{indexesBelow, ruleWithin};
-ghost use Rattle.wire.specs.Fault.{faultOf};
+ghost use Rattle.faults.specs.Fault.{faultOf};
 ghost use Rattle.rules.specs.Parts.{IsRule};
 
 // Numbers or records in a row: where the first stands, and how many there are.

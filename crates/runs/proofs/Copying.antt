@@ -11,7 +11,7 @@ use borrow.Author.Tests.{eq-eqb, ne-eqb}
 use Rattle.meaning.specs.Words.{word, words, bytes2}
 use Rattle.meaning.specs.Job.{eqList}
 use Rattle.laws.specs.Left.{words-length, words-at, words-left, words-all, words-none}
-use Rattle.replaying.specs.Places.{put-glyph}
+use Rattle.replay_laws.specs.Places.{put-glyph}
 
 -- What the loop of `same_words` keeps: the answer for what is left is the whole answer.
 pub record Alike (a : List ℕ) (at : ℕ) (b : List ℕ) (from n i : ℕ) : Type 0 where

@@ -1,6 +1,6 @@
 // A run of the trace, replayed: what comes out of its glyphs, held against what the trace says.
+use put_words::put;
 use steps::run_lookups;
-use wire::put;
 use wire::word_at;
 ghost use mathlib.Core.Path.{_≡_};
 ghost use Prim.Native.Nat.{_+_, _*_, _<_};

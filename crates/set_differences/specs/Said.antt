@@ -13,7 +13,7 @@ use Rattle.meaning.specs.Tables.{reach, reaches, dropNull}
 use Rattle.laws.specs.Stands.{All}
 use Rattle.differences.specs.Content.{Says, setHolds}
 use Rattle.differences.specs.Entries.{sameSays, beside, atKey, ruleEntries}
-use Rattle.differences.specs.Ranks.{number-entries}
+use Rattle.difference_laws.specs.Ranks.{number-entries}
 use Rattle.first_glyphs.specs.First.{onlyAt, atGlyph}
 use Rattle.set_numbers.specs.Sets.{codesFrom, codesOf, AllNumbered, Cells, Told}
 use Rattle.set_differences.specs.Gathered.{numberIn, numbersAt, Scratch, Fit}

@@ -1,11 +1,11 @@
 // GSUB single substitutions, by a delta (format 1) or by a substitute for each covered glyph (format 2): checked.
+use faults::Fault;
 use view::header;
 use view::subtable_place;
-use wire::Fault;
 use wire::inside;
 ghost use mathlib.Core.Path.{_≡_};
 ghost use Rattle.meaning.specs.Fault.{equalCount, singleFault};
-ghost use Rattle.wire.specs.Fault.{faultOf};
+ghost use Rattle.faults.specs.Fault.{faultOf};
 ghost use Rattle.single_checks.specs.Header.{goodHeader};
 
 // Whether there is a substitute for each covered glyph, and no other, where there are `n`; not judged where the coverage is null or faulty.
@@ -19,7 +19,7 @@ fn equal_count(src: &[u8], n: usize) -> bool
     let Fault::Sound = coverage::check(src, at) else {
         return true;
     };
-    coverage::count(src, at) == n
+    coverage_glyphs::count(src, at) == n
 }
 
 // Whether the header lies inside, with its delta, or with its substitutes, of which there are as many as covered glyphs.

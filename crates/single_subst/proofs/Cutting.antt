@@ -29,12 +29,12 @@ use Rattle.fold.specs.Cells.{folded, Holds, holds-kept}
 use Rattle.fold.specs.Runs.{LaidGlyphs}
 use Rattle.fold.specs.declared.Map.{Map}
 use Rattle.area.specs.Part.{part, notes, oldAt}
-use Rattle.meet.specs.Met.{met, Met, met-few, met-count}
-use Rattle.meet_runs.specs.Either.{Most, MeetsGlyphs}
+use Rattle.meet_ranges.specs.Met.{met, Met, met-few, met-count}
+use Rattle.meets.specs.Either.{Most, MeetsGlyphs}
 use Rattle.tried.specs.Tries.{Tries, tries-less}
 use Rattle.tried.specs.declared.Tried.{Tried}
-use Rattle.single_subst.specs.Pairs.{covered, substitutes, pairs, pairAt, KeepsPairs, KeptPairs}
-use Rattle.single_subst.specs.Writing.{Writes}
+use Rattle.single_pairs.specs.Pairs.{covered, substitutes, pairs, pairAt, KeepsPairs, KeptPairs}
+use Rattle.single_layouts.specs.Writing.{Writes}
 use Rattle.single_subst.specs.Whole.{Sound, MapLaid, enoughCells}
 use Rattle.single_checks.proofs.Checking.{Good, good-table}
 

@@ -1,3 +1,1 @@
-pub mod Keeping
-pub mod Laying
 pub mod Cutting

@@ -11,8 +11,8 @@ use Rattle.meaning.specs.Words.{word, words, entries, bytes2, bind}
 use Rattle.meaning.specs.Tables.{Table}
 use Rattle.replaying.specs.Asking.{Answer, ask}
 use Rattle.replaying.specs.Applying.{Step as StepOf, lookupAt, runRecords, act, apply}
-use Rattle.replaying.specs.Places.{put-glyph}
-use Rattle.replaying.specs.Turns.{records-turn, records-end}
+use Rattle.replay_laws.specs.Places.{put-glyph}
+use Rattle.replay_laws.specs.Turns.{records-turn, records-end}
 use Rattle.asking.specs.Asks.{answerBy, Asks, InList}
 use Rattle.steps.specs.Stepping.{Stepped, Ruled}
 use Rattle.asking.specs.declared.Asked.{Asked}

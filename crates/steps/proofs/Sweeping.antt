@@ -12,7 +12,7 @@ use Rattle.meaning.specs.Tables.{Table}
 use Rattle.laws.specs.Left.{words-length}
 use Rattle.replaying.specs.Listed.{entriesFrom, listed, lookupOf, lookupsOf}
 use Rattle.replaying.specs.Applying.{Step as StepOf, apply, depthLimit, sweepAll, inOrder, run}
-use Rattle.replaying.specs.Turns.{sweepLeft, onward, sweep-turn, sweep-end, order-turn, order-end}
+use Rattle.replay_laws.specs.Turns.{sweepLeft, onward, sweep-turn, sweep-end, order-turn, order-end}
 use Rattle.steps.specs.Stepping.{Stepped, Ruled}
 use Rattle.steps.specs.declared.Step.{Step}
 use Rattle.steps.specs.declared.Step.the-variants.{Took, Deep}

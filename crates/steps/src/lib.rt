@@ -2,15 +2,15 @@
 use asking::Asked;
 use asking::ask_at;
 use asking::source_word;
+use put_words::put;
 use rules::Row;
-use wire::put;
 ghost use mathlib.Core.Path.{_≡_};
 ghost use Prim.Native.Nat.{_+_, _*_, _/_, _≤_, _<_};
 ghost use lib.ListN.{length};
 ghost use Rattle.meaning.specs.Words.{words, entries};
 ghost use Rattle.replaying.specs.Listed.{lookupsOf};
 ghost use Rattle.replaying.specs.Applying.{apply, runRecords, sweepAll, run};
-ghost use Rattle.replaying.specs.Turns.{onward};
+ghost use Rattle.replay_laws.specs.Turns.{onward};
 ghost use Rattle.lookup_list.specs.Ready.{Ready, sourceAt};
 ghost use Rattle.steps.specs.Stepping.{Room, Stepped, Ruled};
 

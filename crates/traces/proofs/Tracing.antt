@@ -12,7 +12,7 @@ use borrow.Author.Tests.{not-true, not-false, le-leb, lt-leb, leb-true}
 use Rattle.meaning.specs.Words.{word, inside, isSome, bind}
 use Rattle.replaying.specs.Applying.{run}
 use Rattle.replaying.specs.Trace.{Run, runAt, runLimit, runLength, goodRun, runsOf}
-use Rattle.replaying.specs.Turns.{runsLeft, runs-all, runs-turn, runs-short, runs-end}
+use Rattle.replay_laws.specs.Turns.{runsLeft, runs-all, runs-turn, runs-short, runs-end}
 use Rattle.laws.specs.Runs.{both}
 use Rattle.traces.specs.Whole.{Whole}
 

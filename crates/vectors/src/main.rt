@@ -2,15 +2,27 @@
 // Each is made three times: what is kept on a buffer that is one byte short, on one that is exact and on one that is longer, what has no room on three that are too short,
 // and any other refusal on an empty, a small and a large buffer.
 // Number, length and the whole buffer are compared.
+use answer_numbers::length_of;
+use answer_numbers::number_of;
+use made_tables::put_list;
+use made_tables::put_map;
+use made_tables::put_next;
+use made_tables::put_pair_sets;
+use made_tables::put_pair_table;
+use made_tables::put_pairs;
+use made_tables::put_result;
+use made_tables::put_rules;
+use made_tables::put_same;
+use made_tables::put_same_but_last;
+use made_tables::put_shared;
+use made_tables::put_source;
 use marks::Marks;
-use subset::length_of;
-use subset::number_of;
+use put_words::put;
+use put_words::put_byte;
+use put_words::put_entry;
+use put_words::put_record;
 use subset::subset;
 use wire::byte;
-use wire::put;
-use wire::put_byte;
-use wire::put_entry;
-use wire::put_record;
 use wire::word_at;
 ghost use Prim.Native.Nat.{_≤_, _<_};
 ghost use lib.ListN.{length};
@@ -334,82 +346,6 @@ fn sources(kind: usize) -> usize
     longest_source(kind) + long_source(kind)
 }
 
-// Coverage offsets of a context of format 3, from the first place on: `n` that are `step` apart.
-fn put_offsets(out: &mut [u8], n: usize, first: usize, step: usize)
-    requires { ⌜ (n ≤ 65536) × (first ≤ 196608) × (step ≤ 65536) ⌝ }
-{
-    let mut offset = first;
-    let mut i = 0;
-    while i < n {
-        put(out, 6 + 2 * i, offset);
-        offset += step;
-        i += 1;
-    }
-}
-
-// A coverage of `n` glyphs, two apart, from `first` on, in format 1.
-fn put_cover(out: &mut [u8], at: usize, n: usize, first: usize)
-    requires { ⌜ (at < 0x1_0000_0000_0000) × (n ≤ 65536) × (first ≤ 65536) ⌝ }
-{
-    put_entry(out, at, 1, n);
-    let mut i = 0;
-    while i < n {
-        put(out, at + 4 + 2 * i, first + 2 * i);
-        i += 1;
-    }
-}
-
-// As many such coverages as `times` says, one after the other.
-fn put_covers(out: &mut [u8], at: usize, times: usize, n: usize, first: usize)
-    requires { ⌜ (at ≤ 196608) × (times ≤ 65536) × (n ≤ 65536) × (first ≤ 65536) ⌝ }
-{
-    let mut p = at;
-    let mut i = 0;
-    while i < times {
-        put_cover(out, p, n, first);
-        p += 4 + 2 * n;
-        i += 1;
-    }
-}
-
-// A map of `n` glyphs, each to the one after it: 1, 3 and so on.
-fn put_map(out: &mut [u8], n: usize)
-    requires { ⌜ n ≤ 65536 ⌝ }
-{
-    let mut i = 0;
-    while i < n {
-        put_entry(out, 4 * i, 1 + 2 * i, 2 + 2 * i);
-        i += 1;
-    }
-}
-
-// A context of format 3 at `places` places, each of `n` glyphs from `first` on, that share one coverage.
-fn put_shared(out: &mut [u8], places: usize, n: usize, first: usize)
-    requires { ⌜ (places ≤ 65536) × (n ≤ 16384) × (first ≤ 65536) ⌝ }
-{
-    let at = 6 + 2 * places;
-    put_record(out, 0, 3, places, 0);
-    put_offsets(out, places, at, 0);
-    put_cover(out, at, n, first);
-}
-
-// Such a source, of old glyphs.
-fn put_source(out: &mut [u8], places: usize, n: usize)
-    requires { ⌜ (places ≤ 65536) × (n ≤ 16384) ⌝ }
-{
-    put_shared(out, places, n, 1);
-}
-
-// What the plain layout keeps of it: each place has a coverage of its own, of the new glyphs.
-fn put_result(out: &mut [u8], places: usize, n: usize)
-    requires { ⌜ (places ≤ 65536) × (n ≤ 16384) ⌝ }
-{
-    let at = 6 + 2 * places;
-    put_record(out, 0, 3, places, 0);
-    put_offsets(out, places, at, 4 + 2 * n);
-    put_covers(out, at, places, n, 2);
-}
-
 // How many agree of the calls whose plain layout has its last coverage at 65,534: 490 places of 64 glyphs, in 65,666 bytes.
 fn highest_offset() -> usize
     ensures { λ r. ⌜ r ≤ 3 ⌝ }
@@ -464,29 +400,6 @@ fn many_covered() -> usize
     verdict(b"covered glyphs: ", 9000, good)
 }
 
-// A map of the first `n` glyphs, each to itself.
-fn put_same(out: &mut [u8], n: usize)
-    requires { ⌜ n ≤ 65536 ⌝ }
-{
-    let mut i = 0;
-    while i < n {
-        put_entry(out, 4 * i, i, i);
-        i += 1;
-    }
-}
-
-// The offsets of the `n` rules of a set from `at` on, and the rules: each of two glyphs, the second being the rule's index.
-fn put_rules(out: &mut [u8], at: usize, n: usize)
-    requires { ⌜ (at ≤ 65536) × (n ≤ 65536) ⌝ }
-{
-    let mut i = 0;
-    while i < n {
-        put(out, at + 2 * i, 2 + 2 * n + 6 * i);
-        put_record(out, at + 2 * n + 6 * i, 2, 0, i);
-        i += 1;
-    }
-}
-
 // How many agree of the calls on a set of 1,000 rules, of which all are kept: the source is as its plain layout has it.
 fn many_rules() -> usize
     ensures { λ r. ⌜ r ≤ 3 ⌝ }
@@ -500,59 +413,6 @@ fn many_rules() -> usize
     put_same(&mut glyphs, 1000);
     let good = kept_calls(plain(1, PAIRS), &source, &glyphs, b"", &source);
     verdict(b"rules in a set: ", 1000, good)
-}
-
-// The advance of the pair with this second glyph: -1, -32768 or 32767.
-fn advance(glyph: usize) -> usize
-    ensures { λ r. ⌜ r < 65536 ⌝ }
-{
-    match glyph % 3 {
-        0 => 65535,
-        1 => 32768,
-        _ => 32767,
-    }
-}
-
-// A pair set at `at`: the first `n` glyphs, each with its advance.
-fn put_pairs(out: &mut [u8], at: usize, n: usize)
-    requires { ⌜ (at < 0x1_0000_0000) × (n ≤ 65536) ⌝ }
-{
-    put(out, at, n);
-    let mut i = 0;
-    while i < n {
-        put_entry(out, at + 2 + 4 * i, i, advance(i));
-        i += 1;
-    }
-}
-
-// A pair table whose first `n` glyphs are covered and whose sets are `step` apart, the first right after the offsets: all but the sets. The coverage stands at `cover`.
-fn put_pair_table(out: &mut [u8], n: usize, step: usize, cover: usize)
-    requires { ⌜ (n ≤ 65536) × (step ≤ 65536) × (cover ≤ 65536) ⌝ }
-{
-    put_record(out, 0, 1, cover, 4);
-    put_entry(out, 6, 0, n);
-    put_record(out, cover, 2, 1, 0);
-    put(out, cover + 8, 0);
-    let mut p = 10 + 2 * n;
-    let mut i = 0;
-    while i < n {
-        put(out, 10 + 2 * i, p);
-        p += step;
-        i += 1;
-    }
-}
-
-// A set of `n` pairs for each of `n` glyphs, one after the other from `at` on.
-fn put_pair_sets(out: &mut [u8], at: usize, n: usize)
-    requires { ⌜ (at ≤ 65536) × (n ≤ 256) ⌝ }
-{
-    let mut p = at;
-    let mut i = 0;
-    while i < n {
-        put_pairs(out, p, n);
-        p += 2 + 4 * n;
-        i += 1;
-    }
 }
 
 // How many agree of the calls on 300 glyphs that share a set of 300 pairs, of which the first 100 are retained.
@@ -571,37 +431,6 @@ fn wide_pairs() -> usize
     put_pair_sets(&mut kept, 210, 100);
     let good = kept_calls(plain(4, PAIRS), &source, &glyphs, b"", &kept);
     verdict(b"pairs of a shared set: ", 300, good)
-}
-
-// A single substitution of each of the first `n` glyphs by the next one: a delta of 1, and a coverage of one range.
-fn put_next(out: &mut [u8], n: usize)
-    requires { ⌜ 0 < n ⌝ }
-{
-    put_record(out, 0, 1, 6, 1);
-    put_record(out, 6, 2, 1, 0);
-    put_entry(out, 12, n - 1, 0);
-}
-
-// What is kept of it where the last substitute alone gets another number, 65,535: a list, and that coverage.
-fn put_list(out: &mut [u8], n: usize)
-    requires { ⌜ (0 < n) × (n ≤ 65536) ⌝ }
-{
-    put_record(out, 0, 2, 6 + 2 * n, n);
-    let mut i = 1;
-    while i < n {
-        put(out, 4 + 2 * i, i);
-        i += 1;
-    }
-    put_record(out, 4 + 2 * n, 65535, 2, 1);
-    put_record(out, 10 + 2 * n, 0, n - 1, 0);
-}
-
-// The map that gives it that number: of the first `n` glyphs, each to itself, and of the next one.
-fn put_same_but_last(out: &mut [u8], n: usize)
-    requires { ⌜ n ≤ 65536 ⌝ }
-{
-    put_same(out, n);
-    put_entry(out, 4 * n, n, 65535);
 }
 
 // How many agree of the calls whose plain layout has the coverage at 65,534, behind 32,764 substitutes.

@@ -1,20 +1,9 @@
-// Big-endian words: reading them anywhere, and writing them where there is room. And what a check answers.
+// Big-endian words, read anywhere.
 ghost use mathlib.Core.Path.{_≡_};
-ghost use mathlib.Core.List.{[], _∷_};
 ghost use Prim.Native.Nat.{_+_, _*_, _<_};
-ghost use lib.ListN.{length, getD, set};
-ghost use lib.Seq.{sets};
-ghost use Rattle.meaning.specs.Words.{word, bytes2, flat, inside, ascends};
-ghost use Rattle.meaning.specs.Fault.{lowest};
+ghost use lib.ListN.{length, getD};
+ghost use Rattle.meaning.specs.Words.{word, inside, ascends};
 ghost use Rattle.laws.specs.Left.{column};
-ghost use Rattle.wire.specs.Fault.{faultOf, placeOf};
-ghost use Rattle.wire.specs.Low.{foundBefore};
-
-// What a check answers: where the first faulty part starts, or that all is sound.
-pub enum Fault {
-    At(usize),
-    Sound,
-}
 
 // The byte at `at`; 0 past the end.
 pub fn byte(s: &[u8], at: usize) -> usize
@@ -73,73 +62,4 @@ pub fn ascending(s: &[u8], at: usize, n: usize, step: usize) -> bool
         left -= 1;
     }
     true
-}
-
-// The byte `b` at `at`, where there is room for it.
-pub fn put_byte(out: &mut [u8], at: usize, b: usize)
-    requires { ⌜ b < 256 ⌝ }
-    ensures { λ _. ⌜ now (out .exit) ≡ set (now (out .entry)) at b ⌝ }
-{
-    if at < out.len() {
-        out[at] = b as u8;
-    }
-}
-
-// The word's two bytes from `at` on, each where there is room for it; the place after them.
-pub fn put(out: &mut [u8], at: usize, w: usize) -> usize
-    requires { ⌜ at < 0x2_0000_0000_0000 ⌝ }
-    ensures { λ r. ⌜ (r ≡ at + 2) × (now (out .exit) ≡ sets (now (out .entry)) at (bytes2 w)) ⌝ }
-{
-    if at + 1 < out.len() {
-        out[at] = (w / 256 % 256) as u8;
-        out[at + 1] = (w % 256) as u8;
-        return at + 2;
-    }
-    put_byte(out, at, w / 256 % 256);
-    at + 2
-}
-
-// An entry of two words from `at` on, where there is room; the place after it.
-pub fn put_entry(out: &mut [u8], at: usize, a: usize, b: usize) -> usize
-    requires { ⌜ at < 0x1_0000_0000_0000 ⌝ }
-    ensures { λ r. ⌜ (r ≡ at + 4) × (now (out .exit) ≡ sets (now (out .entry)) at (flat (a ∷ b ∷ []))) ⌝ }
-{
-    let p = put(out, at, a);
-    put(out, p, b)
-}
-
-// A record of three words from `at` on, where there is room; the place after it.
-pub fn put_record(out: &mut [u8], at: usize, a: usize, b: usize, c: usize) -> usize
-    requires { ⌜ at < 0x1_0000_0000_0000 ⌝ }
-    ensures { λ r. ⌜ (r ≡ at + 6) × (now (out .exit) ≡ sets (now (out .entry)) at (flat (a ∷ b ∷ c ∷ []))) ⌝ }
-{
-    let p = put(out, at, a);
-    let q = put(out, p, b);
-    put(out, q, c)
-}
-
-// Whether a fault was found at `at` or before it. No part has one before its own start, so what starts at `at` has none that is lower.
-pub fn found_before(low: Fault, at: usize) -> bool
-    ensures { λ r. ⌜ r ≡ foundBefore low at ⌝ }
-{
-    match low {
-        Fault::At(place) => place <= at,
-        Fault::Sound => false,
-    }
-}
-
-// The lower of two faults, where there is one.
-pub fn lowest(a: Fault, b: Fault) -> Fault
-    ensures { λ r. ⌜ r ≡ faultOf (lowest (placeOf a) (placeOf b)) ⌝ }
-{
-    let Fault::At(p) = a else {
-        return b;
-    };
-    let Fault::At(q) = b else {
-        return Fault::At(p);
-    };
-    if p <= q {
-        return Fault::At(p);
-    }
-    Fault::At(q)
 }

@@ -4,7 +4,7 @@ use native.Mathlib.Omega.{arith}
 use borrow.Author.Needs.{needs}
 use borrow.Fn.Kinds.{In}
 use borrow.Fn.PlainCycle.{Measures, is, falls, and}
-use Rattle.kept_sets.specs.Sorts.{told-none}
+use Rattle.placed_sets.specs.Sorts.{told-none}
 use Rattle.kept_table.proofs.write_table.Reads as write-table-reads
 use Rattle.by_glyph.proofs.write_shared.Reads as write-shared
 use Rattle.by_glyph.proofs.write_shared.Kinds as write-shared-kinds

@@ -3,7 +3,8 @@ use borrow.Author.Needs.{needs}
 use Rattle.meaning.specs.Maps.{mapEntries, glyphEntries}
 use Rattle.meaning.specs.Cut.{cut}
 use Rattle.meaning.specs.Subset.{writtenIn}
-use Rattle.by_glyph.specs.Whole.{front-length, front-tries, glyphContext}
+use Rattle.tried.specs.Front.{front-length, front-area}
+use Rattle.by_glyph.specs.Whole.{glyphContext}
 use Rattle.by_glyph.proofs.contexts.Statement.{statement}
 use Rattle.by_glyph.proofs.contexts.Tie as tie
 
@@ -20,7 +21,7 @@ returns : tie.Need-returns
 returns c =
     let r = c .before .before .before .before .before .before in
     let a = c .before .before .before .before .before .before .before .before .before .before .before .before .before .before .before .before .before .args in
-    front-tries (a .area .now) (c .before .before .before .before .before .before .before .before .before .before .least .ensures) _ (r .cut-contexts .result) (a .out .now) _ (writtenIn (a .marks .layout) (a .out .now) (cut (glyphEntries (a .marks .form) (a .glyphs .now)) (mapEntries (a .lookups .now)) (glyphContext (a .chained) (a .src .now)))) (r .cut-contexts .ensures)
+    front-area (a .area .now) (c .before .before .before .before .before .before .before .before .before .before .least .ensures) _ (r .cut-contexts .result) (a .out .now) _ (writtenIn (a .marks .layout) (a .out .now) (cut (glyphEntries (a .marks .form) (a .glyphs .now)) (mapEntries (a .lookups .now)) (glyphContext (a .chained) (a .src .now)))) (r .cut-contexts .ensures)
 
 pub contexts-spec : {M : Type 1} → statement M
 contexts-spec =

@@ -3,9 +3,9 @@ use native.Mathlib.Omega.{arith}
 use lib.Dec.{eqb}
 use borrow.Author.Needs.{needs}
 use Rattle.laws.specs.SoundGood.{bytes-all}
-use Rattle.kept_table.specs.Table.{tableOf}
-use Rattle.kept_table.specs.Answers.{answered-said}
-use Rattle.kept_sets.specs.Sorts.{told-none}
+use Rattle.kept_header.specs.Table.{tableOf}
+use Rattle.kept_header.specs.Answers.{answered-said}
+use Rattle.placed_sets.specs.Sorts.{told-none}
 use Rattle.by_glyph.proofs.Asking.{form-some, may-count, may-meet, may-write, kept-said}
 use Rattle.by_glyph.proofs.cut_sets.Statement.{statement}
 use Rattle.by_glyph.proofs.cut_sets.Tie as tie

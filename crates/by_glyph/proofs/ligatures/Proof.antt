@@ -4,7 +4,8 @@ use borrow.Author.Needs.{needs}
 use Rattle.meaning.specs.Maps.{glyphEntries}
 use Rattle.meaning.specs.Cut.{cut}
 use Rattle.meaning.specs.Subset.{writtenIn}
-use Rattle.by_glyph.specs.Whole.{front-length, front-tries, ligatureTable}
+use Rattle.tried.specs.Front.{front-length, front-area}
+use Rattle.by_glyph.specs.Whole.{ligatureTable}
 use Rattle.by_glyph.proofs.ligatures.Statement.{statement}
 use Rattle.by_glyph.proofs.ligatures.Tie as tie
 
@@ -21,7 +22,7 @@ returns : tie.Need-returns
 returns c =
     let r = c .before .before .before .before .before .before in
     let a = c .before .before .before .before .before .before .before .before .before .before .before .before .before .before .before .before .args in
-    front-tries (a .area .now) (c .before .before .before .before .before .before .before .before .before .before .least .ensures) _ (r .cut-ligatures .result) (a .out .now) _ (writtenIn (a .marks .layout) (a .out .now) (cut (glyphEntries (a .marks .form) (a .glyphs .now)) [] (ligatureTable (a .src .now)))) (r .cut-ligatures .ensures)
+    front-area (a .area .now) (c .before .before .before .before .before .before .before .before .before .before .least .ensures) _ (r .cut-ligatures .result) (a .out .now) _ (writtenIn (a .marks .layout) (a .out .now) (cut (glyphEntries (a .marks .form) (a .glyphs .now)) [] (ligatureTable (a .src .now)))) (r .cut-ligatures .ensures)
 
 pub ligatures-spec : {M : Type 1} → statement M
 ligatures-spec =

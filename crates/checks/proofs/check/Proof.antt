@@ -1,7 +1,7 @@
 use borrow.Author.Needs.{needs}
 use borrow.Author.Tests.{not-true, not-false}
-use Rattle.wire.specs.Fault.{faultOf}
-use Rattle.checks.proofs.Laws.{source-short, source-plain, source-chained, source-ligatures, source-pairs, source-singles}
+use Rattle.faults.specs.Fault.{faultOf}
+use Rattle.check_parts.proofs.Laws.{source-short, source-plain, source-chained, source-ligatures, source-pairs, source-singles}
 use mathlib.Core.Path.{sym, ap, _∙_}
 use native.Mathlib.Omega.{arith}
 use borrow.Author.Needs.{needs}

@@ -1,8 +1,8 @@
 use borrow.Author.Needs.{needs}
 use borrow.Author.Tests.{not-true, not-false}
-use Rattle.wire.specs.Fault.{faultOf, lower}
+use Rattle.faults.specs.Fault.{faultOf, lower}
 use Rattle.meaning.specs.Fault.{lowest, faultThrough, coverageFault}
-use Rattle.checks.proofs.Laws.{chained-outside, chained-inside}
+use Rattle.check_parts.proofs.Laws.{chained-outside, chained-inside}
 use mathlib.Core.Path.{sym, ap, _∙_}
 use Prim.Native.Nat.{_+_, _*_}
 use borrow.Author.Needs.{needs}

@@ -1,7 +1,7 @@
 use borrow.Author.Tests.{not-true, not-false}
 use Rattle.meaning.specs.Fault.{faultThrough, coverageFault, classesFault}
-use Rattle.wire.specs.Fault.{faultOf, lower}
-use Rattle.checks.proofs.Laws.{class-header-bad, class-header-good}
+use Rattle.faults.specs.Fault.{faultOf, lower}
+use Rattle.check_parts.proofs.Laws.{class-header-bad, class-header-good}
 use mathlib.Core.Path.{sym, ap, _∙_}
 use borrow.Author.Needs.{needs}
 use Rattle.checks.proofs.check_class_pairs.Statement.{statement}

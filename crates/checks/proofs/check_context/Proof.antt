@@ -1,6 +1,6 @@
 use borrow.Author.Needs.{needs}
-use Rattle.wire.specs.Fault.{faultOf}
-use Rattle.checks.proofs.Laws.{context-1, context-2, context-3}
+use Rattle.faults.specs.Fault.{faultOf}
+use Rattle.check_parts.proofs.Laws.{context-1, context-2, context-3}
 use mathlib.Core.Path.{sym, ap, _∙_}
 use native.Mathlib.Omega.{arith}
 use borrow.Author.Needs.{needs}

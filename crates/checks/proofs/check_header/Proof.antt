@@ -1,9 +1,9 @@
 use borrow.Author.Needs.{needs}
 use borrow.Author.Tests.{not-true, not-false}
-use Rattle.wire.specs.Fault.{faultOf, lower}
-use Rattle.checks.specs.Parts.{faultOfPart}
+use Rattle.faults.specs.Fault.{faultOf, lower}
+use Rattle.check_parts.specs.Parts.{faultOfPart}
 use Rattle.meaning.specs.Fault.{lowest, faultThrough, coverageFault, classesFault}
-use Rattle.checks.proofs.Laws.{header-short, array-short, fields-bad, header-sound}
+use Rattle.check_parts.proofs.Laws.{header-short, array-short, fields-bad, header-sound}
 use mathlib.Core.Path.{sym, ap, _∙_}
 use Prim.Native.Nat.{_+_}
 use borrow.Author.Needs.{needs}

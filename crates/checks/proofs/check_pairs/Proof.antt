@@ -1,5 +1,5 @@
-use Rattle.wire.specs.Fault.{faultOf}
-use Rattle.checks.proofs.Laws.{pairs-1, pairs-2}
+use Rattle.faults.specs.Fault.{faultOf}
+use Rattle.check_parts.proofs.Laws.{pairs-1, pairs-2}
 use mathlib.Core.Path.{sym, ap, _∙_}
 use borrow.Author.Needs.{needs}
 use Rattle.checks.proofs.check_pairs.Statement.{statement}

@@ -1,7 +1,7 @@
 use borrow.Author.Needs.{needs}
 use borrow.Author.Tests.{not-true, not-false}
-use Rattle.wire.specs.Fault.{faultOf}
-use Rattle.checks.proofs.Laws.{covers-short, covers-outside, covers-inside}
+use Rattle.faults.specs.Fault.{faultOf}
+use Rattle.check_parts.proofs.Laws.{covers-short, covers-outside, covers-inside}
 use mathlib.Core.Path.{refl, sym, ap, _∙_}
 use borrow.Author.Needs.{needs}
 use Rattle.checks.proofs.check_plain_covers.Statement.{statement}

@@ -2,7 +2,7 @@
 use mathlib.Core.Path.{ap}
 use mathlib.Core.Bool.{not}
 use borrow.Author.Needs.{needs}
-use Rattle.wire.specs.Reached.{refused, passed}
+use Rattle.faults.specs.Reached.{refused, passed}
 use Rattle.checks.proofs.other_format.Statement.{statement}
 use Rattle.checks.proofs.other_format.Tie as tie
 

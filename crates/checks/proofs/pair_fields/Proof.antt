@@ -1,4 +1,4 @@
-use Rattle.checks.proofs.Laws.{fields-bad-formats, fields-enough}
+use Rattle.check_parts.proofs.Laws.{fields-bad-formats, fields-enough}
 use mathlib.Core.Path.{sym, _∙_}
 use borrow.Author.Needs.{needs}
 use Rattle.checks.proofs.pair_fields.Statement.{statement}

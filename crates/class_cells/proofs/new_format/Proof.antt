@@ -1,7 +1,7 @@
 use native.Mathlib.Omega.{arith}
 use Prim.Native.Nat.{_+_}
 use Rattle.numbers.specs.Entries.{entriesIn}
-use Rattle.pair_sets.specs.Formats.{below}
+use Rattle.pair_places.specs.Formats.{below}
 use Rattle.pair_formats.proofs.Using.{place-fits}
 use Rattle.class_cells.proofs.Using.{format-sum}
 use borrow.Author.Needs.{needs}

@@ -3,7 +3,7 @@ use native.Mathlib.Omega.{arith}
 use lib.ListN.{length-map}
 use Rattle.numbers.specs.Entries.{entriesIn}
 use Rattle.numbers.proofs.Numbers.{cell-new, cell-gone}
-use Rattle.pair_sets.specs.Pairs.{valueAt}
+use Rattle.pair_fields.specs.Pairs.{valueAt}
 use Rattle.class_cells.proofs.Writing as writing
 use borrow.Author.Needs.{needs}
 use Rattle.class_cells.proofs.write_cell.Statement.{statement}

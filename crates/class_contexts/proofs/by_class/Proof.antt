@@ -1,4 +1,4 @@
-use Rattle.class_contexts.proofs.Entry.{front-length, front-tries}
+use Rattle.tried.specs.Front.{front-length, front-tries}
 use Rattle.meaning.specs.Maps.{mapEntries, glyphEntries}
 use Rattle.meaning.specs.Tables.{classContext}
 use Rattle.meaning.specs.Cut.{cut}

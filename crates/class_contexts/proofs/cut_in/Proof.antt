@@ -1,6 +1,6 @@
 use Rattle.class_contexts.proofs.Entry.{may-note, none-noted, may-cut, noted-cut}
 use Rattle.laws.specs.SoundGood.{bytes-all}
-use Rattle.class_contexts.specs.Meaning.{not-covered, not-classed}
+use Rattle.context_classes.specs.Meaning.{not-covered, not-classed}
 use Rattle.meaning.specs.Maps.{mapEntries, glyphEntries}
 use mathlib.Core.Path.{refl, sym, _∙_}
 use native.Mathlib.Omega.{arith}

@@ -1,5 +1,5 @@
 use lib.Seq.{length-take-le}
-use Rattle.class_contexts.proofs.Cutting.{front-inside, form-there, few-lookups, cells-same, may-write, cut-into}
+use Rattle.context_classes.proofs.Cutting.{front-inside, form-there, few-lookups, cells-same, may-write, cut-into}
 use mathlib.Core.Path.{refl, sym, _∙_}
 use borrow.Author.Needs.{needs}
 use Rattle.class_contexts.proofs.cut_noted.Statement.{statement}

@@ -1,4 +1,4 @@
-use Rattle.class_counts.proofs.Counting.{no-first, no-second, both-judged}
+use Rattle.covered_between.proofs.Counting.{no-first, no-second, both-judged}
 use mathlib.Core.Path.{refl, sym, _∙_}
 use borrow.Author.Needs.{needs}
 use Rattle.class_counts.proofs.classes_below.Statement.{statement}

@@ -1,4 +1,4 @@
-use Rattle.class_counts.proofs.Stretching.{array-count, range-count}
+use Rattle.covered_between.proofs.Stretching.{array-count, range-count}
 use mathlib.Core.Path.{_∙_}
 use borrow.Author.Needs.{needs}
 use Rattle.class_counts.proofs.count.Statement.{statement}

@@ -1,8 +1,8 @@
 use borrow.Author.Needs.{needs}
 use Rattle.meaning.specs.Parts.{coverage}
-use Rattle.class_counts.specs.Stretches.{stretches}
-use Rattle.class_counts.proofs.Stretching.{Left, clear, left-all}
-use Rattle.class_counts.proofs.Counting.{in-order, covered-next, covered-past, covered-end}
+use Rattle.covered_between.specs.Stretches.{stretches}
+use Rattle.covered_between.proofs.Stretching.{Left, clear, left-all}
+use Rattle.covered_between.proofs.Counting.{in-order, covered-next, covered-past, covered-end}
 use Prim.Native.Nat.{_-_}
 use native.Mathlib.Omega.{arith}
 use Rattle.class_counts.proofs.covered_below.Statement.{statement}

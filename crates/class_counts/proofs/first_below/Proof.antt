@@ -1,4 +1,4 @@
-use Rattle.class_counts.proofs.Counting.{cover-sound, cover-faulty, table-sound, table-faulty, first-null, first-faulty-cover, first-faulty-table, first-judged, first-none}
+use Rattle.covered_between.proofs.Counting.{cover-sound, cover-faulty, table-sound, table-faulty, first-null, first-faulty-cover, first-faulty-table, first-judged, first-none}
 use native.Mathlib.Omega.{arith}
 use borrow.Author.Needs.{needs}
 use Rattle.class_counts.proofs.first_below.Statement.{statement}

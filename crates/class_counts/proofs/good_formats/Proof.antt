@@ -1,4 +1,4 @@
-use Rattle.class_counts.proofs.Counting.{first-format, second-format}
+use Rattle.covered_between.proofs.Counting.{first-format, second-format}
 use borrow.Author.Needs.{needs}
 use Rattle.class_counts.proofs.good_formats.Statement.{statement}
 use Rattle.class_counts.proofs.good_formats.Tie as tie

@@ -1,5 +1,5 @@
 use borrow.Author.Tests.{not-true, not-false}
-use Rattle.class_counts.proofs.Counting.{few-cells, few-bytes, header-short, cells-outside, formats-bad, formats-good}
+use Rattle.covered_between.proofs.Counting.{few-cells, few-bytes, header-short, cells-outside, formats-bad, formats-good}
 use mathlib.Core.Path.{sym, _∙_}
 use native.Mathlib.Omega.{arith}
 use borrow.Author.Needs.{needs}

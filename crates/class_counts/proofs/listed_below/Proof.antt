@@ -1,7 +1,7 @@
 use borrow.Author.Needs.{needs}
-use Rattle.class_counts.specs.Stretches.{stretches}
-use Rattle.class_counts.proofs.Stretching.{Left, isBelow, left-all}
-use Rattle.class_counts.proofs.Counting.{listed-next, listed-past, listed-end}
+use Rattle.covered_between.specs.Stretches.{stretches}
+use Rattle.covered_between.proofs.Stretching.{Left, isBelow, left-all}
+use Rattle.covered_between.proofs.Counting.{listed-next, listed-past, listed-end}
 use Prim.Native.Nat.{_-_}
 use native.Mathlib.Omega.{arith}
 use Rattle.class_counts.proofs.listed_below.Statement.{statement}

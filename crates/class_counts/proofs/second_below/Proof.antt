@@ -1,4 +1,4 @@
-use Rattle.class_counts.proofs.Counting.{table-sound, table-faulty, second-faulty, second-none, second-judged}
+use Rattle.covered_between.proofs.Counting.{table-sound, table-faulty, second-faulty, second-none, second-judged}
 use native.Mathlib.Omega.{arith}
 use borrow.Author.Needs.{needs}
 use Rattle.class_counts.proofs.second_below.Statement.{statement}

@@ -1,4 +1,4 @@
-use Rattle.class_counts.proofs.Stretching.{array-stretch, range-stretch}
+use Rattle.covered_between.proofs.Stretching.{array-stretch, range-stretch}
 use borrow.Author.Needs.{needs}
 use Rattle.class_counts.proofs.stretch_at.Statement.{statement}
 use Rattle.class_counts.proofs.stretch_at.Tie as tie

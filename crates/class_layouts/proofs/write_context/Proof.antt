@@ -1,4 +1,4 @@
-use Rattle.class_layouts.proofs.Handing.{book-plain}
+use Rattle.class_booked.proofs.Handing.{book-plain}
 use borrow.Author.Needs.{needs}
 use Rattle.class_layouts.proofs.write_context.Statement.{statement}
 use Rattle.class_layouts.proofs.write_context.Tie as tie

@@ -1,5 +1,5 @@
 use Rattle.member_sets.specs.Dead.{dead-none}
-use Rattle.class_slots.specs.Sets.{slots-near}
+use Rattle.class_spots.specs.Sets.{slots-near}
 use native.Mathlib.Omega.{arith}
 use borrow.Author.Needs.{needs}
 use Rattle.class_layouts.proofs.write_left.Statement.{statement}

@@ -1,5 +1,5 @@
 use borrow.Author.Needs.{needs}
-use Rattle.class_slots.proofs.Settling.{settled-null, settled-there}
+use Rattle.class_spots.proofs.Settling.{settled-null, settled-there}
 use Rattle.class_slots.proofs.offset_of.Statement.{statement}
 use Rattle.class_slots.proofs.offset_of.Tie as tie
 

@@ -1,6 +1,6 @@
 use native.Mathlib.Omega.{arith}
 use borrow.Author.Needs.{needs}
-use Rattle.class_slots.proofs.Placing.{again-least, placed-again, placed-null, placed-full, set-after, placed-long, spot-asked, placed-spot}
+use Rattle.class_spots.proofs.Placing.{again-least, placed-again, placed-null, placed-full, set-after, placed-long, spot-asked, placed-spot}
 use Rattle.class_slots.proofs.place_set.Statement.{statement}
 use Rattle.class_slots.proofs.place_set.Tie as tie
 

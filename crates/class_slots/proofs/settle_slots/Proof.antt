@@ -3,7 +3,7 @@ use Prim.Native.Nat.{_-_}
 use lib.ListN.{length}
 use lib.Seq.{length-sets}
 use borrow.Author.Needs.{needs}
-use Rattle.class_slots.proofs.Settling.{Settling, settling-all, settling-turn, settling-end}
+use Rattle.class_spots.proofs.Settling.{Settling, settling-all, settling-turn, settling-end}
 use Rattle.class_slots.proofs.settle_slots.Statement.{statement}
 use Rattle.class_slots.proofs.settle_slots.Tie as tie
 

@@ -5,10 +5,10 @@ use lib.ListN.{length}
 use lib.Dec.{ltb}
 use borrow.Author.Needs.{needs}
 use Rattle.member_sets.specs.Dead.{Dead}
-use Rattle.rule_sets.specs.Left.{mapsIn, ruleLeft}
-use Rattle.repeats.specs.Book.{packs}
-use Rattle.class_maps.specs.Present.{top-small}
-use Rattle.class_slots.specs.Sets.{slots-near}
+use Rattle.kept_rules.specs.Left.{mapsIn, ruleLeft}
+use Rattle.known_blocks.specs.Book.{packs}
+use Rattle.class_ranks.specs.Present.{top-small}
+use Rattle.class_spots.specs.Sets.{slots-near}
 use Rattle.class_slots.proofs.Filling.{filling-null, filling-set, filling-full}
 use Rattle.class_slots.proofs.Turns.{found-some, found-none, Turning, few-classes, turning-all, wrote-short, wrote-said, asked, turning-skip, turning-here, turn-asked, turned, wrote-full, wrote-all}
 use Rattle.class_slots.proofs.write_slots.Statement.{statement}

@@ -1,4 +1,4 @@
-use Rattle.class_tail.proofs.Making.{made-asked, made-placed}
+use Rattle.remade_classes.proofs.Making.{made-asked, made-placed}
 use borrow.Author.Needs.{needs}
 use Rattle.class_tail.proofs.write_made.Statement.{statement}
 use Rattle.class_tail.proofs.write_made.Tie as tie

@@ -1,5 +1,5 @@
-use Rattle.class_slots.specs.Sets.{slots-near}
-use Rattle.class_tail.specs.Tail.{tail-many}
+use Rattle.class_spots.specs.Sets.{slots-near}
+use Rattle.remade_classes.specs.Tail.{tail-many}
 use Rattle.class_tail.proofs.Laying.{tables-laid}
 use native.Mathlib.Omega.{arith}
 use borrow.Author.Needs.{needs}

@@ -1,4 +1,4 @@
-use Rattle.repeats.specs.Book.{packs}
+use Rattle.known_blocks.specs.Book.{packs}
 use Rattle.class_tail.proofs.Laying.{tail-past, cover-over, tables-asked, tail-laid}
 use native.Mathlib.Omega.{arith}
 use borrow.Author.Needs.{needs}

@@ -1,4 +1,4 @@
-use Rattle.wire.specs.Reached.{refused, passed}
+use Rattle.faults.specs.Reached.{refused, passed}
 use Rattle.compare_file.proofs.Files.{too-short, too-long, no-tag, no-left, all-but-right}
 use borrow.Author.Needs.{needs}
 use Rattle.compare_file.proofs.good_file.Statement.{statement}

@@ -1,7 +1,7 @@
 use mathlib.Core.Path.{_≡_}
 use mathlib.Core.Bool.{true}
 use borrow.Author.Needs.{needs}
-use Rattle.wire.specs.Reached.{refused, passed}
+use Rattle.faults.specs.Reached.{refused, passed}
 use Rattle.compare_file.specs.CompareFile.{goodFile}
 use Rattle.compare_job.proofs.Answering.{faulty, compared}
 use Rattle.compare_job.proofs.compare_parts.Statement.{statement}

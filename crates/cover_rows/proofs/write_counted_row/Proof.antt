@@ -1,5 +1,5 @@
-use Rattle.cover_rows.proofs.Rows.{counted-asks}
-use Rattle.cover_rows.proofs.Lays.{laid-said}
+use Rattle.cover_parts.proofs.Rows.{counted-asks}
+use Rattle.cover_parts.proofs.Lays.{laid-said}
 use borrow.Author.Needs.{needs}
 use Rattle.cover_rows.proofs.write_counted_row.Statement.{statement}
 use Rattle.cover_rows.proofs.write_counted_row.Tie as tie

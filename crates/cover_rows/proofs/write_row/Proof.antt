@@ -1,4 +1,4 @@
-use Rattle.cover_rows.proofs.Rows.{Rowing, rowing-all, rowing-null, rowing-asks, rowing-gone, rowing-turn, rowing-end}
+use Rattle.cover_parts.proofs.Rows.{Rowing, rowing-all, rowing-null, rowing-asks, rowing-gone, rowing-turn, rowing-end}
 use Rattle.meaning.specs.Maps.{glyphEntries}
 use mathlib.Core.Path.{_∙_}
 use Prim.Native.Nat.{_-_}

@@ -1,4 +1,4 @@
-use Rattle.covers.proofs.Maps.{front-length, front-tries}
+use Rattle.tried.specs.Front.{front-length, front-tries}
 use Rattle.meaning.specs.Maps.{mapEntries, glyphEntries}
 use Rattle.meaning.specs.Tables.{coverContext}
 use Rattle.meaning.specs.Cut.{cut}

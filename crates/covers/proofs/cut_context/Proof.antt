@@ -1,6 +1,6 @@
 use native.Mathlib.Omega.{arith}
 use borrow.Author.Needs.{needs}
-use Rattle.covers.proofs.Cut.{cut-asks, cut-few, cut-short, cut-into}
+use Rattle.cover_layouts.proofs.Cut.{cut-asks, cut-few, cut-short, cut-into}
 use Rattle.covers.proofs.cut_context.Statement.{statement}
 use Rattle.covers.proofs.cut_context.Tie as tie
 

@@ -1,5 +1,5 @@
 use borrow.Author.Needs.{needs}
-use Rattle.covers.proofs.Cut.{most-of}
+use Rattle.cover_layouts.proofs.Cut.{most-of}
 use Rattle.covers.proofs.most_notes.Statement.{statement}
 use Rattle.covers.proofs.most_notes.Tie as tie
 

@@ -1,5 +1,5 @@
 use borrow.Author.Needs.{needs}
-use Rattle.covers.proofs.Cut.{hands-nothing, hands-short, hands-big, hands-over}
+use Rattle.cover_layouts.proofs.Cut.{hands-nothing, hands-short, hands-big, hands-over}
 use borrow.Author.Needs.{needs}
 use Rattle.covers.proofs.settle.Statement.{statement}
 use Rattle.covers.proofs.settle.Tie as tie

@@ -8,8 +8,8 @@ use borrow.Fn.Kinds.{In}
 use borrow.Fn.PlainCycle.{Measures, is, falls, and}
 use Rattle.room.specs.Laid.{enoughArea}
 use Rattle.cut.proofs.Sizes.{cleared, cleared-length, other-cells, other-bytes, never-short}
-use Rattle.cut.specs.Cutting.{otherCells}
-use Rattle.cut.proofs.cut_in.Reads as cut-in-reads
+use Rattle.cut_sizes.specs.Cutting.{otherCells}
+use Rattle.cut_kinds.proofs.cut_in.Reads as cut-in-reads
 use Rattle.cut.proofs.in_all_but_class_pairs.Reads as in-all-but-class-pairs
 use Rattle.cut.proofs.in_all_but_class_pairs.Kinds as in-all-but-class-pairs-kinds
 use Rattle.cut.proofs.+in_all_but_class_pairs.Lts-in_all_but_class_pairs as in-all-but-class-pairs-lts

@@ -7,8 +7,8 @@ use borrow.Author.Needs.{needs}
 use borrow.Fn.Kinds.{In}
 use borrow.Fn.PlainCycle.{Measures, is, falls, and}
 use Rattle.cut.proofs.Sizes.{cleared, cleared-length, pair-cells, pair-bytes, never-short}
-use Rattle.cut.specs.Cutting.{classPairCells, classPairBytes}
-use Rattle.cut.proofs.cut_in.Reads as cut-in-reads
+use Rattle.cut_sizes.specs.Cutting.{classPairCells, classPairBytes}
+use Rattle.cut_kinds.proofs.cut_in.Reads as cut-in-reads
 use Rattle.cut.proofs.in_class_pairs.Reads as in-class-pairs
 use Rattle.cut.proofs.in_class_pairs.Kinds as in-class-pairs-kinds
 use Rattle.cut.proofs.+in_class_pairs.Lts-in_class_pairs as in-class-pairs-lts

@@ -6,7 +6,7 @@ use borrow.Author.Needs.{needs}
 use borrow.Fn.Kinds.{In}
 use borrow.Fn.PlainCycle.{Measures, is, falls, and}
 use Rattle.cut.proofs.Sizes.{cleared, unless-short}
-use Rattle.cut.proofs.cut_in.Reads as cut-in-reads
+use Rattle.cut_kinds.proofs.cut_in.Reads as cut-in-reads
 use Rattle.cut.proofs.in_more.Reads as in-more
 use Rattle.cut.proofs.in_more.Kinds as in-more-kinds
 use Rattle.cut.proofs.+in_more.Lts-in_more as in-more-lts

@@ -6,7 +6,7 @@ use borrow.Author.Needs.{needs}
 use borrow.Fn.Kinds.{In}
 use borrow.Fn.PlainCycle.{Measures, is, falls, and}
 use Rattle.cut.proofs.Sizes.{cleared, unless-short}
-use Rattle.cut.proofs.cut_in.Reads as cut-in-reads
+use Rattle.cut_kinds.proofs.cut_in.Reads as cut-in-reads
 use Rattle.cut.proofs.in_much.Reads as in-much
 use Rattle.cut.proofs.in_much.Kinds as in-much-kinds
 use Rattle.cut.proofs.+in_much.Lts-in_much as in-much-lts

@@ -6,7 +6,7 @@ use borrow.Author.Needs.{needs}
 use borrow.Fn.Kinds.{In}
 use borrow.Fn.PlainCycle.{Measures, is, falls, and}
 use Rattle.cut.proofs.Sizes.{cleared, unless-short}
-use Rattle.cut.proofs.cut_in.Reads as cut-in-reads
+use Rattle.cut_kinds.proofs.cut_in.Reads as cut-in-reads
 use Rattle.cut.proofs.in_some.Reads as in-some
 use Rattle.cut.proofs.in_some.Kinds as in-some-kinds
 use Rattle.cut.proofs.+in_some.Lts-in_some as in-some-lts

@@ -8,7 +8,7 @@ use Rattle.meaning.specs.Maps.{mapEntries, glyphEntries}
 use Rattle.meaning.specs.Tables.{table}
 use Rattle.meaning.specs.Cut.{cut}
 use Rattle.meaning.specs.Subset.{writtenIn}
-use Rattle.cut.specs.Cutting.{cellsFor, bytesFor}
+use Rattle.cut_sizes.specs.Cutting.{cellsFor, bytesFor}
 use Rattle.cut.proofs.Sizes.{became, untouched}
 use Rattle.cut.proofs.cut_lent.Statement.{statement}
 use Rattle.cut.proofs.cut_lent.Tie as tie

@@ -4,8 +4,8 @@ use mathlib.Core.Option.{none}
 use borrow.Author.Needs.{needs}
 use Prim.Native.Nat.{_+_, _-_}
 use lib.ListN.{length}
-use Rattle.wire.specs.Fault.{is-sound}
-use Rattle.wire.specs.Reached.{Lowest, lowest-all, lowest-null, lowest-part, lowest-passed, lowest-end, still-long}
+use Rattle.faults.specs.Fault.{is-sound}
+use Rattle.faults.specs.Reached.{Lowest, lowest-all, lowest-null, lowest-part, lowest-passed, lowest-end, still-long}
 use Rattle.gsubgpos.specs.Marks.{Marked}
 use Rattle.gsubgpos.specs.Members.{memberFault}
 use Rattle.gsubgpos.proofs.Marks.{marked-more}

@@ -1,6 +1,6 @@
 -- `gsubgpos::check_set` meets its contract: by its count and its offsets, and then by its members. Assumes nothing.
 use borrow.Author.Needs.{needs}
-use Rattle.wire.specs.Reached.{set-head, set-offsets, set-parts}
+use Rattle.faults.specs.Reached.{set-head, set-offsets, set-parts}
 use Rattle.gsubgpos.specs.Members.{memberFault}
 use Rattle.gsubgpos.proofs.Members.{offsets-inside}
 use Rattle.gsubgpos.proofs.check_set.Statement.{statement}

@@ -1,7 +1,7 @@
 -- `gsubgpos::within_once` meets its contract: a mark answers for the rule, and a good rule gets one. Assumes nothing.
 use mathlib.Core.Path.{sym, _∙_}
 use borrow.Author.Needs.{needs}
-use Rattle.wire.specs.Reached.{refused, passed}
+use Rattle.faults.specs.Reached.{refused, passed}
 use Rattle.gsubgpos.proofs.Marks.{marked-more}
 use Rattle.gsubgpos.proofs.within_once.Statement.{statement}
 use Rattle.gsubgpos.proofs.within_once.Tie as tie

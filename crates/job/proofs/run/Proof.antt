@@ -4,8 +4,8 @@ use mathlib.Core.Bool.{true}
 use native.Mathlib.Omega.{arith}
 use borrow.Author.Needs.{needs}
 use Rattle.meaning.specs.Job.{goodJob}
-use Rattle.wire.specs.Reached.{refused, passed}
-use Rattle.job.proofs.Parts.{is-job}
+use Rattle.faults.specs.Reached.{refused, passed}
+use Rattle.job_parts.proofs.Parts.{is-job}
 use Rattle.job.proofs.Runs.{job-faulty, job-runs}
 use Rattle.job.proofs.run.Statement.{statement}
 use Rattle.job.proofs.run.Tie as tie

@@ -3,8 +3,8 @@ use Prim.Native.Nat.{_+_, _-_, _*_, _<_}
 use native.Mathlib.Omega.{arith}
 use lib.ListN.{length}
 use borrow.Author.Needs.{needs}
-use Rattle.rule_sets.specs.Left.{mapsIn}
-use Rattle.kept_sets.specs.Sorts.{leftIn, Told, inside-kept, told-kept, told-still}
+use Rattle.kept_rules.specs.Left.{mapsIn}
+use Rattle.placed_sets.specs.Sorts.{leftIn, Told, inside-kept, told-kept, told-still}
 use Rattle.kept_sets.proofs.Keeping.{Keeping, keeping-all, keeping-null, turn-inside, keeping-gone, keeping-one, keeping-full}
 use Rattle.kept_sets.proofs.Ending.{placed-as, wrote-short, offset-inside, set-sound, wrote-full, wrote-all}
 use Rattle.kept_sets.proofs.write_kept.Statement.{statement}

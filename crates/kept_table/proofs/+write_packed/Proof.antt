@@ -1,5 +1,5 @@
 use borrow.Author.Needs.{needs}
-use Rattle.repeats.specs.Book.{bookCells}
+use Rattle.known_blocks.specs.Book.{bookCells}
 use Rattle.kept_table.proofs.Booking.{book-roomy, wrote-packed}
 use Prim.Native.Nat.{ℕ, _<_}
 use native.Mathlib.Omega.{arith}

@@ -2,7 +2,7 @@ use mathlib.Core.Path.{_∙_}
 use Prim.Native.Nat.{_+_, _*_}
 use native.Mathlib.Omega.{arith}
 use borrow.Author.Needs.{needs}
-use Rattle.kept_table.proofs.Joining.{answered-short, short-sets, none-kept, may-finish, short-table, table-laid, laid-none}
+use Rattle.kept_header.proofs.Joining.{answered-short, short-sets, none-kept, may-finish, short-table, table-laid, laid-none}
 use Rattle.kept_table.proofs.write_table.Statement.{statement}
 use Rattle.kept_table.proofs.write_table.Tie as tie
 

@@ -1,6 +1,6 @@
 use native.Mathlib.Omega.{arith}
 use borrow.Author.Needs.{needs}
-use Rattle.meet_runs.proofs.Forms.{meets-head, pairs-ask, pairs-met, list-asks, list-met, ranges-ask, ranges-met}
+use Rattle.meets.proofs.Forms.{meets-head, pairs-ask, pairs-met, list-asks, list-met, ranges-ask, ranges-met}
 use Rattle.meet_runs.proofs.meet.Statement.{statement}
 use Rattle.meet_runs.proofs.meet.Tie as tie
 

@@ -1,7 +1,7 @@
 use Prim.Native.Nat.{_-_}
 use native.Mathlib.Omega.{arith}
 use borrow.Author.Needs.{needs}
-use Rattle.meet_runs.proofs.Spans.{Ranging, ranging-all, ranging-past, ranging-asks, ranging-turn, ranging-end}
+use Rattle.noted_runs.proofs.Spans.{Ranging, ranging-all, ranging-past, ranging-asks, ranging-turn, ranging-end}
 use Rattle.meet_runs.proofs.meet_ranges.Statement.{statement}
 use Rattle.meet_runs.proofs.meet_ranges.Tie as tie
 

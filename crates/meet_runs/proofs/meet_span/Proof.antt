@@ -2,7 +2,7 @@ use Prim.Native.Nat.{_-_, _/_}
 use native.Mathlib.Omega.{arith}
 use lib.ListN.{length}
 use borrow.Author.Needs.{needs}
-use Rattle.meet_runs.proofs.Spans.{Spanning, spanning-all, spanning-asks, spanning-turn, spanning-end}
+use Rattle.noted_runs.proofs.Spans.{Spanning, spanning-all, spanning-asks, spanning-turn, spanning-end}
 use Rattle.meet_runs.proofs.meet_span.Statement.{statement}
 use Rattle.meet_runs.proofs.meet_span.Tie as tie
 

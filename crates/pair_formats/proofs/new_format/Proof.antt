@@ -1,6 +1,6 @@
 use Rattle.area.specs.Part.{notes}
 use Rattle.numbers.specs.Entries.{entriesIn}
-use Rattle.pair_sets.specs.Formats.{below}
+use Rattle.pair_places.specs.Formats.{below}
 use Rattle.pair_formats.proofs.Using.{place-fits, format-sum}
 use borrow.Author.Needs.{needs}
 use Rattle.pair_formats.proofs.new_format.Statement.{statement}

@@ -1,8 +1,8 @@
 use Prim.Native.Nat.{_*_}
 use lib.ListN.{length}
 use native.Mathlib.Omega.{arith}
-use Rattle.pair_sets.specs.Pairs.{reads-record}
-use Rattle.pair_sets.proofs.Pairing.{pair-room, pair-put}
+use Rattle.pair_fields.specs.Pairs.{reads-record}
+use Rattle.pair_fields.proofs.Pairing.{pair-room, pair-put}
 use borrow.Author.Needs.{needs}
 use Rattle.pair_sets.proofs.write_pair.Statement.{statement}
 use Rattle.pair_sets.proofs.write_pair.Tie as tie

@@ -7,8 +7,8 @@ use lib.Seq.{length-sets}
 use Rattle.numbers.specs.Entries.{entriesIn}
 use Rattle.numbers.specs.Leaves.{leaves-full}
 use Rattle.numbers.proofs.Numbers.{cell-new, cell-gone}
-use Rattle.pair_sets.specs.Pairs.{pairsMost}
-use Rattle.pair_sets.proofs.Pairing.{Pairing, pairing-all, pairing-inside, pairing-gone, pairing-one, pairing-full, pairing-none, pairing-end}
+use Rattle.pair_fields.specs.Pairs.{pairsMost}
+use Rattle.pair_fields.proofs.Pairing.{Pairing, pairing-all, pairing-inside, pairing-gone, pairing-one, pairing-full, pairing-none, pairing-end}
 use borrow.Author.Needs.{needs}
 use Rattle.pair_sets.proofs.write_pairs.Statement.{statement}
 use Rattle.pair_sets.proofs.write_pairs.Tie as tie

@@ -1,7 +1,7 @@
 use Prim.Native.Nat.{_-_}
 use native.Mathlib.Omega.{arith}
 use lib.ListN.{length}
-use Rattle.pair_sets.proofs.Pairing.{Valuing, valuing-all, valuing-turn, valuing-end}
+use Rattle.pair_fields.proofs.Pairing.{Valuing, valuing-all, valuing-turn, valuing-end}
 use borrow.Author.Needs.{needs}
 use Rattle.pair_sets.proofs.write_values.Statement.{statement}
 use Rattle.pair_sets.proofs.write_values.Tie as tie

@@ -1,4 +1,4 @@
-use Rattle.repeats.proofs.Further.{no-place, place-noted}
+use Rattle.known_blocks.proofs.Further.{no-place, place-noted}
 use native.Mathlib.Omega.{arith}
 use borrow.Author.Needs.{needs}
 use Rattle.repeats.proofs.note_place.Statement.{statement}

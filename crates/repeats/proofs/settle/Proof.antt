@@ -1,4 +1,4 @@
-use Rattle.repeats.proofs.Settling.{settled-plain, settled-known, settled-new}
+use Rattle.known_blocks.proofs.Settling.{settled-plain, settled-known, settled-new}
 use mathlib.Core.Path.{refl}
 use borrow.Author.Needs.{needs}
 use Rattle.repeats.proofs.settle.Statement.{statement}

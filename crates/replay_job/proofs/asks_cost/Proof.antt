@@ -1,7 +1,7 @@
 -- `replay_job::asks_cost` meets its contract: a faulty file is tested first. Assumes nothing.
 use native.Mathlib.Omega.{arith}
 use borrow.Author.Needs.{needs}
-use Rattle.wire.specs.Reached.{refused, passed}
+use Rattle.faults.specs.Reached.{refused, passed}
 use Rattle.replay_job.proofs.Files.{is-file, cost-faulty, cost-asked}
 use Rattle.replay_job.proofs.asks_cost.Statement.{statement}
 use Rattle.replay_job.proofs.asks_cost.Tie as tie

@@ -1,5 +1,5 @@
 -- `replay_job::good_file` meets its contract: the tests in order, each made where those before it are passed. Assumes nothing.
-use Rattle.wire.specs.Reached.{refused, passed}
+use Rattle.faults.specs.Reached.{refused, passed}
 use borrow.Author.Needs.{needs}
 use Rattle.replay_job.proofs.Files.{too-short, too-long, no-tag, no-list, no-buffer, all-but-trace}
 use Rattle.replay_job.proofs.good_file.Statement.{statement}

@@ -1,7 +1,7 @@
 -- `replay_job::put_cost` meets its contract: nothing, or the line with the steps. Assumes nothing.
 use borrow.Author.Needs.{needs}
 use Rattle.meaning.specs.Job.{ascii}
-use Rattle.wire.specs.Reached.{refused, passed}
+use Rattle.faults.specs.Reached.{refused, passed}
 use Rattle.replay_job.proofs.Files.{asked-good}
 use Rattle.replay_job.proofs.Lines.{cost-none, cost-put}
 use Rattle.replay_job.proofs.put_cost.Statement.{statement}

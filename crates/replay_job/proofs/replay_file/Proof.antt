@@ -3,7 +3,7 @@ use mathlib.Core.Path.{_≡_}
 use mathlib.Core.Bool.{true}
 use native.Mathlib.Omega.{arith}
 use borrow.Author.Needs.{needs}
-use Rattle.wire.specs.Reached.{refused, passed}
+use Rattle.faults.specs.Reached.{refused, passed}
 use Rattle.replay_job.specs.ReplayFile.{goodFile}
 use Rattle.replay_job.proofs.Files.{File, is-file, replay-faulty, replay-whole}
 use Rattle.replay_job.proofs.replay_file.Statement.{statement}

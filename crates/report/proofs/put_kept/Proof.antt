@@ -3,7 +3,7 @@ use native.Mathlib.Omega.{arith}
 use lib.ListN.{length}
 use borrow.Author.Needs.{needs}
 use Rattle.meaning.specs.Job.{ascii}
-use Rattle.report.specs.Lengths.{decimal-length}
+use Rattle.report_lines.specs.Lengths.{decimal-length}
 use Rattle.report.proofs.Whole.{kept-whole}
 use Rattle.report.proofs.put_kept.Statement.{statement}
 use Rattle.report.proofs.put_kept.Tie as tie

@@ -1,7 +1,7 @@
 -- `report::put_line` meets its contract: the word, the number and a newline, one after the other. Assumes nothing.
 use native.Mathlib.Omega.{arith}
 use borrow.Author.Needs.{needs}
-use Rattle.report.specs.Lengths.{decimal-length}
+use Rattle.report_lines.specs.Lengths.{decimal-length}
 use Rattle.report.proofs.Whole.{line-whole}
 use Rattle.report.proofs.put_line.Statement.{statement}
 use Rattle.report.proofs.put_line.Tie as tie

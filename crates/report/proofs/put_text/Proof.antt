@@ -3,7 +3,7 @@ use Prim.Native.Nat.{_-_}
 use native.Mathlib.Omega.{arith}
 use lib.ListN.{length}
 use borrow.Author.Needs.{needs}
-use Rattle.report.proofs.Writing.{Copying, copying-all, copying-turn, copying-end, copying-near, put-length}
+use Rattle.report_lines.proofs.Writing.{Copying, copying-all, copying-turn, copying-end, copying-near, put-length}
 use Rattle.report.proofs.put_text.Statement.{statement}
 use Rattle.report.proofs.put_text.Tie as tie
 

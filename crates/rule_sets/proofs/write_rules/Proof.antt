@@ -9,7 +9,7 @@ use Rattle.meaning.specs.Layout.{ruleWords}
 use Rattle.member_sets.specs.Dead.{Dead}
 use Rattle.member_sets.specs.Sound.{set-inside, member-sound}
 use Rattle.member_sets.proofs.Gathering.{Gathering, gathering-all, gathering-short, gathering-null, gathering-gone, gathering-one, gathering-full, gathering-end}
-use Rattle.rule_sets.specs.Left.{mapsIn, ruleLeft, rule-inside, rules-said}
+use Rattle.kept_rules.specs.Left.{mapsIn, ruleLeft, rule-inside, rules-said}
 use borrow.Author.Needs.{needs}
 use Rattle.rule_sets.proofs.write_rules.Statement.{statement}
 use Rattle.rule_sets.proofs.write_rules.Tie as tie

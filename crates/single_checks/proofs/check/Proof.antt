@@ -1,5 +1,5 @@
 use Rattle.single_checks.proofs.Checking.{single-short, single-null, single-cover}
-use Rattle.wire.specs.Fault.{faultOf}
+use Rattle.faults.specs.Fault.{faultOf}
 use borrow.Author.Tests.{not-true, not-false}
 use mathlib.Core.Path.{sym, ap, _∙_}
 use borrow.Author.Needs.{needs}

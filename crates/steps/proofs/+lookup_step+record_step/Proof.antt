@@ -16,7 +16,7 @@ use Rattle.steps.proofs.record_step.Kinds as record-step-kinds
 use Rattle.steps.proofs.+lookup_step+record_step.Lts-record_step as record-step-lts
 use Rattle.asking.proofs.ask_at.Reads as ask-at-reads
 use Rattle.asking.proofs.source_word.Reads as source-word-reads
-use Rattle.wire.proofs.put.Reads as put-reads
+use Rattle.put_words.proofs.put.Reads as put-reads
 use Rattle.steps.proofs.+lookup_step+record_step.{statement}
 use Rattle.steps.proofs.+lookup_step+record_step.Tie.{close}
 

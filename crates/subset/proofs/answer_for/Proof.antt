@@ -1,7 +1,7 @@
 -- `subset::answer_for` meets its contract, case by case. Assumes nothing.
 use mathlib.Core.Path.{sym, ap}
 use borrow.Author.Needs.{needs}
-use Rattle.subset.specs.Answers.{answerOf}
+use Rattle.refusals.specs.Answers.{answerOf}
 use Rattle.subset.proofs.answer_for.Statement.{statement}
 use Rattle.subset.proofs.answer_for.Tie as tie
 

@@ -1,6 +1,6 @@
 -- `subset::subset_in` meets its contract: the answer that refuses the call, or what was laid with lent scratch. Assumes nothing.
 use borrow.Author.Needs.{needs}
-use Rattle.subset.proofs.Tested.{is-refused, is-sound, cut-outcome}
+use Rattle.refusals.proofs.Tested.{is-refused, is-sound, cut-outcome}
 use Rattle.subset.proofs.subset_in.Statement.{statement}
 use Rattle.subset.proofs.subset_in.Tie as tie
 

@@ -1,4 +1,0 @@
-pub mod Layouts
-pub mod Sides
-pub mod Meaning
-pub mod Cutting

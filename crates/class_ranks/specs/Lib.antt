@@ -1,0 +1,5 @@
+pub mod Once
+pub mod Present
+pub mod Mapped
+pub mod Ranked
+pub mod Same

@@ -1,0 +1,5 @@
+pub mod Settling
+pub mod Halves
+pub mod Noting
+pub mod Gathering
+pub mod Placing

@@ -1,0 +1,4 @@
+pub mod Sets
+pub mod Slots
+pub mod Placing
+pub mod SlotWalk

@@ -1,0 +1,1 @@
+// Laws on what differs, and what is promised of it: see specs/. There is no code here.

@@ -1,0 +1,3 @@
+pub mod Lessening
+pub mod Finishing
+pub mod Joining

@@ -1,4 +1,0 @@
-pub mod Rows
-pub mod Spans
-pub mod Seeking
-pub mod Forms

@@ -1,3 +1,0 @@
-pub mod Pairs
-pub mod Formats
-pub mod Puts

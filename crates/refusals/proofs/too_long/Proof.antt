@@ -1,0 +1,15 @@
+-- `refusals::too_long` meets its contract. Assumes nothing.
+use mathlib.Core.Path.{refl}
+use Rattle.meaning.specs.Subset.{limit}
+use Rattle.refusals.proofs.too_long.Statement.{statement}
+use Rattle.refusals.proofs.too_long.Tie as tie
+
+returns : tie.Need-returns
+unfolding limit
+returns c = refl
+
+pub too-long-spec : {M : Type 1} → statement M
+too-long-spec =
+    tie.close
+    (tie.spec
+    returns)

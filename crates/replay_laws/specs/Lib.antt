@@ -1,0 +1,5 @@
+pub mod Tallies
+pub mod Turns
+pub mod Places
+pub mod Answers
+pub mod Bound
