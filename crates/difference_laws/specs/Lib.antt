@@ -16,3 +16,4 @@ pub mod InUse
 pub mod Small
 pub mod SoundSmall
 pub mod Promises
+pub mod Limits

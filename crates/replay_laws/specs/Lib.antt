@@ -3,3 +3,4 @@ pub mod Turns
 pub mod Places
 pub mod Answers
 pub mod Bound
+pub mod Limits
