@@ -28,8 +28,8 @@ use Rattle.glyph_runs.specs.Runs.{GlyphMap, map-good}
 use Rattle.placed_sets.specs.Sorts.{setFaultOf}
 use Rattle.placed_sets.specs.declared.Sort.the-variants.{Rules, Ligatures}
 use Rattle.kept_header.specs.Answers.{ByCover}
-use Rattle.by_glyph.specs.Whole.{glyphContext, ligatureTable}
-use Rattle.by_glyph.specs.PairTables.{pairTable, pairFault}
+use Rattle.cut_sets.specs.Whole.{glyphContext, ligatureTable}
+use Rattle.cut_sets.specs.PairTables.{pairTable, pairFault}
 
 -- the coverage's offset, as it is counted, in either layout
 module _ {A : Type 0} (f : A → List ℕ) (more cov : List ℕ) (sets : List (Option A)) where

@@ -1,3 +1,1 @@
-pub mod Smallness
-pub mod Asking
 pub mod Fitting

@@ -1,2 +1,1 @@
-pub mod Using
 pub mod Writing

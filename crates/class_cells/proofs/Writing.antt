@@ -11,9 +11,9 @@ use Rattle.pair_fields.specs.Pairs.{valueAt, Places, Reads}
 use Rattle.pair_places.specs.Formats.{placesOf, pairSize, places-inside}
 use Rattle.pair_places.specs.Puts.{Puts}
 use Rattle.pair_sets.specs.declared.Formats.{Formats}
-use Rattle.class_cells.specs.Cells.{ifKept, rowLeft, rowsLeft, cellsLeft, HasRow, HasCells}
-use Rattle.class_cells.specs.Kept.{cellSize, AsksRows, keptCells, cells-left}
-use Rattle.class_cells.proofs.Using.{mul-left}
+use Rattle.class_formats.specs.Cells.{ifKept, rowLeft, rowsLeft, cellsLeft, HasRow, HasCells}
+use Rattle.class_formats.specs.Kept.{cellSize, AsksRows, keptCells, cells-left}
+use Rattle.class_formats.proofs.Using.{mul-left}
 
 -- Writers that were tried.
 module _ {a : List ℕ} {p : ℕ} where

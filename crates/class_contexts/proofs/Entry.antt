@@ -25,11 +25,11 @@ use Rattle.laws.specs.ReadsBack.{Good}
 use Rattle.laws.specs.CallBack.{map-values}
 use Rattle.laws.specs.SoundGood.{Bytes, part-sound, one-good, header-good, coverage-up, class-context-good}
 use Rattle.room.specs.Laid.{enoughArea}
-use Rattle.fold.specs.Runs.{LaidGlyphs}
-use Rattle.fold.specs.declared.Map.{Map}
+use Rattle.cell_maps.specs.Runs.{LaidGlyphs}
+use Rattle.cell_maps.specs.declared.Map.{Map}
 use Rattle.area.specs.Part.{part, news}
 use Rattle.member_sets.specs.Sound.{inside-is, through-sound}
-use Rattle.meet_ranges.specs.Met.{Met, met-news, met-count, met-few}
+use Rattle.range_meets.specs.Met.{Met, met-news, met-count, met-few}
 use Rattle.meets.specs.Either.{Most, MeetsGlyphs}
 use Rattle.glyph_runs.specs.Runs.{GlyphMap, map-good}
 use Rattle.glyph_runs.specs.Found.{entries-few}

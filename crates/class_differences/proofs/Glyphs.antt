@@ -10,7 +10,7 @@ use Rattle.coverage_index.specs.declared.Covered.the-variants.{At, Not}
 use Rattle.differences.specs.Entries.{ruleEntries}
 use Rattle.listing.specs.Listed.{entryOf, Listed}
 use Rattle.first_glyphs.specs.First.{coverOf, rightOnly, atGlyph}
-use Rattle.set_differences.specs.Gathered.{numbersAt}
+use Rattle.gathered.specs.Gathered.{numbersAt}
 use Rattle.set_differences.proofs.Going.{glyph-right, glyph-left, glyph-both}
 use Rattle.class_tables.specs.Contexts.{setPlace}
 use Rattle.class_differences.specs.Reached.{numbersBy, in-classes}

@@ -25,7 +25,7 @@ use Rattle.rule_rows.specs.Rows.{sideOf}
 use Rattle.rule_says.specs.declared.Shape.{Shape}
 use Rattle.rule_says.specs.Said.{saysBy}
 use Rattle.set_numbers.specs.Sets.{codesOf, AllNumbered, SetsNumbered, Told}
-use Rattle.set_differences.specs.Gathered.{numbersAt}
+use Rattle.gathered.specs.Gathered.{numbersAt}
 use Rattle.set_differences.specs.Said.{place-says, glyph-told}
 use Rattle.class_stretches.specs.Tables.{tableAt}
 use Rattle.class_tables.specs.Contexts.{backAt, inputAt, aheadAt, countAt, setAt, setPlace, rulesAt, SoundTables, TablesNumbered, classSays, classSaysBy}

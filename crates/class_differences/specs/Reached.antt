@@ -12,7 +12,7 @@ use Rattle.coverage_index.specs.Index.{indexOf}
 use Rattle.differences.specs.Entries.{beside}
 use Rattle.first_glyphs.specs.First.{coverOf, soundCover}
 use Rattle.rule_says.specs.declared.Shape.{Shape}
-use Rattle.set_differences.specs.Gathered.{numbersAt}
+use Rattle.gathered.specs.Gathered.{numbersAt}
 use Rattle.class_stretches.specs.Tables.{NullOrSound}
 use Rattle.class_tables.specs.Contexts.{inputAt, countAt, setPlace}
 

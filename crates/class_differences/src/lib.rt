@@ -24,7 +24,7 @@ ghost use Rattle.listing.specs.Listed.{Listed};
 ghost use Rattle.listing.specs.Laid.{LaidList};
 ghost use Rattle.first_glyphs.specs.First.{atGlyph};
 ghost use Rattle.set_numbers.specs.Sets.{Cells, Told};
-ghost use Rattle.set_differences.specs.Gathered.{Scratch, Fit, Remembered};
+ghost use Rattle.gathered.specs.Gathered.{Scratch, Fit, Remembered};
 ghost use Rattle.class_tables.specs.Contexts.{classSaysBy};
 ghost use Rattle.class_differences.specs.Reached.{numbersBy, ClassTable, ByClass, shapeOf, slotAt};
 

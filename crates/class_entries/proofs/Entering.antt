@@ -11,13 +11,13 @@ use borrow.Author.Tests.{eq-eqb, ne-eqb, eqb-true}
 use Rattle.meaning.specs.Words.{find, bind, push, mapSome}
 use Rattle.meaning.specs.Parts.{classOf}
 use Rattle.meaning.specs.Cut.{classesUnder}
-use Rattle.fold.specs.Cells.{cellEntry, answerIn, folded, Inside, Holds, entry-same, answer-own, answer-other}
-use Rattle.fold.specs.declared.Map.{Map}
+use Rattle.cell_maps.specs.Cells.{cellEntry, answerIn, folded, Inside, Holds, entry-same, answer-own, answer-other}
+use Rattle.cell_maps.specs.declared.Map.{Map}
 use Rattle.area.specs.Part.{part, notes, part-all, part-left, part-none}
 use Rattle.area.specs.Stored.{part-store}
 use Rattle.class_lists.specs.Elsewhere.{Elsewhere, elsewhere-all, elsewhere-set, elsewhere-more, elsewhere-wide}
 use Rattle.class_lists.specs.Listed.{classed}
-use Rattle.class_ranks.specs.Mapped.{Entries}
+use Rattle.ranked_maps.specs.Mapped.{Entries}
 
 -- the new class, by one reading
 module _ (t : List ℕ) (m : Map) {class e : ℕ} (r : e ≡ cellEntry t m class) where

@@ -1,11 +1,11 @@
 // The entries of a new class table, from the classes that are listed in cells and their class map.
-use fold::Map;
+use cell_maps::Map;
 use fold::entry;
 ghost use mathlib.Core.Path.{_≡_};
 ghost use mathlib.Core.Option.{Option·getD};
 ghost use Prim.Native.Nat.{_+_, _-_, _≤_, _<_};
-ghost use Rattle.fold.specs.Cells.{Inside, folded};
-ghost use Rattle.class_ranks.specs.Mapped.{Entries};
+ghost use Rattle.cell_maps.specs.Cells.{Inside, folded};
+ghost use Rattle.ranked_maps.specs.Mapped.{Entries};
 
 // The new number of a class, by one reading; 0 if it has none.
 fn new_class(t: &[u32], m: Map, class: usize) -> usize

@@ -14,7 +14,7 @@ use Rattle.meaning.specs.Parts.{classOf}
 use Rattle.meaning.specs.Maps.{steps, glyphEntries}
 use Rattle.laws.specs.Runs.{Up}
 use Rattle.laws.specs.Stands.{All, all-append}
-use Rattle.fold.specs.Cells.{Kept, kept-all, kept-more, kept-set}
+use Rattle.cell_maps.specs.Cells.{Kept, kept-all, kept-more, kept-set}
 use Rattle.area.specs.Part.{part, notes, part-append}
 use Rattle.area.specs.Stored.{part-same, part-store}
 use Rattle.glyph_runs.specs.Runs.{GlyphMap, runCount, oldOf, newOf, IsRun, Past, Reached, map-good}

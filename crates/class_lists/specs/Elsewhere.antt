@@ -5,7 +5,7 @@ use mathlib.Core.List.{List}
 use native.Mathlib.Omega.{arith}
 use lib.ListN.{length, getD, set, length-set}
 use lib.Seq.{getD-set-other}
-use Rattle.fold.specs.Cells.{Kept}
+use Rattle.cell_maps.specs.Cells.{Kept}
 
 -- the cells before `from` and those from `to` on are as before, and so is how many there are
 pub record Elsewhere (from to : ℕ) (t₀ t : List ℕ) : Type 0 where

@@ -10,7 +10,7 @@ use Rattle.meaning.specs.Words.{mapSome}
 use Rattle.meaning.specs.Parts.{classOf}
 use Rattle.meaning.specs.Maps.{glyphEntries}
 use Rattle.laws.specs.Stands.{All}
-use Rattle.fold.specs.Cells.{Kept}
+use Rattle.cell_maps.specs.Cells.{Kept}
 use Rattle.area.specs.Part.{notes}
 use Rattle.glyph_runs.specs.Runs.{GlyphMap, Reached}
 use Rattle.class_lists.specs.From.{fromOld}

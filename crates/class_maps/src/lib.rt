@@ -1,16 +1,16 @@
 // Class maps: the classes that survive, which are listed in cells, and their new numbers, laid into other cells.
+use cell_maps::Map;
+use cell_maps::RANKED;
 use class_lists::ClassList;
-use class_ranks::ClassMap;
 use class_ranks::direct_map;
-use class_ranks::ranked_map;
-use fold::Map;
-use fold::RANKED;
 use fold::entry;
+use ranked_maps::ClassMap;
+use ranked_maps::ranked_map;
 ghost use mathlib.Core.Path.{_≡_};
 ghost use Prim.Native.Nat.{_+_, _-_, _<_};
 ghost use Rattle.meaning.specs.Cut.{classMap, secondMap};
-ghost use Rattle.class_ranks.specs.Present.{topOf};
-ghost use Rattle.class_ranks.specs.Mapped.{ToMap, Numbers, Mapped};
+ghost use Rattle.ranked_maps.specs.Present.{topOf};
+ghost use Rattle.ranked_maps.specs.Mapped.{ToMap, Numbers, Mapped};
 
 // The most cells that a class map takes: one for each class are at most 4,096, and ranks take 4,097, of which one is spare.
 pub const MOST: usize = RANKED + 1;

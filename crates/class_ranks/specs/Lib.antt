@@ -1,5 +1,1 @@
-pub mod Once
-pub mod Present
-pub mod Mapped
-pub mod Ranked
 pub mod Same

@@ -4,12 +4,12 @@ use mathlib.Core.Path.{_≡_, ap, _∙_}
 use mathlib.Core.List.{List}
 use native.Mathlib.Omega.{arith}
 use lib.ListN.{length, getD}
-use Rattle.fold.specs.Cells.{answerIn, folded, Inside, Holds, Kept, entry-same}
-use Rattle.fold.specs.declared.Map.{Map}
+use Rattle.cell_maps.specs.Cells.{answerIn, folded, Inside, Holds, Kept, entry-same}
+use Rattle.cell_maps.specs.declared.Map.{Map}
 use Rattle.area.specs.Part.{part}
 use Rattle.area.specs.Stored.{part-same}
 use Rattle.class_lists.specs.Elsewhere.{Elsewhere}
-use Rattle.class_ranks.specs.Present.{topOf, present, present-alike}
+use Rattle.ranked_maps.specs.Present.{topOf, present, present-alike}
 
 -- the cells from `from` up to `to` are as before, and so is how many there are
 pub record Same (from to : ℕ) (t u : List ℕ) : Type 0 where

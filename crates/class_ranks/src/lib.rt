@@ -1,29 +1,16 @@
-// A class map in cells, in one of two forms: a cell for each class, or ranks where the highest class is too high for that.
-use bits::clear_bits;
-use bits::put_bit;
+// A class map in cells, one for each class. `ranked_maps` has the other form, for classes that are too high for that.
+use cell_maps::Map;
 use class_lists::ClassList;
-use fold::Map;
-use fold::RANKED;
-use fold::entry;
 use fold_pairs::clear;
 use fold_pairs::power;
-use ranks::CELLS;
-use ranks::count_marks;
+use ranked_maps::ClassMap;
 ghost use mathlib.Core.Path.{_≡_};
 ghost use mathlib.Core.Bool.{cond};
-ghost use mathlib.Core.List.{[]};
-ghost use Prim.Native.Nat.{_+_, _-_, _≤_, _<_};
-ghost use lib.ListN.{length, set};
-ghost use Rattle.ranks.specs.Ranks.{markCells};
-ghost use Rattle.fold.specs.Cells.{rankedMask};
+ghost use Prim.Native.Nat.{_+_, _-_, _<_};
+ghost use lib.ListN.{set};
+ghost use Rattle.cell_maps.specs.Cells.{rankedMask};
 ghost use Rattle.area.specs.Part.{news};
-ghost use Rattle.class_ranks.specs.Mapped.{Direct, ToMark, Marked, Ranked, ToMap, Held, ToPut, PutToo, withZero, Numbers};
-
-// The cells of a class map, and how many classes survive.
-pub struct ClassMap {
-    pub map: Map,
-    pub count: usize,
-}
+ghost use Rattle.ranked_maps.specs.Mapped.{Direct, ToMark, Marked, Ranked, ToMap, Held, Numbers};
 
 // An entry for each class in the `g` cells from `list` on, with the new number 0 for now.
 fn mark_held(t: &mut [u32], list: usize, g: usize, m: Map)
@@ -97,51 +84,4 @@ pub fn direct_map(t: &mut [u32], list: usize, l: ClassList, to: usize, zero: boo
     mark_zero(t, m, zero);
     let count = rank(t, m);
     ClassMap { map: m, count }
-}
-
-// A mark, in the cells from `marks` on, for each class in the `n` cells from `list` on.
-fn put_listed(t: &mut [u32], list: usize, n: usize, marks: usize)
-    requires { ⌜ ToPut (now t) list n marks ⌝ }
-    ensures { λ _. ⌜ PutToo (now (t .entry)) (now (t .exit)) marks (news (now (t .entry)) list n) ⌝ }
-{
-    let mut e = n;
-    while 0 < e {
-        e -= 1;
-        let class = t[list + e] as usize % 65536;
-        put_bit(t, marks, class);
-    }
-}
-
-// A mark for class 0, if it is among the classes.
-fn put_zero(t: &mut [u32], marks: usize, zero: bool)
-    requires { ⌜ (marks < 0x1_0000_0000_0000) × (marks + markCells ≤ length (now t)) ⌝ }
-    ensures { λ _. ⌜ PutToo (now (t .entry)) (now (t .exit)) marks (withZero zero []) ⌝ }
-{
-    if zero {
-        put_bit(t, marks, 0);
-    }
-}
-
-// The same map as ranks, whatever the highest class is.
-pub fn ranked_map(t: &mut [u32], list: usize, l: ClassList, to: usize, zero: bool) -> ClassMap
-    requires { ⌜ ToMap (now t) list l to ⌝ }
-    ensures { λ r. ⌜ Numbers zero (now (t .entry)) (now (t .exit)) list l to r ⌝ }
-{
-    if t.len() <= to + RANKED {
-        return ClassMap {
-            map: Map { at: to, mask: 0 },
-            count: 0,
-        };
-    }
-    clear_bits(t, to, CELLS);
-    put_listed(t, list, l.len, to);
-    put_zero(t, to, zero);
-    let count = count_marks(t, to);
-    ClassMap {
-        map: Map {
-            at: to,
-            mask: RANKED,
-        },
-        count,
-    }
 }

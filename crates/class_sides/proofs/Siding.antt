@@ -9,11 +9,11 @@ use Rattle.meaning.specs.Cut.{classMap}
 use Rattle.glyph_runs.specs.Runs.{map-good}
 use Rattle.class_stretches.specs.Tables.{classesAt}
 use Rattle.class_lists.specs.declared.ClassList.{ClassList}
-use Rattle.class_ranks.specs.Present.{top-small}
-use Rattle.class_ranks.specs.Mapped.{ToMap, Mapped, Classes, lists-kept, classes-kept, classes-held, classes-count}
+use Rattle.ranked_maps.specs.Present.{top-small}
+use Rattle.ranked_maps.specs.Mapped.{ToMap, Mapped, Classes, lists-kept, classes-kept, classes-held, classes-count}
 use Rattle.covered_classes.specs.Covered.{Coverable, Covered}
 use Rattle.class_ranks.specs.Same.{part-alike}
-use Rattle.class_ranks.specs.declared.ClassMap.{ClassMap}
+use Rattle.ranked_maps.specs.declared.ClassMap.{ClassMap}
 use Rattle.remade_classes.specs.Made.{ListedFront}
 use Rattle.remade_classes.specs.declared.Noted.{Noted}
 use Rattle.class_sides.specs.Sides.{markCells, Asks, SideIn, Sided, InputAsks, InputLaid}

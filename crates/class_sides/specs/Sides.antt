@@ -7,12 +7,12 @@ use Rattle.meaning.specs.Words.{keys, member}
 use Rattle.meaning.specs.Cut.{heldBy, classMap, newCoverage, retained}
 use Rattle.laws.specs.Runs.{Up}
 use Rattle.bits.specs.Bits.{marked}
-use Rattle.fold.specs.declared.Map.{Map}
+use Rattle.cell_maps.specs.declared.Map.{Map}
 use Rattle.area.specs.Part.{news}
 use Rattle.glyph_runs.specs.Runs.{GlyphMap}
 use Rattle.class_stretches.specs.Tables.{classesAt, NullOrSound}
-use Rattle.class_ranks.specs.Present.{mostCells, topOf, present}
-use Rattle.class_ranks.specs.Mapped.{Lists, Classes}
+use Rattle.ranked_maps.specs.Present.{mostCells, topOf, present}
+use Rattle.ranked_maps.specs.Mapped.{Lists, Classes}
 use Rattle.class_ranks.specs.Same.{Same}
 use Rattle.remade_classes.specs.Made.{OldIn}
 use Rattle.remade_classes.specs.declared.Noted.{Noted}

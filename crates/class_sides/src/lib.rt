@@ -1,10 +1,10 @@
 // One class table of a context by class, in cells: its classes are listed, and its class map is laid; that of the input has marks of the classes that covered glyphs hold.
+use cell_maps::Map;
 use class_maps::class_map;
 use class_maps::top;
-use class_ranks::ClassMap;
 use covered_classes::mark_covered;
-use fold::Map;
 use fold_pairs::cells;
+use ranked_maps::ClassMap;
 use remade_classes::Noted;
 use remade_classes::list_front;
 ghost use mathlib.Core.Path.{_≡_};

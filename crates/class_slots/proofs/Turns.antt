@@ -16,14 +16,14 @@ use Rattle.room.specs.Laid.{enoughArea}
 use Rattle.known_blocks.specs.Shared.{blocksIn}
 use Rattle.known_blocks.specs.Book.{bookCells, packs, Begun}
 use Rattle.bits.specs.Bits.{marked}
-use Rattle.fold.specs.Cells.{folded}
+use Rattle.cell_maps.specs.Cells.{folded}
 use Rattle.fold.specs.Found.{foundOf, Answers}
-use Rattle.fold.specs.declared.Map.{Map}
+use Rattle.cell_maps.specs.declared.Map.{Map}
 use Rattle.fold.specs.declared.Found.{Found}
 use Rattle.fold.specs.declared.Found.the-variants.{New, Gone}
 use Rattle.kept_rules.specs.Left.{mapsIn}
 use Rattle.kept_rules.specs.declared.Maps.{Maps}
-use Rattle.class_ranks.specs.Present.{topOf, top-small, present, present-in}
+use Rattle.ranked_maps.specs.Present.{topOf, top-small, present, present-in}
 use Rattle.class_spots.specs.SlotWalk.{slotsFrom, walk-all, walk-one, walk-none, walk-end}
 use Rattle.class_spots.specs.Sets.{slotsAt, slots-near, countAt, setPlace, setLeft, SetSound, Asked, place-slot}
 use Rattle.class_spots.specs.Slots.{setsFull, markedOf, setsIn, slotBlocks, Ready, WroteSlots, blocks-many, present-few, marked-member}

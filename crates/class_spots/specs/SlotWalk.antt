@@ -11,9 +11,9 @@ use Rattle.meaning.specs.Words.{bind, isSome, member}
 use Rattle.meaning.specs.Tables.{Rule}
 use Rattle.meaning.specs.Cut.{slots, keepSlot, trim}
 use Rattle.meaning.specs.Layout.{blocks, block}
-use Rattle.fold.specs.Cells.{folded}
-use Rattle.fold.specs.declared.Map.{Map}
-use Rattle.class_ranks.specs.Present.{topOf, presentFrom, present, present-one, present-none, present-end}
+use Rattle.cell_maps.specs.Cells.{folded}
+use Rattle.cell_maps.specs.declared.Map.{Map}
+use Rattle.ranked_maps.specs.Present.{topOf, presentFrom, present, present-one, present-none, present-end}
 
 module _ (cutOne : List Rule → Option (List Rule)) (covered : List ℕ) (sets : List (Option (List Rule))) where
   -- the slot of a class

@@ -19,12 +19,12 @@ use Rattle.laws.specs.Stands.{All, Word}
 use Rattle.room.specs.Laid.{enoughArea}
 use Rattle.known_blocks.specs.Shared.{offsetsIn, blocksIn}
 use Rattle.bits.specs.Bits.{marked}
-use Rattle.fold.specs.Cells.{folded}
-use Rattle.fold.specs.declared.Map.{Map}
+use Rattle.cell_maps.specs.Cells.{folded}
+use Rattle.cell_maps.specs.declared.Map.{Map}
 use Rattle.area.specs.Part.{part}
 use Rattle.kept_rules.specs.Left.{AllInside, mapsIn}
 use Rattle.kept_rules.specs.declared.Maps.{Maps}
-use Rattle.class_ranks.specs.Present.{topOf, presentFrom, present, present-out}
+use Rattle.ranked_maps.specs.Present.{topOf, presentFrom, present, present-out}
 use Rattle.class_spots.specs.Sets.{slotsAt, countAt, setLeft, SetSound}
 use Rattle.class_spots.specs.declared.Classes.{Classes}
 use Rattle.class_spots.specs.declared.Slots.{Slots}

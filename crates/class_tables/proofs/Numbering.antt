@@ -18,7 +18,7 @@ use Rattle.laws.specs.SoundGood.{part-sound, lowest-none, header-good}
 use Rattle.differences.specs.Content.{Content, content, ruleSays, classRuns?, setHolds, byClass, covered}
 use Rattle.class_stretches.specs.Tables.{tableAt, NullOrSound, null-table}
 use Rattle.class_lists.specs.Elsewhere.{Elsewhere, elsewhere-more, elsewhere-wide}
-use Rattle.class_numbers.specs.Numbered.{ClassesNumbered}
+use Rattle.class_strays.specs.Numbered.{ClassesNumbered}
 use Rattle.class_tables.specs.Contexts.{backAt, inputAt, aheadAt, countAt, setAt, setPlace, rulesAt, SoundTables, TablesNumbered}
 
 -- a place that was read

@@ -25,7 +25,7 @@ use Rattle.rule_rows.specs.Rows.{sideOf, numberBy}
 use Rattle.rule_says.specs.declared.Shape.{Shape}
 use Rattle.rule_says.specs.Said.{numbered, saysAt, baseOf, saysBy, lowest}
 use Rattle.class_stretches.specs.Tables.{tableAt, NullOrSound, null-table, table-there}
-use Rattle.class_numbers.specs.Numbered.{ClassesNumbered}
+use Rattle.class_strays.specs.Numbered.{ClassesNumbered}
 use Rattle.class_tables.specs.Contexts.{backAt, inputAt, aheadAt, SoundTables, TablesNumbered, classSays, classSaysBy}
 
 -- two tests that tell equality agree where the equalities do

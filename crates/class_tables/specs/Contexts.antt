@@ -8,7 +8,7 @@ use Rattle.meaning.specs.Parts.{classIn}
 use Rattle.meaning.specs.Tables.{Rule, rule, ruleSet}
 use Rattle.differences.specs.Content.{Says, ruleSays, classRuns?}
 use Rattle.class_stretches.specs.Tables.{tableAt, NullOrSound}
-use Rattle.class_numbers.specs.Numbered.{ClassesNumbered}
+use Rattle.class_strays.specs.Numbered.{ClassesNumbered}
 use Rattle.rule_rows.specs.Rows.{sideOf}
 
 -- where the class tables of backtrack, input and lookahead stand; 0 for a null one

@@ -1,7 +1,7 @@
 // What follows the sets of format 2 of contexts and chained contexts, written into the area: the coverage, from what cells hold, and the class tables, each made again from the source when it is written.
 use area::over;
 use area::put;
-use area::write_cover;
+use area_parts::write_cover;
 use class_slots::settle_slots;
 use class_spots::Turn;
 use class_spots::slots_at;

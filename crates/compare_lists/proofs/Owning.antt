@@ -2,7 +2,7 @@
 use Prim.Native.Nat.{ℕ, _≤_}
 use native.Mathlib.Omega.{arith}
 use lib.ListN.{length, replicate, length-replicate}
-use Rattle.set_differences.specs.Gathered.{Scratch}
+use Rattle.gathered.specs.Gathered.{Scratch}
 
 -- for any number, so that no cells are written out
 own-enough : (n : ℕ) → n ≤ length (replicate {A = ℕ} n 0)

@@ -19,7 +19,7 @@ ghost use Rattle.differences.specs.Entries.{differences};
 ghost use Rattle.differences.specs.Compare.{comparedKind, comparedFormat};
 ghost use Rattle.listing.specs.Listed.{Listed};
 ghost use Rattle.listing.specs.Laid.{LaidList};
-ghost use Rattle.set_differences.specs.Gathered.{Scratch};
+ghost use Rattle.gathered.specs.Gathered.{Scratch};
 ghost use Rattle.compare_refusals.specs.Passes.{Passes, byRules, Enough};
 
 // What differs between two contexts of different formats: the format. Listed from `pos` on, where there is room; the place after it.

@@ -9,7 +9,7 @@ use lib.Dec.{eqb}
 use Rattle.meaning.specs.Words.{word}
 use Rattle.meaning.specs.Fault.{fault}
 use Rattle.differences.specs.Compare.{comparedFormat}
-use Rattle.set_differences.specs.Gathered.{Scratch}
+use Rattle.gathered.specs.Gathered.{Scratch}
 
 pub record Passes (kind : ℕ) (s : List ℕ) : Type 0 where
   pub short : length s ≤ 262144

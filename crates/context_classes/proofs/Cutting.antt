@@ -18,9 +18,9 @@ use Rattle.meaning.specs.Subset.{Outcome, limit, writtenIn}
 use Rattle.laws.specs.SoundGood.{coverage-up}
 use Rattle.room.specs.Laid.{enoughArea}
 use Rattle.bits.specs.Reading.{same-cell}
-use Rattle.fold.specs.Cells.{Holds}
-use Rattle.fold.specs.Laid.{Laid}
-use Rattle.fold.specs.declared.Map.{Map}
+use Rattle.cell_maps.specs.Cells.{Holds}
+use Rattle.cell_maps.specs.Laid.{Laid}
+use Rattle.cell_maps.specs.declared.Map.{Map}
 use Rattle.area.specs.Part.{news}
 use Rattle.numbers.specs.Alike.{holds-alike, set-alike}
 use Rattle.kept_rules.specs.Left.{mapsIn}
@@ -34,8 +34,8 @@ use Rattle.class_finish.specs.Written.{Writes, leftInto}
 use Rattle.glyph_runs.specs.Runs.{form-is, map-good}
 use Rattle.class_stretches.specs.Tables.{tableAt}
 use Rattle.class_lists.specs.Elsewhere.{Elsewhere}
-use Rattle.class_ranks.specs.Present.{topOf, top-small}
-use Rattle.class_ranks.specs.Mapped.{holds-null}
+use Rattle.ranked_maps.specs.Present.{topOf, top-small}
+use Rattle.ranked_maps.specs.Mapped.{holds-null}
 use Rattle.class_ranks.specs.Same.{Same, after-same, part-alike, present-same}
 use Rattle.class_sides.specs.Sides.{markCells, Asks, SideIn, Sided, InputAsks, InputIn, InputLaid}
 use Rattle.context_classes.specs.Meaning.{backAt, inputAt, aheadAt, rulesMaps, tablesOf, blocksOf, cut-words, slots-alike}

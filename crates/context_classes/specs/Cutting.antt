@@ -15,10 +15,10 @@ use Rattle.meaning.specs.Subset.{limit}
 use Rattle.laws.specs.ReadsBack.{Good}
 use Rattle.laws.specs.CutGood.{Values}
 use Rattle.laws.specs.SoundGood.{Bytes}
-use Rattle.fold.specs.declared.Map.{Map}
+use Rattle.cell_maps.specs.declared.Map.{Map}
 use Rattle.area.specs.Part.{news}
 use Rattle.glyph_runs.specs.Runs.{GlyphMap}
-use Rattle.class_ranks.specs.Present.{mostCells}
+use Rattle.ranked_maps.specs.Present.{mostCells}
 use Rattle.remade_classes.specs.Made.{OldIn}
 use Rattle.remade_classes.specs.declared.Noted.{Noted}
 use Rattle.context_classes.specs.Meaning.{backAt, inputAt, aheadAt, SoundContext}

@@ -1,11 +1,11 @@
 // All class tables of a context by class: their class maps in cells, one behind the other, and what the writing goes by.
+use cell_maps::Map;
 use class_finish::Prepared;
 use class_sides::Input;
 use class_sides::class_input;
 use class_sides::class_side;
 use class_sides::mark_cells;
 use class_sides::no_input;
-use fold::Map;
 use kept_rules::Maps;
 use marks::Marks;
 use remade_classes::Noted;

@@ -18,8 +18,8 @@ use Rattle.meaning.specs.Subset.{limit}
 use Rattle.laws.specs.Stands.{All, Word, twos-length}
 use Rattle.laws.specs.Left.{entries-length}
 use Rattle.laws.specs.Written.{flat-one}
-use Rattle.fold.specs.Cells.{Kept, holds-kept, kept-all, kept-more}
-use Rattle.fold.specs.declared.Map.{Map}
+use Rattle.cell_maps.specs.Cells.{Kept, holds-kept, kept-all, kept-more}
+use Rattle.cell_maps.specs.declared.Map.{Map}
 use Rattle.area.specs.Extends.{Extends, extends-none, extends-said}
 use Rattle.numbers.specs.Entries.{entriesIn}
 use Rattle.numbers.specs.Leaves.{Leaves, leaves-room}

@@ -12,8 +12,8 @@ use Rattle.meaning.specs.Layout.{wordsFit}
 use Rattle.meaning.specs.Subset.{limit}
 use Rattle.laws.specs.SoundGood.{Bytes}
 use Rattle.room.specs.Laid.{enoughArea}
-use Rattle.fold.specs.Cells.{Inside}
-use Rattle.fold.specs.declared.Map.{Map}
+use Rattle.cell_maps.specs.Cells.{Inside}
+use Rattle.cell_maps.specs.declared.Map.{Map}
 use Rattle.area.specs.Extends.{Extends}
 use Rattle.numbers.specs.Entries.{entriesIn}
 use Rattle.known_blocks.specs.Book.{bookCells, packs, inBook, Booked}

@@ -2,12 +2,12 @@
 // The area's header has its parts where the source has them, since each row of coverages stays whole.
 use area::put;
 use area::put_three;
+use cell_maps::Map;
 use cover_parts::CoverParts;
 use cover_parts::Held;
 use cover_parts::Places;
 use cover_rows::write_counted_row;
 use cover_rows::write_row;
-use fold::Map;
 use lookup_records::write_counted_records;
 use lookup_records::write_records;
 ghost use mathlib.Core.Bool.{true, false};

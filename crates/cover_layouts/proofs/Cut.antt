@@ -21,8 +21,8 @@ use Rattle.laws.specs.CutGood.{GoodMap, Values, GoodOf}
 use Rattle.laws.specs.CutTables.{cut-good}
 use Rattle.laws.specs.SoundGood.{reaches-length, covers-context-good}
 use Rattle.glyph_runs.specs.Runs.{map-good}
-use Rattle.fold.specs.Cells.{Holds}
-use Rattle.fold.specs.declared.Map.{Map}
+use Rattle.cell_maps.specs.Cells.{Holds}
+use Rattle.cell_maps.specs.declared.Map.{Map}
 use Rattle.area.specs.Part.{part, take-part}
 use Rattle.room.specs.Laid.{enoughArea, outcomeOf, laidAs, laid-words, laid-unfit}
 use Rattle.room.specs.declared.Laid.{Laid}

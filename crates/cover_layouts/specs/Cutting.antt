@@ -16,8 +16,8 @@ use Rattle.laws.specs.CutGood.{Values}
 use Rattle.laws.specs.SoundGood.{Bytes}
 use Rattle.room.specs.Laid.{enoughArea, laidAs}
 use Rattle.glyph_runs.specs.Runs.{GlyphMap}
-use Rattle.fold.specs.Cells.{Inside, Holds}
-use Rattle.fold.specs.declared.Map.{Map}
+use Rattle.cell_maps.specs.Cells.{Inside, Holds}
+use Rattle.cell_maps.specs.declared.Map.{Map}
 use Rattle.tried.specs.Tries.{Tries}
 use Rattle.tried.specs.declared.Tried.{Tried}
 use Rattle.cover_parts.specs.Rows.{Ready}

@@ -17,8 +17,8 @@ use Rattle.laws.specs.Stands.{All, Word, all-append, flat-length}
 use Rattle.laws.specs.ReadsBack.{fit-words}
 use Rattle.laws.specs.Written.{sets-flat, flat-one}
 use Rattle.room.specs.Laid.{enoughArea}
-use Rattle.fold.specs.Cells.{Kept}
-use Rattle.fold.specs.declared.Map.{Map}
+use Rattle.cell_maps.specs.Cells.{Kept}
+use Rattle.cell_maps.specs.declared.Map.{Map}
 use Rattle.area.specs.Extends.{Extends, extends-none, extends-more, extends-said}
 use Rattle.area.specs.Stored.{extends-store}
 use Rattle.known_blocks.specs.Shared.{offsetsIn, blocksIn, placeIn}

@@ -27,11 +27,11 @@ use Rattle.laws.specs.CutGood.{up-length, newCoverage-glyphs}
 use Rattle.laws.specs.SoundGood.{part-sound, lowest-none, coverage-good}
 use Rattle.laws.specs.PackedReading.{sharedBlocks}
 use Rattle.glyph_runs.specs.Runs.{map-good}
-use Rattle.fold.specs.Cells.{Kept, kept-all, kept-more, holds-kept}
-use Rattle.fold.specs.declared.Map.{Map}
+use Rattle.cell_maps.specs.Cells.{Kept, kept-all, kept-more, holds-kept}
+use Rattle.cell_maps.specs.declared.Map.{Map}
 use Rattle.area.specs.Extends.{Extends, Tried, extends-none, extends-said, extends-keeps, extends-kept, extends-stands}
 use Rattle.area.specs.Part.{news, part, classless}
-use Rattle.meet_ranges.specs.Met.{Met, met-news}
+use Rattle.range_meets.specs.Met.{Met, met-news}
 use Rattle.meets.specs.Either.{SeeksGlyphs}
 use Rattle.known_blocks.specs.Shared.{blocksIn, known, placeIn, blocks-next}
 use Rattle.known_blocks.specs.Book.{packs, inBook, Listed, Booked, Repeated, Again, Behind, Settled}

@@ -17,8 +17,8 @@ use Rattle.laws.specs.Stands.{All, Word}
 use Rattle.laws.specs.SoundGood.{Bytes}
 use Rattle.room.specs.Laid.{enoughArea}
 use Rattle.glyph_runs.specs.Runs.{GlyphMap}
-use Rattle.fold.specs.Cells.{Holds, Kept}
-use Rattle.fold.specs.declared.Map.{Map}
+use Rattle.cell_maps.specs.Cells.{Holds, Kept}
+use Rattle.cell_maps.specs.declared.Map.{Map}
 use Rattle.area.specs.Extends.{Extends}
 use Rattle.meets.specs.Either.{mostNotes}
 use Rattle.known_blocks.specs.Shared.{offsetsIn, blocksIn, placeIn}

@@ -1,5 +1,5 @@
 // Where the parts of a context by coverages stand, and how many glyphs can be noted of one of its coverages.
-use fold::Map;
+use cell_maps::Map;
 use meets::most;
 use wire::word_at;
 use wire::word_inside;

@@ -16,14 +16,14 @@ use Rattle.meaning.specs.Cut.{heldBy, newCoverage, retained}
 use Rattle.laws.specs.Runs.{Up}
 use Rattle.laws.specs.CutGood.{GoodMap, rises, mapSome-up₀, itself, map-same}
 use Rattle.bits.specs.Bits.{marked, Put, Cleared}
-use Rattle.fold.specs.Cells.{Kept, kept-all, kept-more}
+use Rattle.cell_maps.specs.Cells.{Kept, kept-all, kept-more}
 use Rattle.area.specs.Part.{news, notes, part-all, part-left, part-none}
 use Rattle.area.specs.Stored.{part-same}
 use Rattle.class_lists.specs.From.{fromOld}
 use Rattle.class_lists.specs.Listed.{classed}
-use Rattle.class_ranks.specs.Once.{insert-member}
-use Rattle.class_ranks.specs.Mapped.{lists-kept}
-use Rattle.class_ranks.proofs.Putting.{or-none, put-one, put-kept}
+use Rattle.ranked_maps.specs.Once.{insert-member}
+use Rattle.ranked_maps.specs.Mapped.{lists-kept}
+use Rattle.ranked_maps.proofs.Putting.{or-none, put-one, put-kept}
 use Rattle.covered_classes.specs.Covered.{firstClass, Passes, Coverable, Met, Covered}
 
 -- Listed cells from the front.

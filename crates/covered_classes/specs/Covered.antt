@@ -10,10 +10,10 @@ use Rattle.meaning.specs.Cut.{heldBy, newCoverage, retained}
 use Rattle.laws.specs.Runs.{Up}
 use Rattle.laws.specs.CutGood.{GoodMap}
 use Rattle.bits.specs.Bits.{marked}
-use Rattle.fold.specs.Cells.{Kept}
+use Rattle.cell_maps.specs.Cells.{Kept}
 use Rattle.area.specs.Part.{news, notes}
 use Rattle.class_lists.specs.From.{fromOld}
-use Rattle.class_ranks.specs.Mapped.{Lists}
+use Rattle.ranked_maps.specs.Mapped.{Lists}
 
 -- the class of the first entry, if that is of the new number v; else 0
 unfoldable pub firstClass : ℕ → List (ℕ × ℕ) → ℕ

@@ -12,7 +12,7 @@ use Rattle.meaning.specs.Parts.{coverage, coverageSound}
 use Rattle.meaning.specs.Cut.{coveredMap}
 use Rattle.laws.specs.Stands.{All}
 use Rattle.area.specs.Part.{part, notes}
-use Rattle.meet_ranges.specs.Met.{met}
+use Rattle.range_meets.specs.Met.{met}
 
 -- the covered glyph that a note names by its coverage index, with the note's new number
 unfoldable pub named : List ℕ → List (ℕ × ℕ) → List (ℕ × ℕ)

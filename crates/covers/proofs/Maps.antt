@@ -13,10 +13,10 @@ use Rattle.meaning.specs.Subset.{writtenIn}
 use Rattle.laws.specs.SoundGood.{Bytes}
 use Rattle.laws.specs.CallBack.{map-values}
 use Rattle.room.specs.Laid.{enoughArea}
-use Rattle.fold.specs.Cells.{Holds, holds-kept}
-use Rattle.fold.specs.Laid.{Laid}
-use Rattle.fold.specs.Runs.{LaidGlyphs}
-use Rattle.fold.specs.declared.Map.{Map}
+use Rattle.cell_maps.specs.Cells.{Holds, holds-kept}
+use Rattle.cell_maps.specs.Laid.{Laid}
+use Rattle.cell_maps.specs.Runs.{LaidGlyphs}
+use Rattle.cell_maps.specs.declared.Map.{Map}
 use Rattle.tried.specs.Tries.{Tries, tries-less}
 use Rattle.tried.specs.declared.Tried.{Tried}
 use Rattle.cover_layouts.specs.Cutting.{Cuts, CutsInto, Sound, enoughCells}

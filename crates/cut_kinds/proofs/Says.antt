@@ -23,8 +23,8 @@ use Rattle.placed_sets.specs.Sorts.{setFaultOf}
 use Rattle.placed_sets.specs.declared.Sort.the-variants.{Rules, Ligatures}
 use Rattle.tried.specs.Tries.{Tries, tries-less}
 use Rattle.tried.specs.declared.Tried.{Tried}
-use Rattle.by_glyph.specs.Whole.{glyphContext, ligatureTable}
-use Rattle.by_glyph.specs.PairTables as glyphPairs
+use Rattle.cut_sets.specs.Whole.{glyphContext, ligatureTable}
+use Rattle.cut_sets.specs.PairTables as glyphPairs
 use Rattle.pair_classes.specs.Cutting as classPairs
 use Rattle.cover_layouts.specs.Cutting as covers
 use Rattle.single_subst.specs.Whole as singles

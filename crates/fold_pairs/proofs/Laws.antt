@@ -16,9 +16,9 @@ use Rattle.meaning.specs.Words.{find, word, ascends, keys}
 use Rattle.meaning.specs.Maps.{mapEntries}
 use Rattle.laws.specs.Left.{entries-length, entries-at}
 use Rattle.laws.specs.Ascends.{ascends-rise, find-none, map-length, map-key}
-use Rattle.fold.specs.Cells.{cellOf, cellAt, Inside, Odd, Holds, Kept, kept-all, kept-more, kept-set, holds-none}
-use Rattle.fold.specs.Laid.{Power, power-twice, power-near, power-even, Next, taken, Added, added-kept, added-holds, added-clash, LaidIn, Laid}
-use Rattle.fold.specs.declared.Map.{Map}
+use Rattle.cell_maps.specs.Cells.{cellOf, cellAt, Inside, Odd, Holds, Kept, kept-all, kept-more, kept-set, holds-none}
+use Rattle.cell_maps.specs.Laid.{Power, power-twice, power-near, power-even, Next, taken, Added, added-kept, added-holds, added-clash, LaidIn, Laid}
+use Rattle.cell_maps.specs.declared.Map.{Map}
 
 -- What the loop of `clear` keeps: the cells from the first up to i hold 0, and those before are as before.
 pub record Clearing (t₀ t : List ℕ) (m : Map) (i : ℕ) : Type 0 where

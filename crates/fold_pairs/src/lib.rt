@@ -1,12 +1,12 @@
 // Listed maps of pairs in cells: how many cells they take, and how they are laid.
-use fold::Map;
+use cell_maps::Map;
 use fold::entry;
 use wire::word_inside;
 ghost use mathlib.Core.Bool.{true};
 ghost use mathlib.Core.List.{[]};
 ghost use Prim.Native.Nat.{_+_, _*_, _/_, _<_, _≤_};
-ghost use Rattle.fold.specs.Cells.{Inside, Odd, Holds, Kept};
-ghost use Rattle.fold.specs.Laid.{Power, Next, Added, LaidIn, Laid};
+ghost use Rattle.cell_maps.specs.Cells.{Inside, Odd, Holds, Kept};
+ghost use Rattle.cell_maps.specs.Laid.{Power, Next, Added, LaidIn, Laid};
 
 // No entries in the cells of a map.
 pub fn clear(t: &mut [u32], m: Map)

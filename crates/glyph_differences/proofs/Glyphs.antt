@@ -11,7 +11,7 @@ use Rattle.coverage_index.specs.declared.Covered.the-variants.{At, Not}
 use Rattle.differences.specs.Entries.{ruleEntries}
 use Rattle.listing.specs.Listed.{entryOf, Listed}
 use Rattle.first_glyphs.specs.First.{coverOf, rightOnly, index-below, atGlyph}
-use Rattle.set_differences.specs.Gathered.{numbersAt}
+use Rattle.gathered.specs.Gathered.{numbersAt}
 use Rattle.set_differences.proofs.Going.{glyph-right, glyph-left, glyph-both}
 use Rattle.glyph_differences.specs.Slots.{numbersBy, SlotTable, in-slots}
 

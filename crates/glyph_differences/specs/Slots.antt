@@ -13,7 +13,7 @@ use Rattle.differences.specs.Content.{byIndex}
 use Rattle.differences.specs.Entries.{beside}
 use Rattle.first_glyphs.specs.First.{coverOf, soundCover, bind-same, by-slot}
 use Rattle.set_numbers.specs.Sets.{codesOf}
-use Rattle.set_differences.specs.Gathered.{numberIn, numbersAt}
+use Rattle.gathered.specs.Gathered.{numberIn, numbersAt}
 use Rattle.set_differences.specs.Said.{set-numbers}
 
 -- a sound subtable of this kind, a context or a ligature, of format 1

@@ -22,7 +22,7 @@ use Rattle.first_glyphs.specs.First.{coverOf, soundCover, sound-cover, covered-
 use Rattle.rule_rows.specs.Rows.{sideOf, numberBy}
 use Rattle.rule_says.specs.Said.{numbered, ligatureBy, saysAt, baseOf, saysBy}
 use Rattle.set_numbers.specs.Sets.{codesOf, Told}
-use Rattle.set_differences.specs.Gathered.{numbersAt}
+use Rattle.gathered.specs.Gathered.{numbersAt}
 use Rattle.set_differences.specs.Said.{set-says, glyph-told}
 use Rattle.glyph_differences.specs.Slots.{ByGlyph, numbersBy, SlotTable, in-slots}
 

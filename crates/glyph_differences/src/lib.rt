@@ -20,7 +20,7 @@ ghost use Rattle.differences.specs.Entries.{each, ruleEntries, differences};
 ghost use Rattle.listing.specs.Listed.{Listed};
 ghost use Rattle.listing.specs.Laid.{LaidList};
 ghost use Rattle.first_glyphs.specs.First.{atGlyph};
-ghost use Rattle.set_differences.specs.Gathered.{Scratch, Fit, Remembered};
+ghost use Rattle.gathered.specs.Gathered.{Scratch, Fit, Remembered};
 ghost use Rattle.glyph_differences.specs.Slots.{numbersBy, SlotTable, ByGlyph};
 
 // A first glyph, and the place in the buffer.

@@ -1,7 +1,7 @@
 // Format 1 of each kind: the table is put together around its kept sets.
 use area::put_three;
 use area::put_two;
-use area::write_cover;
+use area_parts::write_cover;
 use handing::lessen;
 use placed_sets::Sort;
 use placed_sets::header_size;

@@ -11,8 +11,8 @@ use Rattle.meaning.specs.Words.{bind, push, mapSome, upFrom}
 use Rattle.laws.specs.Stands.{Word}
 use Rattle.laws.specs.Through.{Opt}
 use Rattle.laws.specs.CutGood.{Values, GoodMaps}
-use Rattle.fold.specs.Cells.{cellEntry, answerIn, folded, evenMask}
-use Rattle.fold.specs.declared.Map.{Map}
+use Rattle.cell_maps.specs.Cells.{cellEntry, answerIn, folded, evenMask}
+use Rattle.cell_maps.specs.declared.Map.{Map}
 use Rattle.numbers.specs.Entries.{entryIn, answeredFrom, entriesIn}
 use Rattle.kept_rules.specs.declared.Maps.{Maps}
 use Rattle.kept_rules.specs.Left.{mapsIn}

@@ -17,7 +17,7 @@ use Rattle.laws.specs.Runs.{both}
 use Rattle.laws.specs.Left.{words-length}
 use Rattle.laws.specs.SoundGood.{part-sound}
 use Rattle.laws.specs.Members.{members}
-use Rattle.fold.specs.Cells.{Inside}
+use Rattle.cell_maps.specs.Cells.{Inside}
 use Rattle.numbers.specs.Entries.{entriesIn}
 use Rattle.numbers.specs.Leaves.{Leaves, Fits, joined, leaves-ended, leaves-next, fits-joined, fits-words, map-length}
 use Rattle.member_sets.specs.Sets.{setMost}

@@ -1,7 +1,7 @@
 // One rule of a context, plain or chained: what is left of it, written into the area in one walk.
 use area::over;
 use area::put_two;
-use fold::Map;
+use cell_maps::Map;
 use lookup_records::write_counted_records;
 use lookup_records::write_records;
 use numbers::after_first;

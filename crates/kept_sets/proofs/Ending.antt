@@ -8,7 +8,7 @@ use lib.ListN.{length, getD}
 use Rattle.meaning.specs.Words.{word}
 use Rattle.meaning.specs.Cut.{RuleMaps, glyphsOf}
 use Rattle.room.specs.Laid.{enoughArea}
-use Rattle.fold.specs.Cells.{Kept}
+use Rattle.cell_maps.specs.Cells.{Kept}
 use Rattle.handing.specs.Closed.{members}
 use Rattle.numbers.specs.Entries.{entries-kept}
 use Rattle.known_blocks.specs.Shared.{blocksIn}

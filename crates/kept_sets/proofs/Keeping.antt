@@ -10,7 +10,7 @@ use borrow.Author.Tests.{eq-eqb, ne-eqb}
 use Rattle.meaning.specs.Words.{word, bind, push}
 use Rattle.meaning.specs.Cut.{glyphsOf}
 use Rattle.room.specs.Laid.{enoughArea}
-use Rattle.fold.specs.Cells.{Kept, kept-all, kept-more, kept-set}
+use Rattle.cell_maps.specs.Cells.{Kept, kept-all, kept-more, kept-set}
 use Rattle.area.specs.Part.{part, part-left, part-all, part-none, news, notes}
 use Rattle.area.specs.Stored.{part-store}
 use Rattle.handing.specs.Closed.{members}

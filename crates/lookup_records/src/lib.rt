@@ -2,8 +2,8 @@
 use area::over;
 use area::put;
 use area::put_two;
+use cell_maps::Map;
 use fold::Found;
-use fold::Map;
 use fold::find;
 use wire::word_inside;
 ghost use mathlib.Core.Option.{some};
@@ -12,7 +12,7 @@ ghost use Prim.Native.Nat.{_+_, _-_, _*_, _<_, _≤_};
 ghost use lib.ListN.{length};
 ghost use Rattle.meaning.specs.Words.{entries, twos, find};
 ghost use Rattle.meaning.specs.Cut.{cutRecords};
-ghost use Rattle.fold.specs.Cells.{Inside};
+ghost use Rattle.cell_maps.specs.Cells.{Inside};
 ghost use Rattle.area.specs.Extends.{Extends};
 ghost use Rattle.numbers.specs.Entries.{entriesIn};
 ghost use Rattle.numbers.specs.Leaves.{Leaves};

@@ -16,15 +16,15 @@ use Rattle.meaning.specs.Parts.{coverage}
 use Rattle.laws.specs.Stands.{All}
 use Rattle.laws.specs.Runs.{Up}
 use Rattle.laws.specs.SoundGood.{coverage-up}
-use Rattle.fold.specs.Cells.{Kept, kept-all, kept-more, kept-set}
+use Rattle.cell_maps.specs.Cells.{Kept, kept-all, kept-more, kept-set}
 use Rattle.area.specs.Part.{part, notes}
 use Rattle.coverage_index.specs.Index.{indexOf, coveredOf, is-at, is-not}
 use Rattle.coverage_index.specs.declared.Covered.{Covered}
 use Rattle.coverage_index.specs.declared.Covered.the-variants.{At, Not}
-use Rattle.meet_ranges.specs.Met.{met, Met, up-least, entry-below, met-none}
-use Rattle.meet_ranges.specs.Walks.{rest, MeetsEntries}
-use Rattle.meet_ranges.proofs.Entries.{find-below, rest-cons, rest-end, rest-all, rest-up, map-rises}
-use Rattle.meet_ranges.proofs.Lists.{notes-store}
+use Rattle.range_meets.specs.Met.{met, Met, up-least, entry-below, met-none}
+use Rattle.range_meets.specs.Walks.{rest, MeetsEntries}
+use Rattle.range_meets.proofs.Entries.{find-below, rest-cons, rest-end, rest-all, rest-up, map-rises}
+use Rattle.range_meets.proofs.Lists.{notes-store}
 
 -- what ascends from above a glyph on has not the glyph
 index-below : (g low : ℕ) (cov : List ℕ) → g < low → Up low cov → indexOf cov g ≡ none

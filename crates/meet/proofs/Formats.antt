@@ -13,10 +13,10 @@ use Rattle.meaning.specs.Parts.{rangeGlyphs, rangesAscend, rangesCount, coverag
 use Rattle.laws.specs.Runs.{both}
 use Rattle.laws.specs.Left.{entries-length}
 use Rattle.laws.specs.SoundGood.{coverage-up}
-use Rattle.fold.specs.Cells.{folded}
-use Rattle.fold.specs.declared.Map.{Map}
-use Rattle.meet_ranges.specs.Met.{met, Met, Meets, met-same, met-few}
-use Rattle.meet_ranges.specs.Walks.{MeetsList, MeetsRanges, MeetsEntries}
+use Rattle.cell_maps.specs.Cells.{folded}
+use Rattle.cell_maps.specs.declared.Map.{Map}
+use Rattle.range_meets.specs.Met.{met, Met, Meets, met-same, met-few}
+use Rattle.range_meets.specs.Walks.{MeetsList, MeetsRanges, MeetsEntries}
 
 -- what lies inside
 pub inside-fits : (s : List ℕ) (at n : ℕ) → inside s at n ≡ true → at + n ≤ length s

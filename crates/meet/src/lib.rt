@@ -1,22 +1,18 @@
-// Where a listed glyph map meets a coverage: the covered glyphs that the map has, noted in cells; and whether there is one.
+// Where a listed glyph map meets a coverage: the covered glyphs that the map has, noted in cells.
+use cell_maps::Map;
 use coverage_index::Covered;
 use coverage_index::index_of;
-use fold::Map;
 use fold::entry;
 use meet_ranges::meet_ranges;
 use wire::word_inside;
-ghost use mathlib.Core.Path.{_≡_};
-ghost use mathlib.Core.Bool.{true};
-ghost use Prim.Native.Nat.{_+_, _*_, _/_, _≤_, _<_};
-ghost use lib.ListN.{length};
+ghost use Prim.Native.Nat.{_+_, _*_, _/_, _<_};
 ghost use Rattle.meaning.specs.Words.{words};
 ghost use Rattle.meaning.specs.Parts.{coverage};
 ghost use Rattle.meaning.specs.Maps.{mapEntries};
 ghost use Rattle.meaning.specs.Words.{find};
-ghost use Rattle.meet.specs.Answered.{answered};
-ghost use Rattle.fold.specs.Cells.{folded, Inside};
-ghost use Rattle.meet_ranges.specs.Met.{Met, Meets};
-ghost use Rattle.meet_ranges.specs.Walks.{MeetsList, MeetsEntries};
+ghost use Rattle.cell_maps.specs.Cells.{folded};
+ghost use Rattle.range_meets.specs.Met.{Met, Meets};
+ghost use Rattle.range_meets.specs.Walks.{MeetsList, MeetsEntries};
 
 // A coverage with more than this many glyphs, or ranges, for each entry of the map is asked for the entries; a shorter one is walked.
 // A question reads a word for each halving, and a walk reads each glyph or range: timed side by side, a question took as long as walking four ranges or eight glyphs.
@@ -74,20 +70,4 @@ pub fn meet(src: &[u8], at: usize, glyphs: &[u8], m: Map, t: &mut [u32], to: usi
         return meet_list(src, at + 4, n, m, t, to);
     }
     meet_ranges(src, at + 4, n, glyphs, t, to)
-}
-
-// Whether the map has one of the `n` listed glyphs from `at` on. The first that it has settles it.
-pub fn meets_list(src: &[u8], at: usize, n: usize, m: Map, t: &[u32]) -> bool
-    requires { ⌜ (at + 2 * n ≤ length (now src)) × Inside (now t) m ⌝ }
-    ensures { λ r. ⌜ r ≡ answered (folded (now (t .entry)) m) (words (now (src .entry)) at n) ⌝ }
-{
-    let mut i = 0;
-    while i < n {
-        let glyph = word_inside(src, at + 2 * i);
-        if entry(t, m, glyph) / 65536 == glyph {
-            return true;
-        }
-        i += 1;
-    }
-    false
 }

@@ -1,6 +1,6 @@
 // Where a glyph map in either form meets a coverage: the covered glyphs that the map has, noted in cells.
 // Runs meet ranges stretch by stretch: a range costs the glyphs of it that the map has, a step for each run that has some, and a few to find the first.
-use fold::Map;
+use cell_maps::Map;
 use glyph_runs::reach;
 use meet::meet_list;
 use noted_runs::meet_run;
@@ -9,7 +9,7 @@ ghost use Prim.Native.Nat.{_+_, _<_};
 ghost use Rattle.meaning.specs.Words.{triples, find};
 ghost use Rattle.meaning.specs.Maps.{glyphEntries};
 ghost use Rattle.meaning.specs.Parts.{rangeGlyphs, coverage};
-ghost use Rattle.meet_ranges.specs.Met.{Met};
+ghost use Rattle.range_meets.specs.Met.{Met};
 ghost use Rattle.noted_runs.specs.Walks.{MeetsSpan, InSpan, MeetsRanges};
 ghost use Rattle.meets.specs.Either.{MeetsGlyphs};
 

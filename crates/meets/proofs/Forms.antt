@@ -18,11 +18,11 @@ use Rattle.coverage_glyphs.specs.Answers.{Counts}
 use Rattle.coverage_glyphs.proofs.Reading.{covers-list, covers-ranges, header-fits, list-fits, ranges-sound}
 use Rattle.glyph_runs.specs.Runs.{GlyphMap, form-is, map-good}
 use Rattle.glyph_runs.specs.Found.{entries-few}
-use Rattle.fold.specs.Cells.{folded, Inside}
-use Rattle.fold.specs.declared.Map.{Map}
-use Rattle.meet_ranges.specs.Met.{met, Met, Meets, met-same}
-use Rattle.meet_ranges.specs.Walks.{MeetsList}
-use Rattle.meet.specs.Answered.{answered, answered-same, answered-left}
+use Rattle.cell_maps.specs.Cells.{folded, Inside}
+use Rattle.cell_maps.specs.declared.Map.{Map}
+use Rattle.range_meets.specs.Met.{met, Met, Meets, met-same}
+use Rattle.range_meets.specs.Walks.{MeetsList}
+use Rattle.listed_meets.specs.Answered.{answered, answered-same, answered-left}
 use Rattle.noted_runs.specs.Walks.{MeetsRanges, SeeksRanges}
 use Rattle.meets.specs.Either.{mostNotes, Most, MeetsGlyphs, SeeksGlyphs}
 

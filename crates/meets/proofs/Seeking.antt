@@ -16,7 +16,7 @@ use Rattle.laws.specs.Left.{triples-left, triples-all, triples-none}
 use Rattle.glyph_runs.specs.Runs.{runCount, oldOf, sizeOf, Past, Reached, IsRun}
 use Rattle.glyph_runs.specs.Found.{run-found, none-found}
 use Rattle.glyph_runs.specs.declared.Run.{Run}
-use Rattle.meet.specs.Answered.{answered}
+use Rattle.listed_meets.specs.Answered.{answered}
 use Rattle.noted_runs.specs.Walks.{SeeksRanges}
 
 -- numbers in a row of which none, or one, has an answer

@@ -8,8 +8,8 @@ use lib.Dec.{eqb}
 use Rattle.meaning.specs.Maps.{glyphEntries}
 use Rattle.meaning.specs.Parts.{coverage, coverageSound}
 use Rattle.glyph_runs.specs.Runs.{GlyphMap}
-use Rattle.fold.specs.Cells.{Holds}
-use Rattle.fold.specs.declared.Map.{Map}
+use Rattle.cell_maps.specs.Cells.{Holds}
+use Rattle.cell_maps.specs.declared.Map.{Map}
 
 -- a bound for the glyphs of the coverage at `at` that a map has: its entries if they are listed, and the covered glyphs if it has runs, whose pairs are not counted
 unfoldable pub mostNotes : ℕ → List ℕ → List ℕ → ℕ → ℕ

@@ -1,9 +1,9 @@
 // Whether a glyph map in either form meets a coverage, and a bound for how often.
-use fold::Map;
+use cell_maps::Map;
 use glyph_runs::count_runs;
 use glyph_runs::reach;
 use glyph_runs::run_at;
-use meet::meets_list;
+use listed_meets::meets_list;
 use wire::word_inside;
 ghost use mathlib.Core.Path.{_≡_};
 ghost use mathlib.Core.Bool.{true};
@@ -13,7 +13,7 @@ ghost use Rattle.meaning.specs.Maps.{glyphEntries};
 ghost use Rattle.meaning.specs.Parts.{rangeGlyphs, coverage, coverageSound};
 ghost use Rattle.meaning.specs.Cut.{unlessEmpty, newCoverage};
 ghost use Rattle.glyph_runs.specs.Runs.{GlyphMap};
-ghost use Rattle.meet.specs.Answered.{answered};
+ghost use Rattle.listed_meets.specs.Answered.{answered};
 ghost use Rattle.noted_runs.specs.Walks.{SeeksRanges};
 ghost use Rattle.meets.specs.Either.{Most, SeeksGlyphs};
 

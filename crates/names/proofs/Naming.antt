@@ -13,8 +13,8 @@ use Rattle.meaning.specs.Words.{word, every}
 use Rattle.meaning.specs.Tables.{Rule, Table, dropNull, table}
 use Rattle.replaying.specs.Listed.{entryAt, entriesFrom, listed, sourceOf, lookupOf, lookupsOf, namesBelow, ruleNames, setsName, recordsName, allNamed}
 use Rattle.replaying.specs.Cost.{stepLimit, cutOff, larger, largest, stepsOf, recordSteps, ruleSteps, setsSteps, tableSteps}
-use Rattle.rule_steps.proofs.Sums.{cut-under, cut-over, record-small}
-use Rattle.rule_steps.proofs.Most.{larger-above, larger-first}
+use Rattle.member_steps.proofs.Sums.{cut-under, cut-over, record-small}
+use Rattle.member_steps.proofs.Most.{larger-above, larger-first}
 use Rattle.lookup_list.specs.Ready.{sourceAt}
 
 -- as many lookups that take no steps

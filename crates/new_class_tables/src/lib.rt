@@ -1,7 +1,7 @@
 // One new class table, written into the area behind those so far, or placed as an equal one before it.
 use area::over;
 use area::put;
-use area::write_classes;
+use area_parts::write_classes;
 use class_spots::Turn;
 use class_spots::place_spot;
 use remade_classes::NewTable;

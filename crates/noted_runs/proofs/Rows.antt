@@ -8,10 +8,10 @@ use native.Mathlib.Omega.{arith}
 use lib.ListN.{length, set}
 use Rattle.meaning.specs.Words.{bind, push, upFrom}
 use Rattle.meaning.specs.Maps.{steps}
-use Rattle.fold.specs.Cells.{Kept, kept-all, kept-more, kept-set}
+use Rattle.cell_maps.specs.Cells.{Kept, kept-all, kept-more, kept-set}
 use Rattle.area.specs.Part.{part, notes}
-use Rattle.meet_ranges.specs.Met.{met}
-use Rattle.meet_ranges.proofs.Lists.{notes-store}
+use Rattle.range_meets.specs.Met.{met}
+use Rattle.range_meets.proofs.Lists.{notes-store}
 use Rattle.noted_runs.specs.Walks.{NotedSteps}
 
 module _ (f : ℕ → Option ℕ) where

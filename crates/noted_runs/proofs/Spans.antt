@@ -15,13 +15,13 @@ use Rattle.meaning.specs.Maps.{steps}
 use Rattle.meaning.specs.Parts.{span, rangeGlyphs, rangesAscend, rangesCount}
 use Rattle.laws.specs.Runs.{both}
 use Rattle.laws.specs.Left.{triples-left, triples-all, triples-none}
-use Rattle.fold.specs.Cells.{Kept, kept-all, kept-more}
+use Rattle.cell_maps.specs.Cells.{Kept, kept-all, kept-more}
 use Rattle.glyph_runs.specs.Runs.{GlyphMap, newOf, IsRun, Past, Reached}
 use Rattle.glyph_runs.specs.declared.Run.{Run}
 use Rattle.glyph_runs.specs.Found.{run-is, apart, run-found, none-found}
 use Rattle.area.specs.Part.{part, part-append, notes}
-use Rattle.meet_ranges.specs.Met.{met, Met}
-use Rattle.meet_ranges.proofs.Lists.{noteOf, notes-kept}
+use Rattle.range_meets.specs.Met.{met, Met}
+use Rattle.range_meets.proofs.Lists.{noteOf, notes-kept}
 use Rattle.noted_runs.specs.Walks.{start, end, inRuns, NotedSteps, MeetsRun, InRun, MeetsSpan, InSpan, MeetsRanges}
 use Rattle.noted_runs.specs.declared.Noted.{Noted}
 use Rattle.noted_runs.proofs.Rows.{row-none, row-steps, up-split}

@@ -9,9 +9,9 @@ use Rattle.meaning.specs.Words.{triples, find, upFrom}
 use Rattle.meaning.specs.Maps.{steps, glyphEntries}
 use Rattle.meaning.specs.Parts.{rangeGlyphs, rangesAscend, rangesCount}
 use Rattle.glyph_runs.specs.Runs.{GlyphMap, oldOf, newOf, sizeOf}
-use Rattle.fold.specs.Cells.{Kept}
+use Rattle.cell_maps.specs.Cells.{Kept}
 use Rattle.area.specs.Part.{notes}
-use Rattle.meet_ranges.specs.Met.{met}
+use Rattle.range_meets.specs.Met.{met}
 use Rattle.noted_runs.specs.declared.Noted.{Noted}
 
 -- where a run of a map starts, and where it ends: one past its last glyph

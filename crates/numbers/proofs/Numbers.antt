@@ -11,9 +11,9 @@ use Rattle.meaning.specs.Cut.{cutRecords}
 use Rattle.laws.specs.Left.{words-left, words-all, words-none, entries-left, entries-all, entries-none}
 use Rattle.laws.specs.Stands.{twos-length}
 use Rattle.laws.specs.Written.{twos-append, flat-one}
-use Rattle.fold.specs.Cells.{Inside}
+use Rattle.cell_maps.specs.Cells.{Inside}
 use Rattle.fold.specs.Found.{Answers, finds-new, finds-none}
-use Rattle.fold.specs.declared.Map.{Map}
+use Rattle.cell_maps.specs.declared.Map.{Map}
 use Rattle.fold.specs.declared.Found.{Found}
 use Rattle.fold.specs.declared.Found.the-variants.{New, Gone}
 use Rattle.area.specs.Extends.{Extends, extends-none, extends-said, extends-keeps}

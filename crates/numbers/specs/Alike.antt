@@ -8,8 +8,8 @@ use lib.Dec.{eqb}
 use Rattle.meaning.specs.Words.{find, bind, push, mapAll, mapSome}
 use Rattle.meaning.specs.Tables.{Rule, Ligature, Pair}
 use Rattle.meaning.specs.Cut.{RuleMaps, cutRecords, cutRule, unlessEmpty, cutSet, cutLigature, cutLigatures, cutPair, cutPairs}
-use Rattle.fold.specs.Cells.{Holds}
-use Rattle.fold.specs.declared.Map.{Map}
+use Rattle.cell_maps.specs.Cells.{Holds}
+use Rattle.cell_maps.specs.declared.Map.{Map}
 use Rattle.numbers.specs.Entries.{entriesIn, entries-hold}
 
 -- two maps give each number the same answer

@@ -10,8 +10,8 @@ use lib.Bits.{bitAnd, and-le-r}
 use lib.Dec.{eqb}
 use borrow.Author.Tests.{ne-eqb, eqb-true, eqb-false}
 use Rattle.meaning.specs.Words.{find, bind, push, mapSome, upFrom}
-use Rattle.fold.specs.Cells.{cellAt, evenMask, answerIn, folded, Inside, Holds, Kept, entry-folded, entry-kept, even-words}
-use Rattle.fold.specs.declared.Map.{Map}
+use Rattle.cell_maps.specs.Cells.{cellAt, evenMask, answerIn, folded, Inside, Holds, Kept, entry-folded, entry-kept, even-words}
+use Rattle.cell_maps.specs.declared.Map.{Map}
 
 -- the entry that the i-th cell of a folded table holds: the cell is that of its old number
 unfoldable pub entryIn : List ℕ → Map → ℕ → Option (ℕ × ℕ)

@@ -2,8 +2,8 @@
 // A writer answers the place after what it wrote, which is 0 where nothing is left, and more than the area's length where there is no room.
 use area::over;
 use area::put;
+use cell_maps::Map;
 use fold::Found;
-use fold::Map;
 use fold::find;
 use wire::word_inside;
 ghost use mathlib.Core.Path.{_≡_};
@@ -14,7 +14,7 @@ ghost use Prim.Native.Nat.{_+_, _-_, _*_, _<_, _≤_};
 ghost use lib.ListN.{length};
 ghost use lib.Dec.{eqb, ltb};
 ghost use Rattle.meaning.specs.Words.{words, find, mapAll};
-ghost use Rattle.fold.specs.Cells.{Inside};
+ghost use Rattle.cell_maps.specs.Cells.{Inside};
 ghost use Rattle.numbers.specs.Entries.{entriesIn};
 ghost use Rattle.numbers.specs.Leaves.{Leaves, joined};
 

@@ -26,19 +26,19 @@ use Rattle.laws.specs.ReadsBack.{Good, fault-pairs, table-pairs}
 use Rattle.laws.specs.SoundGood.{Bytes, part-sound, lowest-none, coverage-up, sound-good}
 use Rattle.laws.specs.CutGood.{GoodMap}
 use Rattle.laws.specs.CutCells.{covered-map, covered-values}
-use Rattle.fold.specs.Cells.{Holds, Kept}
-use Rattle.fold.specs.Runs.{LaidGlyphs}
-use Rattle.fold.specs.declared.Map.{Map}
+use Rattle.cell_maps.specs.Cells.{Holds, Kept}
+use Rattle.cell_maps.specs.Runs.{LaidGlyphs}
+use Rattle.cell_maps.specs.declared.Map.{Map}
 use Rattle.area.specs.Part.{part, part-length, news, notes}
 use Rattle.area.specs.Extends.{wrote-extends}
 use Rattle.numbers.specs.Alike.{holds-alike}
-use Rattle.meet_ranges.specs.Met.{met, Met, met-few, met-count, met-news}
+use Rattle.range_meets.specs.Met.{met, Met, met-few, met-count, met-news}
 use Rattle.meets.specs.Either.{Most, MeetsGlyphs}
 use Rattle.glyph_runs.specs.Runs.{GlyphMap, map-good}
 use Rattle.glyph_runs.specs.Found.{entries-few}
 use Rattle.class_stretches.specs.Tables.{classesAt, lists-there}
 use Rattle.class_ranks.specs.Same.{Same, kept-same, part-alike, holds-same}
-use Rattle.class_cells.specs.Kept.{cellSize, has-cells, kept-alike}
+use Rattle.class_formats.specs.Kept.{cellSize, has-cells, kept-alike}
 use Rattle.covered_map.specs.Named.{named, Names, named-met, noted-indexes, named-length}
 use Rattle.tried.specs.Tries.{Tries, tries-less}
 use Rattle.tried.specs.declared.Tried.{Tried}

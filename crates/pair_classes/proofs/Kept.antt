@@ -31,7 +31,7 @@ use Rattle.laws.specs.Fits.{classes-fit}
 use Rattle.laws.specs.FitsExactly.{shortTables, lastOffset, class-pairs-exactly}
 use Rattle.laws.specs.FitsPacked.{packed-class-pairs-exactly}
 use Rattle.room.specs.Laid.{laidAs, laid-words, laid-unfit}
-use Rattle.class_cells.specs.Kept.{keptOf}
+use Rattle.class_formats.specs.Kept.{keptOf}
 use Rattle.pair_layouts.specs.Kerning.{shared, fitsAt, coverAt, firstAt, secondAt, last, endAt, kernWords, partsInto, kernInto}
 use Rattle.pair_classes.specs.Cutting.{kernTable, Kerning}
 

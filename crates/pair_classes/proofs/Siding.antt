@@ -6,13 +6,13 @@ use mathlib.Core.List.{List}
 use native.Mathlib.Omega.{arith}
 use lib.ListN.{length}
 use Rattle.meaning.specs.Words.{find}
-use Rattle.fold.specs.Cells.{Inside, Kept, kept-more}
+use Rattle.cell_maps.specs.Cells.{Inside, Kept, kept-more}
 use Rattle.class_lists.specs.Elsewhere.{elsewhere-kept}
 use Rattle.class_lists.specs.Listed.{Listed}
 use Rattle.class_lists.specs.declared.ClassList.{ClassList}
 use Rattle.class_ranks.specs.Same.{after-same, holds-same}
-use Rattle.class_ranks.specs.Mapped.{Lists, ToMap, Classes, Mapped, Entries, lists-made, lists-kept, may-map}
-use Rattle.class_ranks.specs.declared.ClassMap.{ClassMap}
+use Rattle.ranked_maps.specs.Mapped.{Lists, ToMap, Classes, Mapped, Entries, lists-made, lists-kept, may-map}
+use Rattle.ranked_maps.specs.declared.ClassMap.{ClassMap}
 use Rattle.pair_classes.specs.Sides.{tableCells, Asks, Sided}
 
 module _ {s : List ℕ} {at form : ℕ} {glyphs : List ℕ} {list : ℕ} (a : Asks s at form glyphs list) {cs g : List (ℕ × ℕ)} {t₀ t₁ : List ℕ} {l : ClassList} (o : Listed cs g t₀ t₁ list l) where

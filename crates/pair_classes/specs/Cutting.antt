@@ -13,14 +13,14 @@ use Rattle.meaning.specs.Tables.{Table, fieldCount, cellRows, pairTable}
 use Rattle.meaning.specs.Fault.{fault}
 use Rattle.meaning.specs.Cut.{classMap, newCoverage, coveredMap}
 use Rattle.laws.specs.ReadsBack.{Good}
-use Rattle.fold.specs.Cells.{Holds}
-use Rattle.fold.specs.declared.Map.{Map}
+use Rattle.cell_maps.specs.Cells.{Holds}
+use Rattle.cell_maps.specs.declared.Map.{Map}
 use Rattle.area.specs.Part.{news, notes}
-use Rattle.meet_ranges.specs.Met.{met}
+use Rattle.range_meets.specs.Met.{met}
 use Rattle.glyph_runs.specs.Runs.{GlyphMap}
-use Rattle.class_ranks.specs.Present.{mostCells}
-use Rattle.class_cells.specs.Cells.{HasCells}
-use Rattle.class_cells.specs.Kept.{cellSize}
+use Rattle.ranked_maps.specs.Present.{mostCells}
+use Rattle.class_formats.specs.Cells.{HasCells}
+use Rattle.class_formats.specs.Kept.{cellSize}
 use Rattle.pair_classes.specs.Sides.{tableCells, Side}
 use Rattle.pair_layouts.specs.declared.Noted.{Noted}
 use Rattle.pair_layouts.specs.declared.Classed.{Classed}

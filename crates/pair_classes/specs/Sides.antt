@@ -4,11 +4,11 @@ use mathlib.Core.Path.{_≡_}
 use mathlib.Core.List.{List}
 use lib.ListN.{length}
 use Rattle.meaning.specs.Cut.{classesUnder}
-use Rattle.fold.specs.Cells.{Holds, Kept}
+use Rattle.cell_maps.specs.Cells.{Holds, Kept}
 use Rattle.area.specs.Part.{notes}
 use Rattle.glyph_runs.specs.Runs.{GlyphMap}
 use Rattle.class_stretches.specs.Tables.{NullOrSound}
-use Rattle.class_ranks.specs.Present.{mostCells}
+use Rattle.ranked_maps.specs.Present.{mostCells}
 use Rattle.pair_layouts.specs.declared.Classed.{Classed}
 
 -- cells that are enough for any class table: 65,536 for the classes of the glyphs, and those of the class map

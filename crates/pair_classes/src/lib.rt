@@ -1,10 +1,10 @@
 // Class kerning, pairs by class: a coverage, first and second classes, and a row of cells for each first class; cut in one walk, from the source into the area.
+use cell_maps::Map;
 use class_entries::new_entries;
 use class_lists::list_classes;
 use class_maps::class_map;
 use class_maps::pinned_map;
 use covered_map::put_covered;
-use fold::Map;
 use fold_glyphs::lay_glyphs;
 use marks::Marks;
 use meet_runs::meet;

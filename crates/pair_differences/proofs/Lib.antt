@@ -1,4 +1,2 @@
-pub mod Values
 pub mod Merging
 pub mod Glyphs
-pub mod Fields

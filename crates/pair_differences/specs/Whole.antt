@@ -24,7 +24,7 @@ use Rattle.differences.specs.Entries.{each, beside, pairEntries, firstEntries, 
 use Rattle.difference_laws.specs.Empty.{SortedPairs, Sorted}
 use Rattle.difference_laws.specs.Sound.{sound-sorted}
 use Rattle.first_glyphs.specs.First.{coverOf, soundCover, sound-cover, covered-below, bind-same, by-slot, index-glyphs, cover-words, index-below, atGlyph, first-ids}
-use Rattle.pair_differences.specs.Held.{pairsFrom, countIn, held}
+use Rattle.value_differences.specs.Held.{pairsFrom, countIn, held}
 
 -- each covered glyph with its pairs, as the content of the table says them
 unfoldable pub pairsIn : List ℕ → List (ℕ × List (ℕ × List ℕ))

@@ -1,6 +1,6 @@
 // The values of pair records: which fields hold one that is not 0 in some surviving pair.
+use cell_maps::Map;
 use fold::Found;
-use fold::Map;
 use fold::find;
 use wire::word_inside;
 ghost use mathlib.Core.Path.{_≡_};
@@ -9,7 +9,7 @@ ghost use Prim.Native.Nat.{_+_, _*_, _<_, _≤_};
 ghost use lib.ListN.{length};
 ghost use lib.Dec.{eqb};
 ghost use Rattle.meaning.specs.Words.{word, find, isSome};
-ghost use Rattle.fold.specs.Cells.{Inside};
+ghost use Rattle.cell_maps.specs.Cells.{Inside};
 ghost use Rattle.numbers.specs.Entries.{entriesIn};
 ghost use Rattle.pair_fields.specs.Pairs.{valueAt, fieldUsed};
 

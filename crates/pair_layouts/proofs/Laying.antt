@@ -21,7 +21,7 @@ use Rattle.area.specs.Stored.{extends-before}
 use Rattle.area.specs.Part.{part, take-part, news, notes}
 use Rattle.numbers.specs.Entries.{entriesIn}
 use Rattle.pair_sets.specs.declared.Formats.{Formats}
-use Rattle.class_cells.specs.Kept.{NewFormats, keptCells}
+use Rattle.class_formats.specs.Kept.{NewFormats, keptCells}
 use Rattle.tried.specs.Tries.{Tries}
 use Rattle.tried.specs.declared.Tried as Answer
 use Rattle.tried.specs.declared.Tried.the-variants.{Short, Became}

@@ -12,7 +12,7 @@ use Rattle.meaning.specs.Subset.{Outcome}
 use Rattle.room.specs.Laid.{laidAs}
 use Rattle.area.specs.Part.{news, notes}
 use Rattle.numbers.specs.Entries.{entriesIn}
-use Rattle.class_cells.specs.Kept.{keptOf}
+use Rattle.class_formats.specs.Kept.{keptOf}
 use Rattle.pair_layouts.specs.declared.Noted.{Noted}
 use Rattle.pair_layouts.specs.declared.Classed.{Classed}
 

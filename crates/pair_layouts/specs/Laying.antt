@@ -8,7 +8,7 @@ use Rattle.meaning.specs.Words.{keys, ascends}
 use Rattle.meaning.specs.Subset.{Outcome, refused, limit}
 use Rattle.area.specs.Extends.{Extends}
 use Rattle.area.specs.Part.{notes}
-use Rattle.class_cells.specs.Kept.{AsksCells}
+use Rattle.class_formats.specs.Kept.{AsksCells}
 use Rattle.tried.specs.Tries.{Tries}
 use Rattle.tried.specs.declared.Tried.{Tried}
 use Rattle.pair_layouts.specs.declared.Noted.{Noted}

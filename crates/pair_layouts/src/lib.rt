@@ -1,11 +1,11 @@
 // Class kerning: the new table, of which cells hold the classes and the covered glyphs, written into the area and handed over.
 use area::put_three;
 use area::put_two;
-use area::write_classes;
-use area::write_cover;
-use class_cells::new_formats;
+use area_parts::write_classes;
+use area_parts::write_cover;
+use cell_maps::Map;
 use class_cells::write_cells;
-use fold::Map;
+use class_formats::new_formats;
 use handing::hand_over;
 use pair_sets::Formats;
 use room::HIGHEST;

@@ -1,8 +1,8 @@
 // Pair sets: the pairs that survive, with the fields that stay, written into the area in one walk.
 use area::over;
 use area::put;
+use cell_maps::Map;
 use fold::Found;
-use fold::Map;
 use fold::find;
 use pair_fields::value_at;
 use wire::word_inside;
@@ -10,7 +10,7 @@ ghost use mathlib.Core.List.{_∷_, map};
 ghost use Prim.Native.Nat.{_+_, _*_, _<_, _≤_};
 ghost use lib.ListN.{length};
 ghost use Rattle.meaning.specs.Words.{word, find};
-ghost use Rattle.fold.specs.Cells.{Inside};
+ghost use Rattle.cell_maps.specs.Cells.{Inside};
 ghost use Rattle.area.specs.Extends.{Extends};
 ghost use Rattle.numbers.specs.Entries.{entriesIn};
 ghost use Rattle.numbers.specs.Leaves.{Leaves};

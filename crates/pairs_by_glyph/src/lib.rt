@@ -1,5 +1,5 @@
 // Format 1 of pairs, cut in one walk: as `by_glyph` does it, with the value formats that are left.
-use fold::Map;
+use cell_maps::Map;
 use fold_glyphs::lay_glyphs;
 use kept_rules::Maps;
 use kept_sets::Notes;
@@ -30,9 +30,9 @@ ghost use Rattle.glyph_runs.specs.Runs.{GlyphMap};
 ghost use Rattle.placed_sets.specs.Kept.{Ready};
 ghost use Rattle.tried.specs.Tries.{Tries};
 ghost use Rattle.kept_header.specs.Answers.{Answered};
-ghost use Rattle.by_glyph.specs.Asked.{SoundSets, behind, MapsLaid};
-ghost use Rattle.by_glyph.specs.PairTables.{pairsOf, oneMap, pairFault, pairTable, AnsweredPairs};
-ghost use Rattle.by_glyph.specs.Whole.{cellsMost};
+ghost use Rattle.cut_sets.specs.Asked.{SoundSets, behind, MapsLaid};
+ghost use Rattle.cut_sets.specs.PairTables.{pairsOf, oneMap, pairFault, pairTable, AnsweredPairs};
+ghost use Rattle.cut_sets.specs.Whole.{cellsMost};
 
 // What is left of a table of pairs, whose retained covered glyphs are noted: its new value formats, and then the table with the fields that stay.
 fn write_pair_table(

@@ -14,14 +14,14 @@ use Rattle.meaning.specs.Layout.{block, ruleWords, ligatureWords, setWords}
 use Rattle.laws.specs.Members.{wordsLeft}
 use Rattle.laws.specs.Runs.{both}
 use Rattle.laws.specs.SoundGood.{part-sound}
-use Rattle.fold.specs.Cells.{Inside, Kept}
-use Rattle.fold.specs.declared.Map.{Map}
+use Rattle.cell_maps.specs.Cells.{Inside, Kept}
+use Rattle.cell_maps.specs.declared.Map.{Map}
 use Rattle.numbers.specs.Entries.{entries-kept}
 use Rattle.numbers.specs.Leaves.{Leaves, leaves-said}
 use Rattle.member_sets.specs.Sets.{setMost}
 use Rattle.member_sets.specs.Sound.{inside-is}
 use Rattle.member_sets.specs.Dead.{Dead, dead-none}
-use Rattle.ligatures.specs.Left.{ligatureLeft}
+use Rattle.ligature_members.specs.Left.{ligatureLeft}
 use Rattle.pair_fields.specs.Pairs.{Places, pairsLeft, pairsMost}
 use Rattle.pair_places.specs.Formats.{pairSize, placesOf, places-inside}
 use Rattle.pair_sets.specs.declared.Formats.{Formats}

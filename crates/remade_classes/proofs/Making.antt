@@ -17,7 +17,7 @@ use Rattle.class_stretches.specs.Tables.{classesAt}
 use Rattle.class_lists.specs.Elsewhere.{elsewhere-more, elsewhere-wide}
 use Rattle.class_lists.specs.Listed.{classed, Listed}
 use Rattle.class_lists.specs.declared.ClassList.{ClassList}
-use Rattle.class_ranks.specs.Mapped.{Entries, may-map, zero-first, entries-ascend}
+use Rattle.ranked_maps.specs.Mapped.{Entries, may-map, zero-first, entries-ascend}
 use Rattle.class_spots.specs.declared.Turn.{Turn}
 use Rattle.remade_classes.specs.Front.{front-size, front-elsewhere}
 use Rattle.remade_classes.specs.Made.{ListedFront, newTable, tableBlock, table-is, TableIn, old-stays, MakeAsked, Made}

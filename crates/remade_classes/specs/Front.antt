@@ -5,8 +5,8 @@ use mathlib.Core.List.{List, _++_}
 use native.Mathlib.Omega.{arith}
 use lib.ListN.{length, getD, take, drop, length-append, length-drop, List·getD-append}
 use lib.Seq.{length-take-le, getD-append-add, getD-drop}
-use Rattle.fold.specs.Cells.{answerIn, Holds, entry-same}
-use Rattle.fold.specs.declared.Map.{Map}
+use Rattle.cell_maps.specs.Cells.{answerIn, Holds, entry-same}
+use Rattle.cell_maps.specs.declared.Map.{Map}
 use Rattle.class_lists.specs.Elsewhere.{Elsewhere}
 
 module _ (at : ℕ) (t front : List ℕ) (h : at ≤ length t) (k : length front ≡ length (take at t)) where

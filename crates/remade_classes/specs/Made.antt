@@ -13,14 +13,14 @@ use Rattle.meaning.specs.Maps.{glyphEntries}
 use Rattle.meaning.specs.Cut.{classMap, newClasses, newClasses?}
 use Rattle.meaning.specs.Layout.{block, classWords}
 use Rattle.laws.specs.Stands.{All, Word}
-use Rattle.fold.specs.Cells.{Holds}
+use Rattle.cell_maps.specs.Cells.{Holds}
 use Rattle.area.specs.Part.{notes}
 use Rattle.glyph_runs.specs.Runs.{GlyphMap}
 use Rattle.class_stretches.specs.Tables.{tableAt, classesAt, NullOrSound, null-table, table-there, lists-there}
 use Rattle.class_lists.specs.Elsewhere.{Elsewhere}
 use Rattle.class_lists.specs.Listed.{classed, holdsZero}
 use Rattle.class_lists.specs.declared.ClassList.{ClassList}
-use Rattle.class_ranks.specs.Mapped.{Lists, ToMap}
+use Rattle.ranked_maps.specs.Mapped.{Lists, ToMap}
 use Rattle.class_ranks.specs.Same.{Same, after-same, holds-same}
 use Rattle.remade_classes.specs.declared.OldTable.{OldTable}
 use Rattle.remade_classes.specs.declared.NewTable.{NewTable}

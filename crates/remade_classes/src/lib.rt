@@ -1,8 +1,8 @@
 // A class table of the source, listed once more when its new one is written, and turned into the entries of that.
+use cell_maps::Map;
 use class_entries::new_entries;
 use class_lists::ClassList;
 use class_lists::list_classes;
-use fold::Map;
 ghost use Prim.Native.Nat.{_≤_};
 ghost use lib.ListN.{length};
 ghost use Rattle.meaning.specs.Maps.{glyphEntries};

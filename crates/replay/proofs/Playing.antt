@@ -17,8 +17,8 @@ use Rattle.replay_laws.specs.Tallies.{play, in-place}
 use Rattle.replay_laws.specs.Turns.{runsLeft, runs-all, runs-turn, runs-short, runs-end}
 use Rattle.traces.specs.Whole.{Whole}
 use Rattle.runs.specs.Verdicts.{verdictOf}
-use Rattle.replay.specs.Counting.{tallyOf, replayedOf, isDeep, doesAgree}
-use Rattle.replay.specs.declared.Tally.{Tally}
+use Rattle.tallies.specs.Counting.{tallyOf, replayedOf, isDeep, doesAgree}
+use Rattle.tallies.specs.declared.Tally.{Tally}
 use Rattle.runs.specs.declared.Verdict.{Verdict}
 use Rattle.runs.specs.declared.Verdict.the-variants.{Agrees, Differs}
 use Rattle.traces.proofs.Tracing.{good-whole}

@@ -6,9 +6,9 @@ use native.Mathlib.Omega.{arith}
 use lib.Seq.{sets}
 use Rattle.meaning.specs.Words.{bytes2, flat}
 use Rattle.laws.specs.Written.{sets-sets}
-use Rattle.replay.specs.Counting.{tallyOf, replayedOf}
-use Rattle.replay.specs.declared.Tally.{Tally}
-use Rattle.replay.specs.declared.Replayed.{Replayed}
+use Rattle.tallies.specs.Counting.{tallyOf, replayedOf}
+use Rattle.tallies.specs.declared.Tally.{Tally}
+use Rattle.tallies.specs.declared.Replayed.{Replayed}
 use Rattle.replaying.specs.Replay.{Replayed as ReplayedOf, replay}
 use Rattle.replaying.specs.Cost.{replayCost, Cost as CostOf}
 use Rattle.replay_cost.specs.Costing.{costOf}

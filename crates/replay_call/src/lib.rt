@@ -1,14 +1,14 @@
 // The replay and its cost for other languages, on byte slices and one number.
 use put_words::put_entry;
-use replay::Tally;
 use replay::replay_all;
 use replay_cost::replay_cost;
+use tallies::Tally;
 ghost use mathlib.Core.Path.{_≡_};
 ghost use Prim.Native.Nat.{_+_, _*_, _≤_, _<_};
 ghost use lib.Seq.{sets};
 ghost use Rattle.replaying.specs.Replay.{replay};
 ghost use Rattle.replaying.specs.Cost.{replayCost};
-ghost use Rattle.replay.specs.Counting.{tallyOf};
+ghost use Rattle.tallies.specs.Counting.{tallyOf};
 ghost use Rattle.replay_call.specs.Given.{bytes8, tallyBytes, Gives, Costs};
 
 // A number in eight bytes from `at` on, the highest first, each where there is room for it; the place after them.

@@ -17,7 +17,7 @@ use Rattle.replaying.specs.Applying.{depthLimit}
 use Rattle.replaying.specs.Replay.{Replayed, refusal, replay}
 use Rattle.replay_laws.specs.Answers.{done-exactly}
 use Rattle.replaying.specs.Cost.{stepLimit, cutOff, lookupSteps, tableSteps, levelSteps, sumSteps, listSteps, replayCost}
-use Rattle.rule_steps.proofs.Sums.{cut-under, cut-left, cut-right, cut-small}
+use Rattle.member_steps.proofs.Sums.{cut-under, cut-left, cut-right, cut-small}
 use Rattle.names.proofs.Naming.{zeros, many-listed, zeros-part}
 use Rattle.lookup_list.specs.Ready.{sourceAt}
 

@@ -1,7 +1,7 @@
 // What a replay over a list may cost: the most lookups that it asks for each glyph of a trace, told before any run.
 use lookup_list::LIST_LIMIT;
+use member_steps::add_steps;
 use replay::replay_all;
-use rule_steps::add_steps;
 use rule_steps::listed_steps;
 ghost use mathlib.Core.Path.{_≡_};
 ghost use mathlib.Core.Bool.{true};

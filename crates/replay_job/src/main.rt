@@ -4,16 +4,16 @@ use file_parts::part_at;
 use input::Input;
 use input::read_input;
 use lookup_list::long_at;
-use replay::Replayed;
 use replay::refusing;
 use replay::replay_all;
 use replay_cost::replay_cost;
 use report::put_line;
+use tallies::Replayed;
 ghost use mathlib.Core.Path.{_≡_};
 ghost use mathlib.Core.Bool.{true};
 ghost use Prim.Native.Nat.{_≤_, _<_};
 ghost use lib.ListN.{length};
-ghost use Rattle.replay.specs.Counting.{replayedOf};
+ghost use Rattle.tallies.specs.Counting.{replayedOf};
 ghost use Rattle.report_lines.specs.Text.{Put};
 ghost use Rattle.replay_job.specs.ReplayFile.{goodFile, replayFile, printed, asksCost, fileSteps, costText, program};
 

@@ -1,10 +1,10 @@
 // The replay with a lent tally: one state, which the replay changes in place.
-use replay::Replayed;
-use replay::Tally;
 use replay::replay_all;
+use tallies::Replayed;
+use tallies::Tally;
 ghost use mathlib.Core.Path.{_≡_};
 ghost use Rattle.replaying.specs.Replay.{replay};
-ghost use Rattle.replay.specs.Counting.{replayedOf};
+ghost use Rattle.tallies.specs.Counting.{replayedOf};
 
 // The tally of what a replay gives back.
 fn tally_of(r: Replayed) -> Tally

@@ -14,7 +14,7 @@ use Rattle.differences.specs.Entries.{Entry, each, beside, longer, ruleEntries}
 use Rattle.listing.specs.Listed.{entryOf, Listed, listed-said, Through, through-all, through-turn, through-end}
 use Rattle.first_glyphs.specs.First.{rightOnly, atGlyph, at-right, at-left, at-both}
 use Rattle.set_numbers.specs.Sets.{codesOf}
-use Rattle.set_differences.specs.Gathered.{numbersAt, Fit, Remembered}
+use Rattle.gathered.specs.Gathered.{numbersAt, Fit, Remembered}
 
 -- One first glyph. The numbers of its rules are h i on the left and k j on the right, by its indices i and j.
 module _ (ns ms : List (ℕ × List ℕ)) (c d : List ℕ) (h k : ℕ → List ℕ) (g : ℕ) (e : beside ns g ≡ bind (indexOf c g) (λ i. some (h i))) (f : beside ms g ≡ bind (indexOf d g) (λ j. some (k j)))

@@ -1,3 +1,2 @@
-pub mod Gathering
 pub mod Pairs
 pub mod Going

@@ -18,7 +18,7 @@ use Rattle.listing.specs.Listed.{entryOf, Listed, listed-said}
 use Rattle.rule_differences.specs.Ranked.{bothAt, ranks-are}
 use Rattle.partners.specs.Chains.{numbersFrom, Paired}
 use Rattle.set_numbers.specs.Sets.{codesOf}
-use Rattle.set_differences.specs.Gathered.{numberIn, numbersAt, Gathered, Rowed, PairedRows, Remembered, Known}
+use Rattle.gathered.specs.Gathered.{numberIn, numbersAt, Gathered, Rowed, PairedRows, Remembered, Known}
 
 -- numbers in a part of the cells
 pub numbers-drop : (t : List ℕ) (k i n : ℕ) → numbersFrom (drop k t) i n ≡ numbersFrom t (k + i) n

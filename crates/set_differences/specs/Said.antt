@@ -16,7 +16,7 @@ use Rattle.differences.specs.Entries.{sameSays, beside, atKey, ruleEntries}
 use Rattle.difference_laws.specs.Ranks.{number-entries}
 use Rattle.first_glyphs.specs.First.{onlyAt, atGlyph}
 use Rattle.set_numbers.specs.Sets.{codesFrom, codesOf, AllNumbered, Cells, Told}
-use Rattle.set_differences.specs.Gathered.{numberIn, numbersAt, Scratch, Fit}
+use Rattle.gathered.specs.Gathered.{numberIn, numbersAt, Scratch, Fit}
 
 module _ {A B : Type 0} (read : ℕ → A) (say : A → B) (says : ℕ → B) (s : List ℕ) (side : ℕ) (e : (p : ℕ) → says (2 * p + side) ≡ say (read p)) where
   codes-say : (base slot n : ℕ) → map say (dropNull (reaches read s base slot n)) ≡ map says (codesFrom s side base slot n)

@@ -3,10 +3,10 @@
 // `heads` and `links` are as partners has them. What stands in them before does not matter.
 use cells::cell;
 use cells::put_cell;
+use gathered::gather;
 use partners::pair;
 use rule_differences::list_ranks;
 use set_numbers::Set;
-use wire::word_at;
 ghost use mathlib.Core.Path.{_≡_};
 ghost use Prim.Native.Nat.{_+_, _≤_, _<_};
 ghost use lib.ListN.{length, getD};
@@ -14,7 +14,7 @@ ghost use lib.Dec.{eqb};
 ghost use Rattle.differences.specs.Entries.{ruleEntries};
 ghost use Rattle.listing.specs.Listed.{Listed};
 ghost use Rattle.partners.specs.Chains.{numbersFrom};
-ghost use Rattle.set_differences.specs.Gathered.{numbersAt, Gathers, Gathered, Rowed, PairedRows, Fit, Remembered, Known};
+ghost use Rattle.gathered.specs.Gathered.{numbersAt, Rowed, PairedRows, Fit, Remembered, Known};
 
 // How many cells are enough for any two subtables: `num`, `nums`, `heads` and `links`. While rules get their numbers, `heads` is what rule_numbers has in `came`, and `links` are the numbers of classes as class_tables has them.
 pub const NUM: usize = 262144;
@@ -37,31 +37,6 @@ pub struct Sets {
 struct Counts {
     left: usize,
     right: usize,
-}
-
-// The numbers of the rules of a set of `src`, into the cells of `nums` from `from` on; how many there are. Null offsets are passed over.
-fn gather(src: &[u8], set: Set, num: &[u32], nums: &mut [u32], from: usize) -> usize
-    requires { ⌜ Gathers (set .side) (set .at) from (length (now nums)) ⌝ }
-    ensures { λ r. ⌜ Gathered (numbersAt (now (num .entry)) (now (src .entry)) (set .side) (set .at)) from (now (nums .entry)) (now (nums .exit)) r ⌝ }
-{
-    if set.at == 0 {
-        return 0;
-    }
-    let n = word_at(src, set.at);
-    let mut m = 0;
-    let mut i = 0;
-    'slots: while i < n {
-        let offset = word_at(src, set.at + 2 + 2 * i);
-        if offset == 0 {
-            i += 1;
-            continue 'slots;
-        }
-        let k = cell(num, 2 * (set.at + offset) + set.side);
-        put_cell(nums, from + m, k);
-        m += 1;
-        i += 1;
-    }
-    m
 }
 
 // The partners of `counts.left` numbers in the first row of `nums` and of `counts.right` in the second one.

@@ -13,8 +13,8 @@ use Rattle.meaning.specs.Words.{word, every, bind, push, mapSome}
 use Rattle.meaning.specs.Tables.{plusDelta}
 use Rattle.meaning.specs.Cut.{deltaOf, agree}
 use Rattle.laws.specs.Left.{words-at}
-use Rattle.fold.specs.Cells.{cellEntry, folded, Kept, kept-all, kept-more, kept-set, entry-kept, answer-own, answer-other}
-use Rattle.fold.specs.declared.Map.{Map}
+use Rattle.cell_maps.specs.Cells.{cellEntry, folded, Kept, kept-all, kept-more, kept-set, entry-kept, answer-own, answer-other}
+use Rattle.cell_maps.specs.declared.Map.{Map}
 use Rattle.area.specs.Part.{part, part-append, notes, oldAt}
 use Rattle.area.specs.Stored.{part-same, part-store}
 use Rattle.single_pairs.specs.Pairs.{covered, substitutes, Singles, Substitute, pairOf, pairs, pairAt, pairCell, noted, KeepsPair, KeptPair, KeepsPairs, KeptPairs}

@@ -11,8 +11,8 @@ use Rattle.meaning.specs.Parts.{coverage}
 use Rattle.meaning.specs.Tables.{plusDelta}
 use Rattle.meaning.specs.Fault.{singleFault}
 use Rattle.meaning.specs.Cut.{agree}
-use Rattle.fold.specs.Cells.{cellEntry, folded, Inside, Kept}
-use Rattle.fold.specs.declared.Map.{Map}
+use Rattle.cell_maps.specs.Cells.{cellEntry, folded, Inside, Kept}
+use Rattle.cell_maps.specs.declared.Map.{Map}
 use Rattle.area.specs.Part.{part, notes, oldAt}
 
 -- the covered glyphs of a single substitution

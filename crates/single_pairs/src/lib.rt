@@ -1,6 +1,6 @@
 // Single substitutions: the pairs of a glyph and its substitute that stay, by their new numbers, and whether one delta serves them all.
+use cell_maps::Map;
 use coverage_glyphs::glyph_at;
-use fold::Map;
 use fold::entry;
 use std::num::wrapping_add_u16;
 use std::num::wrapping_sub_u16;

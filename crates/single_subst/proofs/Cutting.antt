@@ -25,16 +25,16 @@ use Rattle.laws.specs.CutTables.{cut-good}
 use Rattle.laws.specs.SoundGood.{Bytes, coverage-up, single-good}
 use Rattle.glyph_runs.specs.Runs.{GlyphMap, map-good}
 use Rattle.glyph_runs.specs.Found.{entries-few}
-use Rattle.fold.specs.Cells.{folded, Holds, holds-kept}
-use Rattle.fold.specs.Runs.{LaidGlyphs}
-use Rattle.fold.specs.declared.Map.{Map}
+use Rattle.cell_maps.specs.Cells.{folded, Holds, holds-kept}
+use Rattle.cell_maps.specs.Runs.{LaidGlyphs}
+use Rattle.cell_maps.specs.declared.Map.{Map}
 use Rattle.area.specs.Part.{part, notes, oldAt}
-use Rattle.meet_ranges.specs.Met.{met, Met, met-few, met-count}
+use Rattle.range_meets.specs.Met.{met, Met, met-few, met-count}
 use Rattle.meets.specs.Either.{Most, MeetsGlyphs}
 use Rattle.tried.specs.Tries.{Tries, tries-less}
 use Rattle.tried.specs.declared.Tried.{Tried}
 use Rattle.single_pairs.specs.Pairs.{covered, substitutes, pairs, pairAt, KeepsPairs, KeptPairs}
-use Rattle.single_layouts.specs.Writing.{Writes}
+use Rattle.single_tables.specs.Writing.{Writes}
 use Rattle.single_subst.specs.Whole.{Sound, MapLaid, enoughCells}
 use Rattle.single_checks.proofs.Checking.{Good, good-table}
 

@@ -14,8 +14,8 @@ use Rattle.meaning.specs.Fault.{singleFault}
 use Rattle.meaning.specs.Cut.{cut}
 use Rattle.meaning.specs.Subset.{limit}
 use Rattle.glyph_runs.specs.Runs.{GlyphMap}
-use Rattle.fold.specs.Cells.{Holds}
-use Rattle.fold.specs.declared.Map.{Map}
+use Rattle.cell_maps.specs.Cells.{Holds}
+use Rattle.cell_maps.specs.declared.Map.{Map}
 
 -- the source has no fault and is not over the limit, and the glyph map is good
 pub record Sound (form : ℕ) (s glyphs : List ℕ) : Type 0 where

@@ -1,6 +1,6 @@
 // GSUB single substitutions: a delta that is added to each covered glyph (format 1), or a substitute for each (format 2). Cut in one walk:
 // the retained covered glyphs are noted in cells, those whose substitutes are retained too stay there as pairs, and their table is written into the area and handed over to the buffer.
-use fold::Map;
+use cell_maps::Map;
 use fold::entry;
 use fold_glyphs::lay_glyphs;
 use meet_runs::meet;

@@ -4,7 +4,7 @@ use Rattle.meaning.specs.Maps.{mapEntries, glyphEntries}
 use Rattle.meaning.specs.Cut.{cut}
 use Rattle.meaning.specs.Subset.{writtenIn}
 use Rattle.tried.specs.Front.{front-length, front-area}
-use Rattle.by_glyph.specs.Whole.{glyphContext}
+use Rattle.cut_sets.specs.Whole.{glyphContext}
 use Rattle.by_glyph.proofs.contexts.Statement.{statement}
 use Rattle.by_glyph.proofs.contexts.Tie as tie
 

@@ -2,9 +2,9 @@ use mathlib.Core.Path.{refl, sym, _∙_}
 use native.Mathlib.Omega.{arith}
 use borrow.Author.Needs.{needs}
 use Rattle.laws.specs.SoundGood.{bytes-all}
-use Rattle.by_glyph.specs.Whole.{written-none}
-use Rattle.by_glyph.specs.Asked.{rules-null, rules-cut}
-use Rattle.by_glyph.proofs.Asking.{header-inside, rules-asked, no-room, glyphs-no-room, glyphs-stand, two-laid, two-answered}
+use Rattle.cut_sets.specs.Whole.{written-none}
+use Rattle.cut_sets.specs.Asked.{rules-null, rules-cut}
+use Rattle.cut_sets.proofs.Asking.{header-inside, rules-asked, no-room, glyphs-no-room, glyphs-stand, two-laid, two-answered}
 use Rattle.by_glyph.proofs.Fitting.{rules-fit}
 use Rattle.by_glyph.proofs.cut_contexts.Statement.{statement}
 use Rattle.by_glyph.proofs.cut_contexts.Tie as tie

@@ -2,9 +2,9 @@ use mathlib.Core.Path.{refl, sym, _∙_}
 use native.Mathlib.Omega.{arith}
 use borrow.Author.Needs.{needs}
 use Rattle.laws.specs.SoundGood.{bytes-all}
-use Rattle.by_glyph.specs.Whole.{written-none}
-use Rattle.by_glyph.specs.Asked.{ligatures-null, ligatures-cut}
-use Rattle.by_glyph.proofs.Asking.{header-inside, ligatures-asked, glyphs-no-room, one-laid, one-answered}
+use Rattle.cut_sets.specs.Whole.{written-none}
+use Rattle.cut_sets.specs.Asked.{ligatures-null, ligatures-cut}
+use Rattle.cut_sets.proofs.Asking.{header-inside, ligatures-asked, glyphs-no-room, one-laid, one-answered}
 use Rattle.by_glyph.proofs.Fitting.{ligatures-fit}
 use Rattle.by_glyph.proofs.cut_ligatures.Statement.{statement}
 use Rattle.by_glyph.proofs.cut_ligatures.Tie as tie

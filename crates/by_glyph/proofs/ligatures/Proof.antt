@@ -5,7 +5,7 @@ use Rattle.meaning.specs.Maps.{glyphEntries}
 use Rattle.meaning.specs.Cut.{cut}
 use Rattle.meaning.specs.Subset.{writtenIn}
 use Rattle.tried.specs.Front.{front-length, front-area}
-use Rattle.by_glyph.specs.Whole.{ligatureTable}
+use Rattle.cut_sets.specs.Whole.{ligatureTable}
 use Rattle.by_glyph.proofs.ligatures.Statement.{statement}
 use Rattle.by_glyph.proofs.ligatures.Tie as tie
 

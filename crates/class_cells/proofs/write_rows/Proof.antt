@@ -5,7 +5,7 @@ use native.Mathlib.Omega.{arith}
 use lib.ListN.{length}
 use Rattle.numbers.specs.Entries.{entriesIn}
 use Rattle.numbers.proofs.Numbers.{cell-new, cell-gone}
-use Rattle.class_cells.proofs.Using.{mul-small}
+use Rattle.class_formats.proofs.Using.{mul-small}
 use Rattle.class_cells.proofs.Writing.{Rows, rows-all, rows-row, rows-inside, row-gone, row-kept, rows-full, rows-turn, rows-end, rows-silent}
 use borrow.Author.Needs.{needs}
 use Rattle.class_cells.proofs.write_rows.Statement.{statement}

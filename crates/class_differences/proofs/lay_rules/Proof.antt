@@ -3,7 +3,7 @@ use lib.ListN.{length}
 use native.Mathlib.Omega.{arith}
 use Rattle.listing.specs.Laid.{laid-said}
 use Rattle.first_glyphs.specs.First.{bytes-known}
-use Rattle.set_differences.specs.Gathered.{Scratch}
+use Rattle.gathered.specs.Gathered.{Scratch}
 use Rattle.set_differences.specs.Said.{scratch-fit}
 use Rattle.class_differences.proofs.Whole.{sound-class, whole-list}
 use borrow.Author.Needs.{needs}

@@ -1,4 +1,4 @@
-use Rattle.class_ranks.proofs.Mapping.{class-mapped}
+use Rattle.ranked_maps.proofs.Mapping.{class-mapped}
 use borrow.Author.Needs.{needs}
 use Rattle.class_maps.proofs.class_map.Statement.{statement}
 use Rattle.class_maps.proofs.class_map.Tie as tie

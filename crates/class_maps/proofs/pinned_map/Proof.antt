@@ -1,4 +1,4 @@
-use Rattle.class_ranks.proofs.Mapping.{pinned-mapped}
+use Rattle.ranked_maps.proofs.Mapping.{pinned-mapped}
 use borrow.Author.Needs.{needs}
 use Rattle.class_maps.proofs.pinned_map.Statement.{statement}
 use Rattle.class_maps.proofs.pinned_map.Tie as tie

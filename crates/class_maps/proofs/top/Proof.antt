@@ -1,4 +1,4 @@
-use Rattle.class_ranks.specs.Present.{top-even, top-odd}
+use Rattle.ranked_maps.specs.Present.{top-even, top-odd}
 use Rattle.class_maps.proofs.top.Statement.{statement}
 use Rattle.class_maps.proofs.top.Tie as tie
 

@@ -1,7 +1,7 @@
 use Prim.Native.Nat.{_-_, _≤_}
 use native.Mathlib.Omega.{arith}
-use Rattle.class_numbers.specs.Numbered.{Cleared}
-use Rattle.class_numbers.proofs.Walking.{clearing-none, clearing-turn, clearing-end}
+use Rattle.class_strays.specs.Numbered.{Cleared}
+use Rattle.class_strays.proofs.Walking.{clearing-none, clearing-turn, clearing-end}
 use borrow.Author.Needs.{needs}
 use Rattle.class_numbers.proofs.clear.Statement.{statement}
 use Rattle.class_numbers.proofs.clear.Tie as tie

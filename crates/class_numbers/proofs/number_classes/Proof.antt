@@ -1,6 +1,6 @@
 use native.Mathlib.Omega.{arith}
 use Rattle.class_stretches.specs.Tables.{tableAt}
-use Rattle.class_numbers.proofs.Walking.{lowest-both, numbered-both}
+use Rattle.class_strays.proofs.Walking.{lowest-both, numbered-both}
 use borrow.Author.Needs.{needs}
 use Rattle.class_numbers.proofs.number_classes.Statement.{statement}
 use Rattle.class_numbers.proofs.number_classes.Tie as tie

@@ -1,4 +1,4 @@
-use Rattle.class_numbers.proofs.Walking.{put-empty, put-full}
+use Rattle.class_strays.proofs.Walking.{put-empty, put-full}
 use borrow.Author.Needs.{needs}
 use Rattle.class_numbers.proofs.put_first.Statement.{statement}
 use Rattle.class_numbers.proofs.put_first.Tie as tie

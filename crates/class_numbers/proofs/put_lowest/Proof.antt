@@ -1,6 +1,6 @@
 use Prim.Native.Nat.{_-_}
 use native.Mathlib.Omega.{arith}
-use Rattle.class_numbers.proofs.Walking.{found-holds, Finding, finding-none, finding-turn, finding-end}
+use Rattle.class_strays.proofs.Walking.{found-holds, Finding, finding-none, finding-turn, finding-end}
 use borrow.Author.Needs.{needs}
 use Rattle.class_numbers.proofs.put_lowest.Statement.{statement}
 use Rattle.class_numbers.proofs.put_lowest.Tie as tie

@@ -1,4 +1,4 @@
-use Rattle.class_ranks.proofs.Mapping.{listed-few, marks-direct, zero-direct, listed-done}
+use Rattle.ranked_maps.proofs.Mapping.{listed-few, marks-direct, zero-direct, listed-done}
 use Prim.Native.Nat.{zero}
 use borrow.Author.Needs.{needs}
 use Rattle.class_ranks.proofs.direct_map.Statement.{statement}

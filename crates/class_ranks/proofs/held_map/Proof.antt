@@ -1,4 +1,4 @@
-use Rattle.class_ranks.proofs.Mapping.{held-near, held-short, held-ready, held-done}
+use Rattle.ranked_maps.proofs.Mapping.{held-near, held-short, held-ready, held-done}
 use native.Mathlib.Omega.{arith}
 use borrow.Author.Needs.{needs}
 use Rattle.class_ranks.proofs.held_map.Statement.{statement}

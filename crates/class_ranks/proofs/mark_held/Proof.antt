@@ -1,6 +1,6 @@
 use Prim.Native.Nat.{_+_, _-_}
 use native.Mathlib.Omega.{arith}
-use Rattle.class_ranks.proofs.Marking.{Marking, marking-all, marking-inside, marking-low, marking-next, marking-end}
+use Rattle.ranked_maps.proofs.Marking.{Marking, marking-all, marking-inside, marking-low, marking-next, marking-end}
 use borrow.Author.Needs.{needs}
 use Rattle.class_ranks.proofs.mark_held.Statement.{statement}
 use Rattle.class_ranks.proofs.mark_held.Tie as tie

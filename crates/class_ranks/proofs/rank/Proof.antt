@@ -1,7 +1,7 @@
 use Prim.Native.Nat.{_+_, _-_}
 use mathlib.Core.Logic.{⊎-elim}
 use native.Mathlib.Omega.{arith}
-use Rattle.class_ranks.proofs.Marking.{Ranking, ranking-all, ranking-inside, ranking-one, ranking-none, ranking-end}
+use Rattle.ranked_maps.proofs.Marking.{Ranking, ranking-all, ranking-inside, ranking-one, ranking-none, ranking-end}
 use borrow.Author.Needs.{needs}
 use Rattle.class_ranks.proofs.rank.Statement.{statement}
 use Rattle.class_ranks.proofs.rank.Tie as tie

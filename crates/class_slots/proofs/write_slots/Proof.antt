@@ -7,7 +7,7 @@ use borrow.Author.Needs.{needs}
 use Rattle.member_sets.specs.Dead.{Dead}
 use Rattle.kept_rules.specs.Left.{mapsIn, ruleLeft}
 use Rattle.known_blocks.specs.Book.{packs}
-use Rattle.class_ranks.specs.Present.{top-small}
+use Rattle.ranked_maps.specs.Present.{top-small}
 use Rattle.class_spots.specs.Sets.{slots-near}
 use Rattle.class_slots.proofs.Filling.{filling-null, filling-set, filling-full}
 use Rattle.class_slots.proofs.Turns.{found-some, found-none, Turning, few-classes, turning-all, wrote-short, wrote-said, asked, turning-skip, turning-here, turn-asked, turned, wrote-full, wrote-all}

@@ -1,6 +1,6 @@
 use mathlib.Core.Path.{sym, ap}
 use native.Mathlib.Omega.{arith}
-use Rattle.fold.specs.Cells.{answer-own, answer-other}
+use Rattle.cell_maps.specs.Cells.{answer-own, answer-other}
 use Rattle.fold.specs.Found.{foundOf}
 use Rattle.fold.proofs.answer.Statement.{statement}
 use Rattle.fold.proofs.answer.Tie as tie

@@ -1,7 +1,7 @@
 -- `fold::held` meets its contract: the cell lies inside. Assumes nothing.
 use mathlib.Core.Path.{refl}
 use native.Mathlib.Omega.{arith}
-use Rattle.fold.specs.Cells.{cellOf, cell-inside}
+use Rattle.cell_maps.specs.Cells.{cellOf, cell-inside}
 use Rattle.fold.proofs.held.Statement.{statement}
 use Rattle.fold.proofs.held.Tie as tie
 

@@ -1,5 +1,5 @@
 use borrow.Author.Needs.{needs}
-use Rattle.fold.proofs.RunLaws.{runs-good, laid-runs, laid-pairs}
+use Rattle.cell_maps.proofs.RunLaws.{runs-good, laid-runs, laid-pairs}
 use Rattle.fold_glyphs.proofs.lay_glyphs.Statement.{statement}
 use Rattle.fold_glyphs.proofs.lay_glyphs.Tie as tie
 

@@ -1,7 +1,7 @@
 use Prim.Native.Nat.{_-_}
 use native.Mathlib.Omega.{arith}
 use borrow.Author.Needs.{needs}
-use Rattle.fold.proofs.RunLaws.{good-run, RunLaying, runs-none, runs-inside, runs-next, runs-all, runs-no-room}
+use Rattle.cell_maps.proofs.RunLaws.{good-run, RunLaying, runs-none, runs-inside, runs-next, runs-all, runs-no-room}
 use Rattle.fold_glyphs.proofs.lay_runs.Statement.{statement}
 use Rattle.fold_glyphs.proofs.lay_runs.Tie as tie
 

@@ -3,8 +3,8 @@ use mathlib.Core.Path.{refl}
 use Prim.Native.Nat.{_-_, _/_, _≤_}
 use native.Mathlib.Omega.{arith}
 use lib.ListN.{length}
-use Rattle.fold.specs.Runs.{Spread}
-use Rattle.fold.proofs.RunLaws.{runs-no-room, spread-none, spread-next, spread-end}
+use Rattle.cell_maps.specs.Runs.{Spread}
+use Rattle.cell_maps.proofs.RunLaws.{runs-no-room, spread-none, spread-next, spread-end}
 use Rattle.fold_glyphs.proofs.spread_runs.Statement.{statement}
 use Rattle.fold_glyphs.proofs.spread_runs.Tie as tie
 

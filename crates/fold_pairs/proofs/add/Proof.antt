@@ -1,7 +1,7 @@
 -- `fold_pairs::add` meets its contract: the cell's number tells whether it is free. Assumes nothing.
 use native.Mathlib.Omega.{arith}
 use borrow.Author.Needs.{needs}
-use Rattle.fold.specs.Cells.{cellOf, cell-inside}
+use Rattle.cell_maps.specs.Cells.{cellOf, cell-inside}
 use Rattle.fold_pairs.proofs.Laws.{adds-none, adds-one}
 use Rattle.fold_pairs.proofs.add.Statement.{statement}
 use Rattle.fold_pairs.proofs.add.Tie as tie

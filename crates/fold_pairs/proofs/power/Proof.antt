@@ -2,7 +2,7 @@
 use Prim.Native.Nat.{_-_}
 use native.Mathlib.Omega.{arith}
 use borrow.Author.Needs.{needs}
-use Rattle.fold.specs.Laid.{power-even}
+use Rattle.cell_maps.specs.Laid.{power-even}
 use Rattle.fold_pairs.proofs.Laws.{Doubling, doubling-two, doubling-next, doubling-end}
 use Rattle.fold_pairs.proofs.power.Statement.{statement}
 use Rattle.fold_pairs.proofs.power.Tie as tie

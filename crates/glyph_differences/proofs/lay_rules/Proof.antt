@@ -5,7 +5,7 @@ use Rattle.glyph_differences.specs.Whole.{slot-table, whole-list}
 use mathlib.Core.Path.{_≡_, _∙_}
 use native.Mathlib.Omega.{arith}
 use lib.ListN.{length}
-use Rattle.set_differences.specs.Gathered.{Scratch}
+use Rattle.gathered.specs.Gathered.{Scratch}
 use borrow.Author.Needs.{needs}
 use Rattle.glyph_differences.proofs.lay_rules.Statement.{statement}
 use Rattle.glyph_differences.proofs.lay_rules.Tie as tie

@@ -10,7 +10,7 @@ use Rattle.numbers.specs.Entries.{entriesIn}
 use Rattle.member_sets.specs.Dead.{Dead}
 use Rattle.member_sets.specs.Sound.{set-inside, member-sound}
 use Rattle.member_sets.proofs.Gathering.{Gathering, gathering-all, gathering-short, gathering-null, gathering-gone, gathering-one, gathering-full, gathering-end}
-use Rattle.ligatures.specs.Left.{ligatureLeft, ligature-inside, ligatures-said}
+use Rattle.ligature_members.specs.Left.{ligatureLeft, ligature-inside, ligatures-said}
 use borrow.Author.Needs.{needs}
 use Rattle.ligatures.proofs.write_ligatures.Statement.{statement}
 use Rattle.ligatures.proofs.write_ligatures.Tie as tie

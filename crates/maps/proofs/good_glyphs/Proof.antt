@@ -1,6 +1,6 @@
 use mathlib.Core.Path.{_∙_}
 use borrow.Author.Needs.{needs}
-use Rattle.maps.proofs.Runs.{form-runs, form-pairs}
+use Rattle.map_runs.proofs.Runs.{form-runs, form-pairs}
 use Rattle.maps.proofs.good_glyphs.Statement.{statement}
 use Rattle.maps.proofs.good_glyphs.Tie as tie
 

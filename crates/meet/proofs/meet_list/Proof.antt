@@ -1,5 +1,5 @@
 use borrow.Author.Needs.{needs}
-use Rattle.meet_ranges.proofs.Lists.{Listing, listing-all, listing-one, listing-none, listing-end}
+use Rattle.range_meets.proofs.Lists.{Listing, listing-all, listing-one, listing-none, listing-end}
 use mathlib.Core.Logic.{⊎-elim}
 use Prim.Native.Nat.{_-_}
 use Rattle.meet.proofs.meet_list.Statement.{statement}

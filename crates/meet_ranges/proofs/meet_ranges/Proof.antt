@@ -1,5 +1,5 @@
 use borrow.Author.Needs.{needs}
-use Rattle.meet_ranges.proofs.Ranges.{Ranging, ranging-all, ranging-asks, ranging-turn, ranging-out, ranging-end}
+use Rattle.range_meets.proofs.Ranges.{Ranging, ranging-all, ranging-asks, ranging-turn, ranging-out, ranging-end}
 use Prim.Native.Nat.{_-_}
 use Rattle.meet_ranges.proofs.meet_ranges.Statement.{statement}
 use Rattle.meet_ranges.proofs.meet_ranges.Tie as tie

@@ -3,7 +3,7 @@ use borrow.Author.Tests.{not-false}
 use mathlib.Core.Path.{sym}
 use mathlib.Core.Bool.{true≢false}
 use native.Mathlib.Omega.{arith}
-use Rattle.pair_differences.proofs.Values.{alike-values}
+use Rattle.value_differences.proofs.Values.{alike-values}
 use Rattle.pair_differences.proofs.alike.Statement.{statement}
 use Rattle.pair_differences.proofs.alike.Tie as tie
 

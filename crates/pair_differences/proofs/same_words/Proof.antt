@@ -1,5 +1,5 @@
 use borrow.Author.Needs.{needs}
-use Rattle.pair_differences.proofs.Values.{Wording, wording-all, wording-turn, wording-end}
+use Rattle.value_differences.proofs.Values.{Wording, wording-all, wording-turn, wording-end}
 use mathlib.Core.Path.{sym}
 use mathlib.Core.Bool.{true≢false}
 use Prim.Native.Nat.{_-_}

@@ -1,7 +1,7 @@
 use native.Mathlib.Omega.{arith}
 use Rattle.area.specs.Part.{notes}
 use Rattle.numbers.specs.Entries.{entriesIn}
-use Rattle.pair_formats.proofs.Using.{names-sized, formats-new}
+use Rattle.field_uses.proofs.Using.{names-sized, formats-new}
 use borrow.Author.Needs.{needs}
 use Rattle.pair_formats.proofs.new_formats.Statement.{statement}
 use Rattle.pair_formats.proofs.new_formats.Tie as tie

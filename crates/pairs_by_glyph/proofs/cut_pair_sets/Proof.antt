@@ -2,7 +2,7 @@ use mathlib.Core.Path.{refl}
 use native.Mathlib.Omega.{arith}
 use borrow.Author.Needs.{needs}
 use Rattle.laws.specs.SoundGood.{bytes-all}
-use Rattle.by_glyph.proofs.Asking.{may-count, may-meet, may-write, pairs-answered}
+use Rattle.cut_sets.proofs.Asking.{may-count, may-meet, may-write, pairs-answered}
 use Rattle.pairs_by_glyph.proofs.cut_pair_sets.Statement.{statement}
 use Rattle.pairs_by_glyph.proofs.cut_pair_sets.Tie as tie
 

@@ -2,9 +2,9 @@ use mathlib.Core.Path.{refl, sym, _∙_}
 use native.Mathlib.Omega.{arith}
 use borrow.Author.Needs.{needs}
 use Rattle.laws.specs.SoundGood.{bytes-all}
-use Rattle.by_glyph.specs.Whole.{written-none}
-use Rattle.by_glyph.specs.PairTables.{pairs-null}
-use Rattle.by_glyph.proofs.Asking.{header-inside, pairs-asked, glyphs-no-room, one-laid, one-answered}
+use Rattle.cut_sets.specs.Whole.{written-none}
+use Rattle.cut_sets.specs.PairTables.{pairs-null}
+use Rattle.cut_sets.proofs.Asking.{header-inside, pairs-asked, glyphs-no-room, one-laid, one-answered}
 use Rattle.by_glyph.proofs.Fitting.{pairs-fit}
 use Rattle.pairs_by_glyph.proofs.cut_pairs.Statement.{statement}
 use Rattle.pairs_by_glyph.proofs.cut_pairs.Tie as tie

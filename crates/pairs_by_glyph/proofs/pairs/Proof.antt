@@ -5,7 +5,7 @@ use Rattle.meaning.specs.Maps.{glyphEntries}
 use Rattle.meaning.specs.Cut.{cut}
 use Rattle.meaning.specs.Subset.{writtenIn}
 use Rattle.tried.specs.Front.{front-length, front-area}
-use Rattle.by_glyph.specs.PairTables.{pairTable}
+use Rattle.cut_sets.specs.PairTables.{pairTable}
 use Rattle.pairs_by_glyph.proofs.pairs.Statement.{statement}
 use Rattle.pairs_by_glyph.proofs.pairs.Tie as tie
 

@@ -1,9 +1,9 @@
 use native.Mathlib.Omega.{arith}
 use Rattle.laws.specs.SoundGood.{bytes-all}
 use Rattle.placed_sets.specs.declared.Sort.the-variants.{Pairs}
-use Rattle.by_glyph.specs.PairTables.{oneMap, ready-pairs}
-use Rattle.by_glyph.proofs.Smallness.{small-left}
-use Rattle.by_glyph.proofs.Asking.{asks-formats, puts-length, told-new}
+use Rattle.cut_sets.specs.PairTables.{oneMap, ready-pairs}
+use Rattle.cut_sets.proofs.Smallness.{small-left}
+use Rattle.cut_sets.proofs.Asking.{asks-formats, puts-length, told-new}
 use borrow.Author.Needs.{needs}
 use Rattle.pairs_by_glyph.proofs.write_pair_table.Statement.{statement}
 use Rattle.pairs_by_glyph.proofs.write_pair_table.Tie as tie

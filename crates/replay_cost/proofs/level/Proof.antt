@@ -3,7 +3,7 @@ use Prim.Native.Nat.{_-_, _/_}
 use mathlib.Core.Path.{_≡_, refl}
 use lib.ListN.{length}
 use borrow.Author.Needs.{needs}
-use Rattle.rule_steps.proofs.Sums.{limit-is}
+use Rattle.member_steps.proofs.Sums.{limit-is}
 use Rattle.replay_cost.proofs.Depths.{Filling, filling-all, filling-next, filling-end}
 use Rattle.replay_cost.proofs.level.Statement.{statement}
 use Rattle.replay_cost.proofs.level.Tie as tie

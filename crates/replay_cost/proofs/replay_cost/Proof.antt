@@ -1,5 +1,5 @@
 use borrow.Author.Needs.{needs}
-use Rattle.replay.specs.Counting.{replayedOf}
+use Rattle.tallies.specs.Counting.{replayedOf}
 use Rattle.replay_cost.proofs.Depths.{list-good, cost-refused, cost-told}
 use Rattle.replay_cost.proofs.replay_cost.Statement.{statement}
 use Rattle.replay_cost.proofs.replay_cost.Tie as tie

@@ -1,6 +1,6 @@
 -- `replay_job::answer` meets its contract: what is printed is the text of the file's replay and of its cost, and there is room for it. Assumes nothing.
 use borrow.Author.Needs.{needs}
-use Rattle.replay.specs.Counting.{replayedOf}
+use Rattle.tallies.specs.Counting.{replayedOf}
 use Rattle.replay_job.proofs.Lines.{answered, printed-near}
 use Rattle.replay_job.proofs.answer.Statement.{statement}
 use Rattle.replay_job.proofs.answer.Tie as tie

@@ -2,7 +2,7 @@
 use native.Mathlib.Omega.{arith}
 use borrow.Author.Needs.{needs}
 use Rattle.meaning.specs.Job.{ascii}
-use Rattle.replay.specs.Counting.{replayedOf}
+use Rattle.tallies.specs.Counting.{replayedOf}
 use Rattle.report_lines.specs.Lengths.{line-near}
 use Rattle.replay_job.proofs.Lines.{lines-whole}
 use Rattle.replay_job.proofs.put_answer.Statement.{statement}

@@ -40,17 +40,17 @@ use denote.Triple.Table.{entered, cited}
 use denote.Triple.Walked.{says, Stays, stay-ref, stay-none-slice, walkOf, AllGo, goes-none-slice, goes-ref, Walks, ends-at, walked, walk-meets}
 use denote.Exit.{yes}
 use Rattle.replaying.specs.Replay.{replay as replayed}
-use Rattle.replay.specs.Counting.{replayedOf}
-use Rattle.replay.specs.declared.Tally.{Tally}
-use Rattle.replay.specs.declared.Replayed.{Replayed}
+use Rattle.tallies.specs.Counting.{replayedOf}
+use Rattle.tallies.specs.declared.Tally.{Tally}
+use Rattle.tallies.specs.declared.Replayed.{Replayed}
 use Rattle.replay.proofs.replay_all as replay-all
 use Rattle.replay.proofs.replay_all.Symbol as replay-all-def
 use Rattle.replay.proofs.replay_all.Symbol.{name as #replay·replay-all}
 use Rattle.replay.proofs.replay_all.Met as replay-all-thm
-use Rattle.replay.proofs.Tally as T
-use Rattle.replay.proofs.Tally.Laws as T′
-use Rattle.replay.proofs.Replayed as R
-use Rattle.replay.proofs.Replayed.Laws as R′
+use Rattle.tallies.proofs.Tally as T
+use Rattle.tallies.proofs.Tally.Laws as T′
+use Rattle.tallies.proofs.Replayed as R
+use Rattle.tallies.proofs.Replayed.Laws as R′
 use Rattle.replay_lent.proofs.tally_of as tally-of
 use Rattle.replay_lent.proofs.tally_of.Symbol as tally-of-def
 use Rattle.replay_lent.proofs.tally_of.Symbol.{name as #replay-lent·tally-of}

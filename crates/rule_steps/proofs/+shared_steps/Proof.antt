@@ -4,7 +4,7 @@ use native.Mathlib.Omega.{arith}
 use borrow.Author.Needs.{needs}
 use borrow.Fn.Kinds.{In}
 use borrow.Fn.PlainCycle.{Measures, is, falls, and}
-use Rattle.rule_steps.proofs.Most.{none-counted}
+use Rattle.member_steps.proofs.Most.{none-counted}
 use Rattle.rule_steps.proofs.shared_steps.Reads as shared-steps
 use Rattle.rule_steps.proofs.shared_steps.Kinds as shared-steps-kinds
 use Rattle.rule_steps.proofs.+shared_steps.Lts-shared_steps as shared-steps-lts

@@ -1,5 +1,5 @@
 use borrow.Author.Needs.{needs}
-use Rattle.rule_steps.proofs.Tables.{classes-plain, classes-chained}
+use Rattle.member_steps.proofs.Tables.{classes-plain, classes-chained}
 use Rattle.rule_steps.proofs.classes_steps.Statement.{statement}
 use Rattle.rule_steps.proofs.classes_steps.Tie as tie
 

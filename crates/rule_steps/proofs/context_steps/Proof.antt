@@ -1,5 +1,5 @@
 use borrow.Author.Needs.{needs}
-use Rattle.rule_steps.proofs.Tables.{format-1, format-2, format-3}
+use Rattle.member_steps.proofs.Tables.{format-1, format-2, format-3}
 use Rattle.rule_steps.proofs.context_steps.Statement.{statement}
 use Rattle.rule_steps.proofs.context_steps.Tie as tie
 

@@ -1,5 +1,5 @@
 use borrow.Author.Needs.{needs}
-use Rattle.rule_steps.proofs.Tables.{covers-taken}
+use Rattle.member_steps.proofs.Tables.{covers-taken}
 use Rattle.rule_steps.proofs.covers_steps.Statement.{statement}
 use Rattle.rule_steps.proofs.covers_steps.Tie as tie
 

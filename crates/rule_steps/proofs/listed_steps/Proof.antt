@@ -2,7 +2,7 @@ use native.Mathlib.Omega.{arith}
 use borrow.Author.Needs.{needs}
 use Rattle.lookup_list.proofs.Parts.{listed-source}
 use Rattle.lookup_list.proofs.Readying.{list-short, part-inside}
-use Rattle.rule_steps.proofs.Tables.{source-taken}
+use Rattle.member_steps.proofs.Tables.{source-taken}
 use Rattle.rule_steps.proofs.listed_steps.Statement.{statement}
 use Rattle.rule_steps.proofs.listed_steps.Tie as tie
 

@@ -1,7 +1,7 @@
 use native.Mathlib.Omega.{arith}
 use Prim.Native.Nat.{_-_}
 use borrow.Author.Needs.{needs}
-use Rattle.rule_steps.proofs.Most.{InSet, set-all, set-null, set-rule, set-end}
+use Rattle.member_steps.proofs.Most.{InSet, set-all, set-null, set-rule, set-end}
 use Rattle.rule_steps.proofs.most_in_set.Statement.{statement}
 use Rattle.rule_steps.proofs.most_in_set.Tie as tie
 

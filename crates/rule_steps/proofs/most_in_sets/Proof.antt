@@ -1,6 +1,6 @@
 use Prim.Native.Nat.{_-_}
 use borrow.Author.Needs.{needs}
-use Rattle.rule_steps.proofs.Most.{InSets, sets-all, sets-null, sets-set, sets-end}
+use Rattle.member_steps.proofs.Most.{InSets, sets-all, sets-null, sets-set, sets-end}
 use Rattle.rule_steps.proofs.most_in_sets.Statement.{statement}
 use Rattle.rule_steps.proofs.most_in_sets.Tie as tie
 

@@ -1,5 +1,5 @@
 use borrow.Author.Needs.{needs}
-use Rattle.rule_steps.proofs.Most.{none-counted}
+use Rattle.member_steps.proofs.Most.{none-counted}
 use Rattle.rule_steps.proofs.sets_steps.Statement.{statement}
 use Rattle.rule_steps.proofs.sets_steps.Tie as tie
 

@@ -1,5 +1,5 @@
 use borrow.Author.Needs.{needs}
-use Rattle.rule_steps.proofs.Tables.{kind-plain, kind-chained, kind-other}
+use Rattle.member_steps.proofs.Tables.{kind-plain, kind-chained, kind-other}
 use Rattle.rule_steps.proofs.table_steps.Statement.{statement}
 use Rattle.rule_steps.proofs.table_steps.Tie as tie
 

@@ -1,4 +1,4 @@
-use Rattle.single_layouts.proofs.Laying.{under-limit, delta-tries}
+use Rattle.single_tables.proofs.Laying.{under-limit, delta-tries}
 use mathlib.Core.Path.{refl}
 use native.Mathlib.Omega.{arith}
 use borrow.Author.Needs.{needs}

@@ -2,7 +2,7 @@ use mathlib.Core.Path.{refl}
 use Prim.Native.Nat.{_+_, _*_}
 use native.Mathlib.Omega.{arith}
 use borrow.Author.Needs.{needs}
-use Rattle.single_layouts.proofs.Laying.{list-unfit, under-limit, list-tries}
+use Rattle.single_tables.proofs.Laying.{list-unfit, under-limit, list-tries}
 use Rattle.single_layouts.proofs.lay_list.Statement.{statement}
 use Rattle.single_layouts.proofs.lay_list.Tie as tie
 

@@ -4,7 +4,7 @@ use borrow.Author.Needs.{needs}
 use lib.ListN.{length}
 use Rattle.meaning.specs.Subset.{Outcome, limit}
 use Rattle.tried.specs.Tries.{Tries}
-use Rattle.single_layouts.proofs.Laying.{standing, laid-nothing, delta-laid, list-laid}
+use Rattle.single_tables.proofs.Laying.{standing, laid-nothing, delta-laid, list-laid}
 use Rattle.single_layouts.proofs.lay_pairs.Statement.{statement}
 use Rattle.single_layouts.proofs.lay_pairs.Tie as tie
 

@@ -1,0 +1,4 @@
+pub mod Once
+pub mod Present
+pub mod Mapped
+pub mod Ranked
