@@ -5,7 +5,7 @@ use mathlib.Core.Bool.{true, false}
 use mathlib.Core.List.{List, [], _∷_}
 use mathlib.Core.Logic.{⊎-elim}
 use native.Mathlib.Omega.{arith}
-use lib.ListN.{length, replicate, length-replicate}
+use lib.ListN.{replicate}
 use types.Run.{OneOf}
 use denote.Enum.Declared.{tagOf}
 use Rattle.meaning.specs.Subset.{Outcome}
@@ -21,30 +21,23 @@ use Rattle.cut_sizes.specs.Cutting.{classPairCells, classPairBytes, otherCells,
 abbrev pub cleared : ℕ → List ℕ
 cleared n = replicate n 0
 
-pub cleared-length : (n : ℕ) → length (cleared n) ≡ n
-cleared-length n = length-replicate n 0
-
--- for any number, so that no scratch is written out
-enough-cleared : (m n : ℕ) → m ≤ n → m ≤ length (cleared n)
-enough-cleared m n h = rw (cleared-length n) h
-
 -- scratch that is enough, by the format
 module _ (kind : ℕ) (s : List ℕ) where
-  pub pair-cells : pairsByClass kind s ≡ true → cellsFor kind s ≤ length (cleared classPairCells)
+  pub pair-cells : {cells : ℕ} → cells ≡ classPairCells → pairsByClass kind s ≡ true → cellsFor kind s ≤ cells
   unfolding cellsFor
-  pair-cells e = enough-cleared (cellsFor kind s) classPairCells (rw e (omega arith))
+  pair-cells l e = rw (l, e) (omega arith)
 
-  pub pair-bytes : pairsByClass kind s ≡ true → bytesFor kind s ≤ length (cleared classPairBytes)
+  pub pair-bytes : {area : ℕ} → area ≡ classPairBytes → pairsByClass kind s ≡ true → bytesFor kind s ≤ area
   unfolding bytesFor
-  pair-bytes e = enough-cleared (bytesFor kind s) classPairBytes (rw e (omega arith))
+  pair-bytes l e = rw (l, e) (omega arith)
 
-  pub other-cells : pairsByClass kind s ≡ false → cellsFor kind s ≤ length (cleared otherCells)
+  pub other-cells : {cells : ℕ} → cells ≡ otherCells → pairsByClass kind s ≡ false → cellsFor kind s ≤ cells
   unfolding cellsFor
-  other-cells e = enough-cleared (cellsFor kind s) otherCells (rw e (omega arith))
+  other-cells l e = rw (l, e) (omega arith)
 
-  pub other-bytes : pairsByClass kind s ≡ false → bytesFor kind s ≤ length (cleared enoughArea)
+  pub other-bytes : {area : ℕ} → area ≡ enoughArea → pairsByClass kind s ≡ false → bytesFor kind s ≤ area
   unfolding bytesFor
-  other-bytes e = enough-cleared (bytesFor kind s) enoughArea (rw e (omega arith))
+  other-bytes l e = rw (l, e) (omega arith)
 
 -- what became of it
 pub became : (few short : Type 0) (r : Tried) (before after : List ℕ) (made : Outcome) {laid : Laid} → Tries few short r before after made → r ≡ Became laid → outcomeOf laid after ≡ made

@@ -98,6 +98,16 @@ fn in_much(
     cut_in(marks, src, glyphs, lookups, &mut t, &mut area, out)
 }
 
+// Cells that are enough for any source but a pair table by classes. The type says how many they are, and nothing says what is in them.
+fn other_cells() -> [u32; OTHER_CELLS] {
+    [0u32; OTHER_CELLS]
+}
+
+// Bytes of area that are enough for such a source.
+fn other_bytes() -> [u8; BYTES] {
+    [0u8; BYTES]
+}
+
 // The same with scratch that is enough for any source but a pair table by classes.
 fn in_all_but_class_pairs(
     marks: Marks,
@@ -113,9 +123,19 @@ fn in_all_but_class_pairs(
     if rounds != 0 {
         return in_all_but_class_pairs(marks, src, glyphs, lookups, rounds - 1, out);
     }
-    let mut t = [0u32; OTHER_CELLS];
-    let mut area = [0u8; BYTES];
+    let mut t = other_cells();
+    let mut area = other_bytes();
     cut_in(marks, src, glyphs, lookups, &mut t, &mut area, out)
+}
+
+// Cells that are enough for any pair table by classes.
+fn pair_cells() -> [u32; CELLS] {
+    [0u32; CELLS]
+}
+
+// Bytes of area that are enough for such a table.
+fn pair_bytes() -> [u8; LIMIT] {
+    [0u8; LIMIT]
 }
 
 // The same with scratch that is enough for any pair table by classes.
@@ -133,8 +153,8 @@ fn in_class_pairs(
     if rounds != 0 {
         return in_class_pairs(marks, src, glyphs, lookups, rounds - 1, out);
     }
-    let mut t = [0u32; CELLS];
-    let mut area = [0u8; LIMIT];
+    let mut t = pair_cells();
+    let mut area = pair_bytes();
     cut_in(marks, src, glyphs, lookups, &mut t, &mut area, out)
 }
 

@@ -1,6 +1,8 @@
 -- The proof of the cycle of calls {lay_own}: a call of itself has one round less.
 use Prim.Native.Nat.{ℕ, _<_}
+use mathlib.Core.Path.{sym}
 use native.Mathlib.Omega.{arith}
+use lib.ListN.{length-replicate}
 use borrow.Author.Needs.{needs}
 use borrow.Fn.Kinds.{In}
 use borrow.Fn.PlainCycle.{Measures, is, falls, and}
@@ -27,6 +29,19 @@ lay-own-requires t c κs =
     let p = c .before .before .before .before .before .pre in
     (omega (arith, p .0), p .1)
 
+-- each list of cells is as long as is said: by the lemma, and not by counting them
+codes-count : (t : ℕ) → lay-own-lts.Need-slice-aggregate-lay-rules (lay-own-below t, lay-own.Post, lay-rules-reads.Asked, lay-rules-reads.Learnt) (lay-own-at t) lay-own.Post
+codes-count t c = sym (length-replicate {A = ℕ} 262144 0)
+
+rows-count : (t : ℕ) → lay-own-lts.Need-slice-aggregate-lay-rules-2 (lay-own-below t, lay-own.Post, lay-rules-reads.Asked, lay-rules-reads.Learnt) (lay-own-at t) lay-own.Post
+rows-count t c = sym (length-replicate {A = ℕ} 131075 0)
+
+heads-count : (t : ℕ) → lay-own-lts.Need-slice-aggregate-lay-rules-3 (lay-own-below t, lay-own.Post, lay-rules-reads.Asked, lay-rules-reads.Learnt) (lay-own-at t) lay-own.Post
+heads-count t c = sym (length-replicate {A = ℕ} 589828 0)
+
+links-count : (t : ℕ) → lay-own-lts.Need-slice-aggregate-lay-rules-4 (lay-own-below t, lay-own.Post, lay-rules-reads.Asked, lay-rules-reads.Learnt) (lay-own-at t) lay-own.Post
+links-count t c = sym (length-replicate {A = ℕ} 458752 0)
+
 lay-rules-requires : (t : ℕ) → lay-own-lts.Need-lay-rules-requires (lay-own-below t, lay-own.Post, lay-rules-reads.Asked, lay-rules-reads.Learnt) (lay-own-at t) lay-own.Post
 lay-rules-requires t c κs =
     let p = c .before .before .before .before .before .before .before .before .before .pre .1 in
@@ -40,10 +55,10 @@ pub +lay-own-spec : {M : Type 1} → statement M
     (lay-own-requires t)
     (λ c. search needs)
     (λ c. search needs)
-    (λ c. search needs)
-    (λ c. search needs)
-    (λ c. search needs)
-    (λ c. search needs)
+    (codes-count t)
+    (rows-count t)
+    (heads-count t)
+    (links-count t)
     (lay-rules-requires t)
     (λ c. search needs)
     (λ c. search needs))

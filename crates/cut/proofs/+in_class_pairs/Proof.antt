@@ -6,9 +6,10 @@ use lib.ListN.{length}
 use borrow.Author.Needs.{needs}
 use borrow.Fn.Kinds.{In}
 use borrow.Fn.PlainCycle.{Measures, is, falls, and}
-use Rattle.cut.proofs.Sizes.{cleared, cleared-length, pair-cells, pair-bytes, never-short}
-use Rattle.cut_sizes.specs.Cutting.{classPairCells, classPairBytes}
+use Rattle.cut.proofs.Sizes.{pair-cells, pair-bytes, never-short}
 use Rattle.cut_kinds.proofs.cut_in.Reads as cut-in-reads
+use Rattle.cut.proofs.pair_cells.Reads as pair-cells-reads
+use Rattle.cut.proofs.pair_bytes.Reads as pair-bytes-reads
 use Rattle.cut.proofs.in_class_pairs.Reads as in-class-pairs
 use Rattle.cut.proofs.in_class_pairs.Kinds as in-class-pairs-kinds
 use Rattle.cut.proofs.+in_class_pairs.Lts-in_class_pairs as in-class-pairs-lts
@@ -25,32 +26,49 @@ in-class-pairs-at t = and 4 in-class-pairs-kinds.ps (is 4 in-class-pairs-kinds.p
 abbrev in-class-pairs-below : ℕ → In 4 in-class-pairs-kinds.ps
 in-class-pairs-below t = and 4 in-class-pairs-kinds.ps (falls 4 in-class-pairs-kinds.ps _<_ μ-in-class-pairs t) in-class-pairs.Pre
 
-in-class-pairs-requires : (t : ℕ) → in-class-pairs-lts.Need-in-class-pairs-requires (in-class-pairs-below t, in-class-pairs.Post, cut-in-reads.Asked, cut-in-reads.Learnt) (in-class-pairs-at t) in-class-pairs.Post
+-- what is claimed of the functions that it calls
+abbrev in-class-pairs-claims : (t : ℕ) → in-class-pairs-lts.Claims
+in-class-pairs-claims t = (in-class-pairs-below t, in-class-pairs.Post, pair-cells-reads.Asked, pair-cells-reads.Learnt, pair-bytes-reads.Asked, pair-bytes-reads.Learnt, cut-in-reads.Asked, cut-in-reads.Learnt)
+
+in-class-pairs-requires : (t : ℕ) → in-class-pairs-lts.Need-in-class-pairs-requires (in-class-pairs-claims t) (in-class-pairs-at t) in-class-pairs.Post
 in-class-pairs-requires t c κs =
     let p = c .before .before .before .before .before .before .pre in
     (omega (arith, p .0), p .1)
 
-cut-in-requires : (t : ℕ) → in-class-pairs-lts.Need-cut-in-requires (in-class-pairs-below t, in-class-pairs.Post, cut-in-reads.Asked, cut-in-reads.Learnt) (in-class-pairs-at t) in-class-pairs.Post
+-- how many cells and bytes there are, by their types
+cells-counted : (t : ℕ) → in-class-pairs-lts.Need-slice-aggregate-cut-in (in-class-pairs-claims t) (in-class-pairs-at t) in-class-pairs.Post
+cells-counted t c = search needs
+
+bytes-counted : (t : ℕ) → in-class-pairs-lts.Need-slice-aggregate-cut-in-2 (in-class-pairs-claims t) (in-class-pairs-at t) in-class-pairs.Post
+bytes-counted t c = search needs
+
+cut-in-requires : (t : ℕ) → in-class-pairs-lts.Need-cut-in-requires (in-class-pairs-claims t) (in-class-pairs-at t) in-class-pairs.Post
 cut-in-requires t c κs =
-    let p = c .before .before .before .before .before .before .before .before .pre in
+    let p = c .before .before .before .before .before .before .before .before .before .before .pre in
     p .1 .0
 
-returns : (t : ℕ) → in-class-pairs-lts.Need-returns-2 (in-class-pairs-below t, in-class-pairs.Post, cut-in-reads.Asked, cut-in-reads.Learnt) (in-class-pairs-at t) in-class-pairs.Post
+returns : (t : ℕ) → in-class-pairs-lts.Need-returns-2 (in-class-pairs-claims t) (in-class-pairs-at t) in-class-pairs.Post
 returns t c =
     let k = c .before .before .before .before in
-    let a = k .before .before .before .before .before .before .before .before .before in
-    never-short (a .args .marks .kind) (a .args .src .now) (length (cleared classPairCells)) (length (cleared classPairBytes)) (pair-cells (a .args .marks .kind) (a .args .src .now) (a .pre .1 .1)) (pair-bytes (a .args .marks .kind) (a .args .src .now) (a .pre .1 .1)) (k .cut-in .ensures)
+    let bytes = k .before .before in
+    let cells = bytes .before in
+    let a = cells .before .before .before .before .before .before .before .before in
+    let kind = a .args .marks .kind in
+    let s = a .args .src .now in
+    never-short kind s (length (cells .before .before .pair-cells .result)) (length (cells .before .pair-bytes .result)) (pair-cells kind s (sym (cells-counted t cells)) (a .pre .1 .1)) (pair-bytes kind s (sym (bytes-counted t bytes)) (a .pre .1 .1)) (k .cut-in .ensures)
 
 pub +in-class-pairs-spec : {M : Type 1} → statement M
 +in-class-pairs-spec =
     close μ-in-class-pairs
-    (λ t. in-class-pairs-lts.spec (in-class-pairs-below t, in-class-pairs.Post, cut-in-reads.Asked, cut-in-reads.Learnt) (in-class-pairs-at t) in-class-pairs.Post
+    (λ t. in-class-pairs-lts.spec (in-class-pairs-claims t) (in-class-pairs-at t) in-class-pairs.Post
     (λ c. search needs)
     (in-class-pairs-requires t)
     (λ c. search needs)
     (λ c. search needs)
-    (λ c. sym (cleared-length classPairCells))
-    (λ c. sym (cleared-length classPairBytes))
+    (λ c κs. search needs)
+    (λ c κs. search needs)
+    (cells-counted t)
+    (bytes-counted t)
     (cut-in-requires t)
     (λ c. c .before .out2 .given)
     (returns t))
