@@ -69,22 +69,22 @@ said-length r h = step (eqb (r .number) 0)
     step false = simp length-append (omega (arith, line-length (ascii "answer ") (r .number), line-length (ascii "length ") (r .len)))
 
 -- what is printed of the comparison on zeros is what the program prints
-program-is : (f : List ℕ) → said (compareFile f (replicate 262144 0)) ≡ program f
-unfolding program room
-program-is f = refl
+program-is : (f lent : List ℕ) → lent ≡ replicate room 0 → said (compareFile f lent) ≡ program f
+unfolding program
+program-is f lent e = rw e
 
-module _ (f : List ℕ) (a : Answered) {result : List ℕ} (ran : outcomeOf a result ≡ compareFile f (replicate 262144 0)) (full : length result ≡ 262144) where
+module _ (f : List ℕ) (a : Answered) {lent result : List ℕ} (zeros : lent ≡ replicate room 0) (ran : outcomeOf a result ≡ compareFile f lent) (full : length result ≡ 262144) where
   -- the answer can be printed
   pub printable : Printable (a .number) (a .len) result
   printable = record {
     small = omega arith;
-    within = λ z. (rw (← ran) at (within f (replicate 262144 0) (goodFile f) refl)) z;
+    within = λ z. (rw (← ran) at (within f lent (goodFile f) refl)) z;
   }
 
   -- and what is printed of it is what the program prints, for which there is room
   pub answered : {text after : List ℕ} {r : ℕ} → textRoom ≤ length text → Put text 0 (said (outcomeOf a result)) after r → Put text 0 (program f) after r × (r ≤ length after)
   answered roomy k =
-      let p : said (outcomeOf a result) ≡ program f = ap said ran ∙ program-is f in
+      let p : said (outcomeOf a result) ≡ program f = ap said ran ∙ program-is f lent zeros in
       (rw p at k, omega (arith, k .place, put-length k, said-length (outcomeOf a result) (omega arith)))
 
 -- a text of that length has room

@@ -11,9 +11,9 @@ use input::Input;
 use input::read_input;
 ghost use mathlib.Core.Path.{_≡_};
 ghost use Prim.Native.Nat.{_≤_};
-ghost use lib.ListN.{length};
+ghost use lib.ListN.{length, replicate};
 ghost use Rattle.report_lines.specs.Text.{Put, Printable};
-ghost use Rattle.compare_job.specs.Program.{compareFile, said, outcomeOf, program, textRoom};
+ghost use Rattle.compare_job.specs.Program.{compareFile, said, outcomeOf, program, room, textRoom};
 
 // One byte more than the longest compare file has, so that a longer one is seen.
 const FILE: usize = 600001;
@@ -62,12 +62,19 @@ fn blank() -> [u8; TEXT]
     [0u8; TEXT]
 }
 
+// A buffer for the list. Its contract says that it is the zeros that `program` lends.
+fn lent() -> [u8; LIST]
+    ensures { λ r. ⌜ r ≡ replicate room 0 ⌝ }
+{
+    [0u8; LIST]
+}
+
 // What the program prints for a file, at the front of `text`; how long it is.
 fn answer(file: &[u8], text: &mut [u8]) -> usize
     requires { ⌜ textRoom ≤ length (now text) ⌝ }
     ensures { λ r. ⌜ Put (now (text .entry)) 0 (program (now (file .entry))) (now (text .exit)) r × (r ≤ length (now (text .exit))) ⌝ }
 {
-    let mut list = [0u8; LIST];
+    let mut list = lent();
     let a = compare_parts(file, &mut list);
     put_outcome(text, a.number, a.len, &list)
 }

@@ -31,26 +31,31 @@ module _ (f out : List ℕ) where
   within false h = rw (← (job-faulty f out h)) (λ z. absurd (omega arith))
 
 -- what is printed of the job on zeros is what the program prints
-program-is : (f : List ℕ) → printed (job f (replicate 262144 0)) ≡ program f
+program-is : (f lent : List ℕ) → lent ≡ replicate room 0 → printed (job f lent) ≡ program f
 unfolding program room limit
-program-is f = refl
+program-is f lent e = ap (λ (l : List ℕ). printed (job f l)) e
 
-module _ (f : List ℕ) (a : Answer) {result : List ℕ} {n len : ℕ} (number : n ≡ numberOf a) (long : len ≡ lengthOf a) (ran : outcome a result ≡ job f (replicate 262144 0)) (full : length result ≡ 262144) where
+-- how many zeros are lent
+room-is : room ≡ 262144
+unfolding room limit
+room-is = refl
+
+module _ (f : List ℕ) (a : Answer) {lent result : List ℕ} {n len : ℕ} (zeros : lent ≡ replicate room 0) (number : n ≡ numberOf a) (long : len ≡ lengthOf a) (ran : outcome a result ≡ job f lent) (full : length result ≡ 262144) where
   -- the number, the length and the buffer are those of the job
-  same : record { number = n; len = len; out = result } ≡ job f (replicate 262144 0)
+  same : record { number = n; len = len; out = result } ≡ job f lent
   same = rw (number, long) ran
 
   -- they can be printed
   pub printable : Printable n len result
   printable = record {
     small = omega arith;
-    within = λ z. omega (arith, within f (replicate 262144 0) (goodJob f) refl (sym (ap (λ (o : Outcome). o .number) same) ∙ z), ap (λ (o : Outcome). o .len) same, length-replicate {A = ℕ} 262144 0);
+    within = λ z. omega (arith, within f lent (goodJob f) refl (sym (ap (λ (o : Outcome). o .number) same) ∙ z), ap (λ (o : Outcome). o .len) same, ap length zeros, length-replicate {A = ℕ} room 0, room-is);
   }
 
   -- and what is printed of them is what the program prints
   pub answered : {text after : List ℕ} {r : ℕ} → textRoom ≤ length text → Put text 0 (printed (record { number = n; len = len; out = result })) after r → Answered f text after r
   answered {text} {after} {r} roomy k =
-      let p : printed (record { number = n; len = len; out = result }) ≡ program f = ap printed same ∙ program-is f in
+      let p : printed (record { number = n; len = len; out = result }) ≡ program f = ap printed same ∙ program-is f lent zeros in
       let t : length (program f) ≤ length text = omega (arith, ap length p, printed-length (record { number = n; len = len; out = result }) (omega arith)) in
       let e : length (program f) ≡ r = omega (arith, k .place, ap length p) in
       let w : after ≡ program f ++ drop (length (program f)) text = k .stand ∙ ap (sets text 0) p ∙ sets-front text (program f) t in

@@ -7,7 +7,8 @@ use job::run;
 use report::report;
 ghost use mathlib.Core.Path.{_≡_};
 ghost use Prim.Native.Nat.{_≤_};
-ghost use lib.ListN.{length};
+ghost use lib.ListN.{length, replicate};
+ghost use Rattle.meaning.specs.Job.{room};
 ghost use Rattle.report_lines.specs.Lengths.{textRoom};
 ghost use Rattle.label_job.specs.Answered.{Answered};
 
@@ -27,19 +28,31 @@ fn blank() -> [u8; TEXT]
     [0u8; TEXT]
 }
 
+// A buffer for the result. Its contract says that it is the zeros that `program` lends.
+fn lent() -> [u8; RESULT]
+    ensures { λ r. ⌜ r ≡ replicate room 0 ⌝ }
+{
+    [0u8; RESULT]
+}
+
 // What the program prints for a file, at the front of `text`; how long it is.
 fn answer(file: &[u8], text: &mut [u8]) -> usize
     requires { ⌜ textRoom ≤ length (now text) ⌝ }
     ensures { λ r. ⌜ Answered (now (file .entry)) (now (text .entry)) (now (text .exit)) r ⌝ }
 {
-    let mut result = [0u8; RESULT];
+    let mut result = lent();
     let a = run(file, &mut result);
     report(number_of(a), length_of(a), &result, text)
 }
 
+// A buffer for the file. Its type says how long it is, and no contract says what is in it.
+fn unread() -> [u8; FILE] {
+    [0u8; FILE]
+}
+
 // Reads the file, and writes the text at once. Where that fails, a sentence on standard error says so; a failed read leaves standard output empty.
 fn main() {
-    let mut file = [0u8; FILE];
+    let mut file = unread();
     let Input::Bytes(n) = read_input(&mut file) else {
         io::write_all(2, b"label_job: standard input could not be read\n");
         return;

@@ -121,9 +121,14 @@ fn answer(file: &[u8], text: &mut [u8]) -> usize
     put_cost(text, at, file)
 }
 
+// A buffer for the file. Its type says how long it is, and no contract says what is in it.
+fn unread() -> [u8; FILE] {
+    [0u8; FILE]
+}
+
 // Reads the file, and writes the text at once. Where that fails, a sentence on standard error says so; a failed read leaves standard output empty.
 fn main() {
-    let mut file = [0u8; FILE];
+    let mut file = unread();
     let Input::Bytes(n) = read_input(&mut file) else {
         io::write_all(2, b"replay_job: standard input could not be read\n");
         return;

@@ -33,6 +33,24 @@ const FILE: usize = 262144;
 // The bytes before the parts of a stored call: the kind, the form of the glyph map, the layout, the number of the answer, the lengths of source, glyph map and lookup map, and the length that comes with the answer.
 const HEADER: usize = 16;
 
+// The most bytes that a source may have.
+const LONGEST: usize = 262144;
+
+// One byte more.
+const LONG: usize = 262145;
+
+// The bytes of the plain layout that has its last coverage at 65,534.
+const HIGHEST_KEPT: usize = 65666;
+
+// The bytes of a map of 32,764 glyphs.
+const MOST_GLYPHS: usize = 131060;
+
+// The bytes of the plain layout with as many substitutes.
+const MOST_KEPT: usize = 65544;
+
+// The bytes of a map of one glyph more.
+const MORE_GLYPHS: usize = 131064;
+
 // The form of the glyph maps that are made here.
 const PAIRS: usize = 4;
 
@@ -321,20 +339,30 @@ fn run(file: &[u8], made: usize, good: usize)
     summary(made + TIMES * index, good + agreeing)
 }
 
+// The longest source, of zeros. Its type says how long it is, and no contract says what is in it.
+fn longest_zeros() -> [u8; LONGEST] {
+    [0u8; LONGEST]
+}
+
 // Sources of zeros, of the most bytes that a source may have: the kind has no format 0.
 fn longest_source(kind: usize) -> usize
     ensures { λ r. ⌜ r ≤ 3 ⌝ }
 {
-    let source = [0u8; 262144];
+    let source = longest_zeros();
     let good = refused_calls(plain(kind, PAIRS), &source, b"", b"", 5, 0);
     verdict(b"the longest source of kind ", kind, good)
+}
+
+// A source that is one byte longer, of zeros. Its type says how long it is, and no contract says what is in it.
+fn long_zeros() -> [u8; LONG] {
+    [0u8; LONG]
 }
 
 // Sources of zeros, of one byte more.
 fn long_source(kind: usize) -> usize
     ensures { λ r. ⌜ r ≤ 3 ⌝ }
 {
-    let source = [0u8; 262145];
+    let source = long_zeros();
     let good = refused_calls(plain(kind, PAIRS), &source, b"", b"", 4, 0);
     verdict(b"a longer source of kind ", kind, good)
 }
@@ -346,6 +374,11 @@ fn sources(kind: usize) -> usize
     longest_source(kind) + long_source(kind)
 }
 
+// A buffer for the layout with its last coverage at 65,534. Its type says how long it is, and no contract says what is in it.
+fn highest_kept() -> [u8; HIGHEST_KEPT] {
+    [0u8; HIGHEST_KEPT]
+}
+
 // How many agree of the calls whose plain layout has its last coverage at 65,534: 490 places of 64 glyphs, in 65,666 bytes.
 fn highest_offset() -> usize
     ensures { λ r. ⌜ r ≤ 3 ⌝ }
@@ -354,7 +387,7 @@ fn highest_offset() -> usize
     put_source(&mut source, 490, 64);
     let mut glyphs = [0u8; 256];
     put_map(&mut glyphs, 64);
-    let mut kept = [0u8; 65666];
+    let mut kept = highest_kept();
     put_result(&mut kept, 490, 64);
     let good = kept_calls(plain(1, PAIRS), &source, &glyphs, b"", &kept);
     verdict(b"a coverage at ", 65534, good)
@@ -433,18 +466,33 @@ fn wide_pairs() -> usize
     verdict(b"pairs of a shared set: ", 300, good)
 }
 
+// A buffer for a map of 32,764 glyphs. Its type says how long it is, and no contract says what is in it.
+fn most_glyphs() -> [u8; MOST_GLYPHS] {
+    [0u8; MOST_GLYPHS]
+}
+
+// A buffer for the layout with as many substitutes. Its type says how long it is, and no contract says what is in it.
+fn most_kept() -> [u8; MOST_KEPT] {
+    [0u8; MOST_KEPT]
+}
+
 // How many agree of the calls whose plain layout has the coverage at 65,534, behind 32,764 substitutes.
 fn most_substitutes() -> usize
     ensures { λ r. ⌜ r ≤ 3 ⌝ }
 {
     let mut source = [0u8; 16];
     put_next(&mut source, 32764);
-    let mut glyphs = [0u8; 131060];
+    let mut glyphs = most_glyphs();
     put_same_but_last(&mut glyphs, 32764);
-    let mut kept = [0u8; 65544];
+    let mut kept = most_kept();
     put_list(&mut kept, 32764);
     let good = kept_calls(plain(5, PAIRS), &source, &glyphs, b"", &kept);
     verdict(b"substitutes: ", 32764, good)
+}
+
+// A buffer for a map of one glyph more. Its type says how long it is, and no contract says what is in it.
+fn more_glyphs() -> [u8; MORE_GLYPHS] {
+    [0u8; MORE_GLYPHS]
 }
 
 // How many agree of the calls whose plain layout would have it at 65,536.
@@ -453,7 +501,7 @@ fn more_substitutes() -> usize
 {
     let mut source = [0u8; 16];
     put_next(&mut source, 32765);
-    let mut glyphs = [0u8; 131064];
+    let mut glyphs = more_glyphs();
     put_same_but_last(&mut glyphs, 32765);
     let good = refused_calls(plain(5, PAIRS), &source, &glyphs, b"", 9, 0);
     verdict(b"substitutes: ", 32765, good)
@@ -491,9 +539,14 @@ fn limits() -> usize
     contexts + others + offsets + most_substitutes() + more_substitutes()
 }
 
+// A buffer for the stored calls. Its type says how long it is, and no contract says what is in it.
+fn unread() -> [u8; FILE] {
+    [0u8; FILE]
+}
+
 fn main() {
     let good = limits() + large_tables();
-    let mut file = [0u8; FILE];
+    let mut file = unread();
     let n = io::read_full(0, &mut file);
     run(&file[..n], 19 * TIMES, good);
 }

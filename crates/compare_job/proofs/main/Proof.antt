@@ -1,8 +1,15 @@
+use Prim.Native.Nat.{ℕ}
+use mathlib.Core.Path.{sym}
+use lib.ListN.{length-replicate}
 use borrow.Author.Needs.{needs}
 use Rattle.input.proofs.Reading.{read-within, read-part}
 use Rattle.compare_job.proofs.Answering.{text-roomy, answered-part}
 use Rattle.compare_job.proofs.main.Statement.{statement}
 use Rattle.compare_job.proofs.main.Tie as tie
+
+-- the file's buffer is as long as is said: by the lemma, and not by counting
+slice-aggregate-read-input : tie.Need-slice-aggregate-read-input
+slice-aggregate-read-input c = sym (length-replicate {A = ℕ} 600001 0)
 
 array-share-prefix-file : tie.Need-array-share-prefix-file
 array-share-prefix-file c =
@@ -24,7 +31,7 @@ pub main-spec : {M : Type 1} → statement M
 main-spec =
     tie.close
     (tie.spec
-    (λ c. search needs)
+    slice-aggregate-read-input
     (λ c κs. search needs)
     (λ c. search needs)
     (λ c. search needs)
