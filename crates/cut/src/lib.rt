@@ -27,6 +27,26 @@ ghost use Rattle.meaning.specs.Subset.{writtenIn};
 ghost use Rattle.room.specs.Laid.{outcomeOf};
 ghost use Rattle.cut_sizes.specs.Cutting.{Sound, pairsByClass, UnlessShort, NeverShort};
 
+// Cells that are enough for any source but a pair table by classes. The type says how many they are, and nothing says what is in them.
+fn other_cells() -> [u32; OTHER_CELLS] {
+    [0u32; OTHER_CELLS]
+}
+
+// Bytes of area that are enough for such a source.
+fn other_bytes() -> [u8; BYTES] {
+    [0u8; BYTES]
+}
+
+// Cells that are enough for any pair table by classes.
+fn pair_cells() -> [u32; CELLS] {
+    [0u32; CELLS]
+}
+
+// Bytes of area that are enough for such a table.
+fn pair_bytes() -> [u8; LIMIT] {
+    [0u8; LIMIT]
+}
+
 // With little scratch, which is enough for most tables of a small font.
 fn in_little(marks: Marks, src: &[u8], glyphs: &[u8], lookups: &[u8], out: &mut [u8]) -> Tried
     requires { ⌜ Sound (marks .kind) (marks .form) (now src) (now glyphs) (now lookups) ⌝ }
@@ -98,16 +118,6 @@ fn in_much(
     cut_in(marks, src, glyphs, lookups, &mut t, &mut area, out)
 }
 
-// Cells that are enough for any source but a pair table by classes. The type says how many they are, and nothing says what is in them.
-fn other_cells() -> [u32; OTHER_CELLS] {
-    [0u32; OTHER_CELLS]
-}
-
-// Bytes of area that are enough for such a source.
-fn other_bytes() -> [u8; BYTES] {
-    [0u8; BYTES]
-}
-
 // The same with scratch that is enough for any source but a pair table by classes.
 fn in_all_but_class_pairs(
     marks: Marks,
@@ -126,16 +136,6 @@ fn in_all_but_class_pairs(
     let mut t = other_cells();
     let mut area = other_bytes();
     cut_in(marks, src, glyphs, lookups, &mut t, &mut area, out)
-}
-
-// Cells that are enough for any pair table by classes.
-fn pair_cells() -> [u32; CELLS] {
-    [0u32; CELLS]
-}
-
-// Bytes of area that are enough for such a table.
-fn pair_bytes() -> [u8; LIMIT] {
-    [0u8; LIMIT]
 }
 
 // The same with scratch that is enough for any pair table by classes.
