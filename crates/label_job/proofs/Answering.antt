@@ -9,6 +9,7 @@ use lib.Seq.{sets, take-at, drop-at, length-sets, length-take-le}
 use Rattle.meaning.specs.Words.{word}
 use Rattle.meaning.specs.Subset.{Outcome, limit}
 use Rattle.meaning.specs.Job.{tablePart, glyphPart, lookupPart, formOf, goodJob, bytesOf, job, printed, room, program}
+use Rattle.meaning.specs.Jobs.{lends}
 use Rattle.laws.specs.Written.{sets-front}
 use Rattle.promises.specs.Refusals.{Call}
 use Rattle.promises.specs.Promises.{kept-is-small}
@@ -35,11 +36,6 @@ program-is : (f lent : List ℕ) → lent ≡ replicate room 0 → printed (job 
 unfolding program room limit
 program-is f lent e = ap (λ (l : List ℕ). printed (job f l)) e
 
--- how many zeros are lent
-room-is : room ≡ 262144
-unfolding room limit
-room-is = refl
-
 module _ (f : List ℕ) (a : Answer) {lent result : List ℕ} {n len : ℕ} (zeros : lent ≡ replicate room 0) (number : n ≡ numberOf a) (long : len ≡ lengthOf a) (ran : outcome a result ≡ job f lent) (full : length result ≡ 262144) where
   -- the number, the length and the buffer are those of the job
   same : record { number = n; len = len; out = result } ≡ job f lent
@@ -49,7 +45,7 @@ module _ (f : List ℕ) (a : Answer) {lent result : List ℕ} {n len : ℕ} (zer
   pub printable : Printable n len result
   printable = record {
     small = omega arith;
-    within = λ z. omega (arith, within f lent (goodJob f) refl (sym (ap (λ (o : Outcome). o .number) same) ∙ z), ap (λ (o : Outcome). o .len) same, ap length zeros, length-replicate {A = ℕ} room 0, room-is);
+    within = λ z. omega (arith, within f lent (goodJob f) refl (sym (ap (λ (o : Outcome). o .number) same) ∙ z), ap (λ (o : Outcome). o .len) same, ap length zeros, length-replicate {A = ℕ} room 0, lends);
   }
 
   -- and what is printed of them is what the program prints
