@@ -9,15 +9,15 @@ use lib.ListN.{length, drop, get_or}
 use lib.Dec.{ltb, eqb}
 use borrow.Author.Tests.{ltb-false}
 use Rattle.meaning.specs.Words.{word, inside, is_some, flat}
-use Rattle.meaning.specs.Maps.{mapEntries, goodLookups, goodForm, glyphEntries, goodGlyphMap}
+use Rattle.meaning.specs.Maps.{map_entries, good_lookups, good_form, glyph_entries, good_glyph_map}
 use Rattle.meaning.specs.Tables.{Table, table}
 use Rattle.meaning.specs.Fault.{fault}
-use Rattle.meaning.specs.Records.{recordsWithin}
+use Rattle.meaning.specs.Records.{records_within}
 use Rattle.meaning.specs.Cut.{cut}
-use Rattle.meaning.specs.Layout.{wordsFit}
-use Rattle.meaning.specs.Subset.{Outcome, refused, limit, goodKind, hasFormat, hasDevice, tooBig, laidInto, goodPacking, words_in, writtenIn, subset}
-use Rattle.laws.specs.CallBack.{subset-is}
-use Rattle.checks.specs.Near.{place-near}
+use Rattle.meaning.specs.Layout.{words_fit}
+use Rattle.meaning.specs.Subset.{Outcome, refused, limit, good_kind, has_format, has_device, too_big, laid_into, good_packing, words_in, written_in, subset}
+use Rattle.laws.specs.CallBack.{subset_is}
+use Rattle.checks.specs.Near.{place_near}
 use Rattle.refusals.specs.Answers.{number_of, length_of, outcome, decoded}
 use Rattle.refusals.specs.declared.Answer.{Answer}
 use Rattle.refusals.specs.declared.Answer.TheVariants.{Kept, BadKind, BadForm, BadLayout, BadGlyphs, BadLookups, LongSource, BadFormat, Malformed, Device, PastRule, Nothing, TooBig, NoRoom, BadJob}
@@ -32,12 +32,12 @@ or_short true h k = h
 or_short false h k = k
 
 -- a refusal without a length, or else something short, is short
-or-refused : (b : Bool) (out : List ℕ) (n : ℕ) {y : Outcome} → Short y → Short (cond b (refused out n) y)
-or-refused b out n h = or_short b (record { most = omega arith }) h
+or_refused : (b : Bool) (out : List ℕ) (n : ℕ) {y : Outcome} → Short y → Short (cond b (refused out n) y)
+or_refused b out n h = or_short b (record { most = omega arith }) h
 
-laid-short : (out ws : List ℕ) → Short (laidInto out ws)
-unfolding laidInto tooBig limit
-laid-short out ws = step (ltb limit (length bytes)) (not (wordsFit ws)) (ltb (length out) (length bytes)) refl
+laid_short : (out ws : List ℕ) → Short (laid_into out ws)
+unfolding laid_into too_big limit
+laid_short out ws = step (ltb limit (length bytes)) (not (words_fit ws)) (ltb (length out) (length bytes)) refl
   where
     bytes : List ℕ
     bytes = flat ws
@@ -49,52 +49,52 @@ laid-short out ws = step (ltb limit (length bytes)) (not (wordsFit ws)) (ltb (le
     step false false true e = record { most = omega (arith, ltb-false limit (length bytes) e) }
     step false false false e = record { most = omega (arith, ltb-false limit (length bytes) e) }
 
-written-short : (layout : ℕ) (out : List ℕ) (o : Option Table) → Short (writtenIn layout out o)
-unfolding writtenIn
-written-short layout out none = record { most = omega arith }
-written-short layout out (some t) = laid-short out (words_in layout t)
+written_short : (layout : ℕ) (out : List ℕ) (o : Option Table) → Short (written_in layout out o)
+unfolding written_in
+written_short layout out none = record { most = omega arith }
+written_short layout out (some t) = laid_short out (words_in layout t)
 
 -- the length of a call on a source of bytes
-subset-short : (kind form layout : ℕ) (s g l out : List ℕ) → ((i : ℕ) → get_or s i 0 < 256) → Short (subset kind form layout s g l out)
-subset-short kind form layout s g l out bytes =
-    rw (subset-is kind form layout s g l out)
-    (or-refused (not (goodKind kind)) out 1
-    (or-refused (not (goodForm form)) out 13
-    (or-refused (not (goodPacking layout)) out 14
-    (or-refused (not (goodGlyphMap form g)) out 2
-    (or-refused (not (goodLookups l)) out 3
-    (or-refused (ltb limit (length s)) out 4
-    (or-refused (inside s 0 2 && not (hasFormat kind (word s 0))) out 5
-    (or_short (is_some (fault kind s)) (record { most = omega (arith, place-near s bytes kind) })
-    (or-refused (eqb kind 4 && (hasDevice (word s 4) || hasDevice (word s 6))) out 7
-    (or-refused (not (recordsWithin (table kind s))) out 12 (written-short layout out (cut (glyphEntries form g) (mapEntries l) (table kind s)))))))))))))
+subset_short : (kind form layout : ℕ) (s g l out : List ℕ) → ((i : ℕ) → get_or s i 0 < 256) → Short (subset kind form layout s g l out)
+subset_short kind form layout s g l out bytes =
+    rw (subset_is kind form layout s g l out)
+    (or_refused (not (good_kind kind)) out 1
+    (or_refused (not (good_form form)) out 13
+    (or_refused (not (good_packing layout)) out 14
+    (or_refused (not (good_glyph_map form g)) out 2
+    (or_refused (not (good_lookups l)) out 3
+    (or_refused (ltb limit (length s)) out 4
+    (or_refused (inside s 0 2 && not (has_format kind (word s 0))) out 5
+    (or_short (is_some (fault kind s)) (record { most = omega (arith, place_near s bytes kind) })
+    (or_refused (eqb kind 4 && (has_device (word s 4) || has_device (word s 6))) out 7
+    (or_refused (not (records_within (table kind s))) out 12 (written_short layout out (cut (glyph_entries form g) (map_entries l) (table kind s)))))))))))))
 
 -- no number is over 14
-pub number-most : (a : Answer) → number_of a ≤ 14
-number-most (Kept n) = omega arith
-number-most BadKind = omega arith
-number-most BadForm = omega arith
-number-most BadLayout = omega arith
-number-most BadGlyphs = omega arith
-number-most BadLookups = omega arith
-number-most LongSource = omega arith
-number-most BadFormat = omega arith
-number-most (Malformed p) = omega arith
-number-most Device = omega arith
-number-most PastRule = omega arith
-number-most Nothing = omega arith
-number-most TooBig = omega arith
-number-most (NoRoom n) = omega arith
-number-most BadJob = omega arith
+pub number_most : (a : Answer) → number_of a ≤ 14
+number_most (Kept n) = omega arith
+number_most BadKind = omega arith
+number_most BadForm = omega arith
+number_most BadLayout = omega arith
+number_most BadGlyphs = omega arith
+number_most BadLookups = omega arith
+number_most LongSource = omega arith
+number_most BadFormat = omega arith
+number_most (Malformed p) = omega arith
+number_most Device = omega arith
+number_most PastRule = omega arith
+number_most Nothing = omega arith
+number_most TooBig = omega arith
+number_most (NoRoom n) = omega arith
+number_most BadJob = omega arith
 
 module _ (kind form layout : ℕ) (s g l out : List ℕ) (a : Answer) {after : List ℕ} (e : outcome a after ≡ subset kind form layout s g l out) (bytes : (i : ℕ) → get_or s i 0 < 256) where
   -- the length of an answer that a call gives
   pub length_most : length_of a ≤ 262144
-  length_most = rw (← e) at (subset-short kind form layout s g l out bytes).most
+  length_most = rw (← e) at (subset_short kind form layout s g l out bytes).most
 
   -- what such an answer is as one number
-  pub code-says : {n : ℕ} → n ≡ number_of a * 0x100_0000_0000_0000 + length_of a → decoded n after ≡ subset kind form layout s g l out
-  code-says {n} f =
+  pub code_says : {n : ℕ} → n ≡ number_of a * 0x100_0000_0000_0000 + length_of a → decoded n after ≡ subset kind form layout s g l out
+  code_says {n} f =
       let q : n / 0x100_0000_0000_0000 ≡ number_of a = omega (arith, length_most) in
       let r : n % 0x100_0000_0000_0000 ≡ length_of a = omega (arith, length_most) in
       rw (q, r) e

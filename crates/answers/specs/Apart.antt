@@ -7,27 +7,27 @@ use Rattle.refusals.specs.declared.Answer.{Answer}
 use Rattle.refusals.specs.declared.Answer.TheVariants.{Kept, BadKind, BadForm, BadLayout, BadGlyphs, BadLookups, LongSource, BadFormat, Malformed, Device, PastRule, Nothing, TooBig, NoRoom, BadJob}
 
 -- the answer of a number and a length, by a list in the order of the numbers; past its end any will do
-answerBy : ℕ → ℕ → Answer
-answerBy number len = get_or (Kept len ∷ BadKind ∷ BadGlyphs ∷ BadLookups ∷ LongSource ∷ BadFormat ∷ Malformed len ∷ Device ∷ Nothing ∷ TooBig ∷ NoRoom len ∷ BadJob ∷ PastRule ∷ BadForm ∷ BadLayout ∷ []) number BadJob
+answer_by : ℕ → ℕ → Answer
+answer_by number len = get_or (Kept len ∷ BadKind ∷ BadGlyphs ∷ BadLookups ∷ LongSource ∷ BadFormat ∷ Malformed len ∷ Device ∷ Nothing ∷ TooBig ∷ NoRoom len ∷ BadJob ∷ PastRule ∷ BadForm ∷ BadLayout ∷ []) number BadJob
 
 -- each answer is that of its own number and length
-is-by : (a : Answer) → answerBy (number_of a) (length_of a) ≡ a
-unfolding answerBy
-is-by (Kept n) = refl
-is-by BadKind = refl
-is-by BadForm = refl
-is-by BadLayout = refl
-is-by BadGlyphs = refl
-is-by BadLookups = refl
-is-by LongSource = refl
-is-by BadFormat = refl
-is-by (Malformed p) = refl
-is-by Device = refl
-is-by PastRule = refl
-is-by Nothing = refl
-is-by TooBig = refl
-is-by (NoRoom n) = refl
-is-by BadJob = refl
+is_by : (a : Answer) → answer_by (number_of a) (length_of a) ≡ a
+unfolding answer_by
+is_by (Kept n) = refl
+is_by BadKind = refl
+is_by BadForm = refl
+is_by BadLayout = refl
+is_by BadGlyphs = refl
+is_by BadLookups = refl
+is_by LongSource = refl
+is_by BadFormat = refl
+is_by (Malformed p) = refl
+is_by Device = refl
+is_by PastRule = refl
+is_by Nothing = refl
+is_by TooBig = refl
+is_by (NoRoom n) = refl
+is_by BadJob = refl
 
 -- the fields of equal outcomes
 pub same_number : {r q : Outcome} → r ≡ q → r.number ≡ q.number
@@ -40,8 +40,8 @@ pub same_out : {r q : Outcome} → r ≡ q → r.out ≡ q.out
 same_out e = ap (λ (o : Outcome). o.out) e
 
 -- answers of one outcome are equal
-pub answers-apart : (a b : Answer) {after other : List ℕ} → outcome a after ≡ outcome b other → a ≡ b
-answers-apart a b e = sym (is-by a) ∙ ap (λ (n : ℕ). answerBy n (length_of a)) (same_number e) ∙ ap (answerBy (number_of b)) (same_len e) ∙ is-by b
+pub answers_apart : (a b : Answer) {after other : List ℕ} → outcome a after ≡ outcome b other → a ≡ b
+answers_apart a b e = sym (is_by a) ∙ ap (λ (n : ℕ). answer_by n (length_of a)) (same_number e) ∙ ap (answer_by (number_of b)) (same_len e) ∙ is_by b
 
 -- and so are numbers that stand for one
 pub numbers_apart : (n m : ℕ) {after other : List ℕ} → decoded n after ≡ decoded m other → n ≡ m

@@ -1,18 +1,18 @@
 // Parts of a layout, written into the area: coverages of glyphs that are noted in cells, and class tables of entries in cells.
 ghost use Rattle.std.specs.Prelude.{◌≡◌, true, ◌+◌, ◌-◌, ◌*◌, ◌%◌, ◌<◌, ◌≤◌, length, get_or, replicate, eqb};
 ghost use Rattle.meaning.specs.Words.{threes, keys, ascends};
-ghost use Rattle.meaning.specs.Layout.{indexed, coverageWords, runs, spread, classWords};
-ghost use Rattle.laws.specs.RunsLeft.{goesOn};
+ghost use Rattle.meaning.specs.Layout.{indexed, coverage_words, runs, spread, class_words};
+ghost use Rattle.laws.specs.RunsLeft.{goes_on};
 ghost use Rattle.laws.specs.Written.{Wrote};
 ghost use Rattle.area.specs.Extends.{Tried};
-ghost use Rattle.area.specs.Part.{news, notes, newAt, oldAt, classless, glyphRuns, CountsRuns, CountsClasses};
+ghost use Rattle.area.specs.Part.{news, notes, new_at, old_at, classless, glyph_runs, CountsRuns, CountsClasses};
 
 use area::{over, put, put_three, put_two};
 
 // The new number that a cell holds.
 fn new_in(t: &[u32], i: usize) -> usize
     requires { i < length t.now }
-    ensures { (result ≡ newAt t.now i) × (result < 65536) }
+    ensures { (result ≡ new_at t.now i) × (result < 65536) }
 {
     t[i] as usize % 65536
 }
@@ -20,7 +20,7 @@ fn new_in(t: &[u32], i: usize) -> usize
 // Whether the new number of the next cell is one more than that of the cell at `i`.
 fn neighbours(t: &[u32], i: usize) -> bool
     requires { i + 1 < length t.now }
-    ensures { result ≡ eqb (newAt t.now i + 1) (newAt t.now (i + 1)) }
+    ensures { result ≡ eqb (new_at t.now i + 1) (new_at t.now (i + 1)) }
 {
     new_in(t, i) + 1 == new_in(t, i + 1)
 }
@@ -44,7 +44,7 @@ fn count_runs(t: &[u32], at: usize, n: usize) -> usize
 // Whether the run that holds the i-th of these glyphs goes on with the next one.
 fn goes_on(t: &[u32], at: usize, n: usize, i: usize) -> bool
     requires { (at + n ≤ length t.now) × (i < n) }
-    ensures { result ≡ goesOn (newAt t.now (at + i)) 0 (classless (news t.now (at + (i + 1)) (n - (i + 1)))) }
+    ensures { result ≡ goes_on (new_at t.now (at + i)) 0 (classless (news t.now (at + (i + 1)) (n - (i + 1)))) }
 {
     if n <= i + 1 {
         return false;
@@ -68,8 +68,8 @@ fn put_glyphs(t: &[u32], at: usize, n: usize, area: &mut [u8], to: usize) -> usi
 
 // A range for each longest run of these glyphs, from `to` on, with the number of glyphs before it; the place after them.
 fn put_ranges(t: &[u32], at: usize, n: usize, area: &mut [u8], to: usize) -> usize
-    requires { (at + n ≤ length t.now) × (to + 6 * length (glyphRuns (news t.now at n)) ≤ length area.old) }
-    ensures { Wrote area.old to (threes (indexed 0 (glyphRuns (news t.now at n)))) area.new result }
+    requires { (at + n ≤ length t.now) × (to + 6 * length (glyph_runs (news t.now at n)) ≤ length area.old) }
+    ensures { Wrote area.old to (threes (indexed 0 (glyph_runs (news t.now at n)))) area.new result }
 {
     let mut p = to;
     let mut first = 0;
@@ -90,7 +90,7 @@ fn put_ranges(t: &[u32], at: usize, n: usize, area: &mut [u8], to: usize) -> usi
 // The coverage at `p` of the new glyphs of the `n` cells from `at` on, in the smaller format; the place after it.
 pub fn write_cover(t: &[u32], at: usize, n: usize, area: &mut [u8], p: usize) -> usize
     requires { (at + n ≤ length t.now) × (0 < n) × (p + 6 * n < 0x1_0000_0000_0000) }
-    ensures { Tried area.old p (coverageWords (news t.now at n)) area.new result }
+    ensures { Tried area.old p (coverage_words (news t.now at n)) area.new result }
 {
     let runs = count_runs(t, at, n);
     if n <= 3 * runs {
@@ -110,7 +110,7 @@ pub fn write_cover(t: &[u32], at: usize, n: usize, area: &mut [u8], p: usize) ->
 // The number before the new one that a cell holds: in a list of classes, the glyph.
 fn old_in(t: &[u32], i: usize) -> usize
     requires { i < length t.now }
-    ensures { (result ≡ oldAt t.now i) × (result < 65536) }
+    ensures { (result ≡ old_at t.now i) × (result < 65536) }
 {
     t[i] as usize / 65536
 }
@@ -142,7 +142,7 @@ fn class_runs(t: &[u32], at: usize, n: usize) -> usize
 // Whether the run of the i-th entry goes on with the next one.
 fn class_goes_on(t: &[u32], at: usize, n: usize, i: usize) -> bool
     requires { (at + n ≤ length t.now) × (i < n) }
-    ensures { result ≡ goesOn (oldAt t.now (at + i)) (newAt t.now (at + i)) (notes t.now (at + (i + 1)) (n - (i + 1))) }
+    ensures { result ≡ goes_on (old_at t.now (at + i)) (new_at t.now (at + i)) (notes t.now (at + (i + 1)) (n - (i + 1))) }
 {
     if n <= i + 1 {
         return false;
@@ -188,8 +188,8 @@ fn put_zeros(area: &mut [u8], to: usize, n: usize) -> usize
 
 // The class of each glyph from the first entry's to the last one's, from `to` on; the place after them.
 fn put_class_array(t: &[u32], at: usize, n: usize, area: &mut [u8], to: usize) -> usize
-    requires { (at + n ≤ length t.now) × (0 < n) × (to + 2 * length (spread (oldAt t.now at) (notes t.now at n)) ≤ length area.old) × (ascends (keys (notes t.now at n)) ≡ true) }
-    ensures { Wrote area.old to (spread (oldAt t.now at) (notes t.now at n)) area.new result }
+    requires { (at + n ≤ length t.now) × (0 < n) × (to + 2 * length (spread (old_at t.now at) (notes t.now at n)) ≤ length area.old) × (ascends (keys (notes t.now at n)) ≡ true) }
+    ensures { Wrote area.old to (spread (old_at t.now at) (notes t.now at n)) area.new result }
 {
     let mut p = to;
     let mut id = old_in(t, at);
@@ -207,7 +207,7 @@ fn put_class_array(t: &[u32], at: usize, n: usize, area: &mut [u8], to: usize) -
 // The class table at `p` of the `n` entries from `at` on, whose glyphs ascend, in the smaller format; the place after it.
 pub fn write_classes(t: &[u32], at: usize, n: usize, area: &mut [u8], p: usize) -> usize
     requires { (at + n ≤ length t.now) × (p + 6 * n < 0x1_0000_0000_0000) × (ascends (keys (notes t.now at n)) ≡ true) }
-    ensures { Tried area.old p (classWords (notes t.now at n)) area.new result }
+    ensures { Tried area.old p (class_words (notes t.now at n)) area.new result }
 {
     if n == 0 {
         if area.len() < p + 4 {

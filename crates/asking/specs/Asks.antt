@@ -6,10 +6,10 @@ use Rattle.asking.specs.declared.Asked.{Asked}
 use Rattle.asking.specs.declared.Asked.TheVariants.{Nothing, Instead, Rule}
 
 -- the answer that an enum of the code stands for, the records being in this source
-abbrev pub answerBy : List ℕ → Asked → Answer
-answerBy s Nothing = Answer.nothing
-answerBy s (Instead g) = Answer.instead g
-answerBy s (Rule n at len) = Answer.matched n (entries s at len)
+abbrev pub answer_by : List ℕ → Asked → Answer
+answer_by s Nothing = Answer.nothing
+answer_by s (Instead g) = Answer.instead g
+answer_by s (Rule n at len) = Answer.matched n (entries s at len)
 
 -- its numbers are small, and a glyph stands in the string
 abbrev pub Small : ℕ → ℕ → Asked → Type 0
@@ -19,7 +19,7 @@ Small place n (Rule k at len) = (k ≤ 65536) × (at < 0x1_0000_0000) × (len < 
 
 -- a tells what is answered
 pub record Asks (s : List ℕ) (place n : ℕ) (x : Answer) (a : Asked) : Type 0 where
-  pub says : answerBy s a ≡ x
+  pub says : answer_by s a ≡ x
   pub small : Small place n a
 
 -- a rule is one of a lookup in the list

@@ -3,9 +3,9 @@ ghost use Rattle.std.specs.Prelude.{◌≡◌, ◌/◌, ◌<◌, length};
 ghost use Rattle.meaning.specs.Words.{word, words};
 ghost use Rattle.meaning.specs.Tables.{table};
 ghost use Rattle.replaying.specs.Asking.{ask};
-ghost use Rattle.replaying.specs.Listed.{lookupsOf};
-ghost use Rattle.replaying.specs.Applying.{lookupAt};
-ghost use Rattle.lookup_list.specs.Ready.{Lookup, Ready, sourceAt};
+ghost use Rattle.replaying.specs.Listed.{lookups_of};
+ghost use Rattle.replaying.specs.Applying.{lookup_at};
+ghost use Rattle.lookup_list.specs.Ready.{Lookup, Ready, source_at};
 ghost use Rattle.asking.specs.Asks.{Asks, InList};
 
 use lookup_list::{long_at, part};
@@ -48,7 +48,7 @@ pub fn ask_at(
     place: usize,
 ) -> Asked
     requires { Ready list.now buffer.now × (n < 0x1_0000_0000) }
-    ensures { Asks (sourceAt list.now buffer.now lookup) place n (ask (lookupAt (lookupsOf list.now buffer.now) lookup) (words string.now 0 n) place) result × InList lookup (length list.now / 10) result }
+    ensures { Asks (source_at list.now buffer.now lookup) place n (ask (lookup_at (lookups_of list.now buffer.now) lookup) (words string.now 0 n) place) result × InList lookup (length list.now / 10) result }
 {
     if list.len() / 10 <= lookup {
         return Asked::Nothing;
@@ -67,7 +67,7 @@ pub fn ask_at(
 // The word at `at` in the bytes of a lookup of the list.
 pub fn source_word(list: &[u8], buffer: &[u8], lookup: usize, at: usize) -> usize
     requires { Ready list.now buffer.now × (lookup < length list.now / 10) }
-    ensures { (result ≡ word (sourceAt list.now buffer.now lookup) at) × (result < 65536) }
+    ensures { (result ≡ word (source_at list.now buffer.now lookup) at) × (result < 65536) }
 {
     let src = part(
         buffer,

@@ -2,16 +2,16 @@
 ghost use Rattle.std.specs.Prelude.{◌≡◌, true, [], ◌+◌, ◌≤◌, ◌<◌, length};
 ghost use Rattle.std.proofs.Math.Option.{none};
 ghost use Rattle.meaning.specs.Words.{word, ascends, keys};
-ghost use Rattle.meaning.specs.Maps.{mapEntries, glyphEntries};
-ghost use Rattle.meaning.specs.Fault.{headerFault, enough};
+ghost use Rattle.meaning.specs.Maps.{map_entries, glyph_entries};
+ghost use Rattle.meaning.specs.Fault.{header_fault, enough};
 ghost use Rattle.meaning.specs.Cut.{cut};
-ghost use Rattle.meaning.specs.Subset.{limit, writtenIn};
-ghost use Rattle.room.specs.Laid.{enoughArea};
+ghost use Rattle.meaning.specs.Subset.{limit, written_in};
+ghost use Rattle.room.specs.Laid.{enough_area};
 ghost use Rattle.glyph_runs.specs.Runs.{GlyphMap};
-ghost use Rattle.placed_sets.specs.Sorts.{setFaultOf};
+ghost use Rattle.placed_sets.specs.Sorts.{set_fault_of};
 ghost use Rattle.placed_sets.specs.declared.Sort.TheVariants.{Rules, Ligatures};
 ghost use Rattle.tried.specs.Tries.{Tries};
-ghost use Rattle.cut_sets.specs.Whole.{cellsMost, glyphContext, ligatureTable};
+ghost use Rattle.cut_sets.specs.Whole.{cells_most, glyph_context, ligature_table};
 
 use cut_sets::cut_sets;
 use fold_glyphs::lay_glyphs;
@@ -32,8 +32,8 @@ fn cut_ligatures(
     area: &mut [u8],
     out: &mut [u8],
 ) -> Tried
-    requires { (headerFault (enough src.now (word src.now 4)) 0 4 (setFaultOf Ligatures src.now) src.now ≡ none) × (length src.now ≤ limit) × GlyphMap marks.form glyphs.now × (length area.old ≤ enoughArea) }
-    ensures { Tries (length t.old < cellsMost) (length area.old < enoughArea) result out.old out.new (writtenIn marks.layout out.old (cut (glyphEntries marks.form glyphs.now) [] (ligatureTable src.now))) }
+    requires { (header_fault (enough src.now (word src.now 4)) 0 4 (set_fault_of Ligatures src.now) src.now ≡ none) × (length src.now ≤ limit) × GlyphMap marks.form glyphs.now × (length area.old ≤ enough_area) }
+    ensures { Tries (length t.old < cells_most) (length area.old < enough_area) result out.old out.new (written_in marks.layout out.old (cut (glyph_entries marks.form glyphs.now) [] (ligature_table src.now))) }
 {
     if word_inside(src, 2) == 0 {
         return Tried::Became(Laid::Nothing);
@@ -62,8 +62,8 @@ fn cut_contexts(
     area: &mut [u8],
     out: &mut [u8],
 ) -> Tried
-    requires { (headerFault (enough src.now (word src.now 4)) 0 4 (setFaultOf (Rules chained) src.now) src.now ≡ none) × (length src.now ≤ limit) × GlyphMap marks.form glyphs.now × (ascends (keys (mapEntries lookups.now)) ≡ true) × (length area.old ≤ enoughArea) }
-    ensures { Tries (length t.old < cellsMost) (length area.old < enoughArea) result out.old out.new (writtenIn marks.layout out.old (cut (glyphEntries marks.form glyphs.now) (mapEntries lookups.now) (glyphContext chained src.now))) }
+    requires { (header_fault (enough src.now (word src.now 4)) 0 4 (set_fault_of (Rules chained) src.now) src.now ≡ none) × (length src.now ≤ limit) × GlyphMap marks.form glyphs.now × (ascends (keys (map_entries lookups.now)) ≡ true) × (length area.old ≤ enough_area) }
+    ensures { Tries (length t.old < cells_most) (length area.old < enough_area) result out.old out.new (written_in marks.layout out.old (cut (glyph_entries marks.form glyphs.now) (map_entries lookups.now) (glyph_context chained src.now))) }
 {
     if word_inside(src, 2) == 0 {
         return Tried::Became(Laid::Nothing);
@@ -95,8 +95,8 @@ pub fn ligatures(
     area: &mut [u8],
     out: &mut [u8],
 ) -> Tried
-    requires { (headerFault (enough src.now (word src.now 4)) 0 4 (setFaultOf Ligatures src.now) src.now ≡ none) × (length src.now ≤ limit) × GlyphMap marks.form glyphs.now }
-    ensures { Tries (length t.old < cellsMost) (length area.old < enoughArea) result out.old out.new (writtenIn marks.layout out.old (cut (glyphEntries marks.form glyphs.now) [] (ligatureTable src.now))) }
+    requires { (header_fault (enough src.now (word src.now 4)) 0 4 (set_fault_of Ligatures src.now) src.now ≡ none) × (length src.now ≤ limit) × GlyphMap marks.form glyphs.now }
+    ensures { Tries (length t.old < cells_most) (length area.old < enough_area) result out.old out.new (written_in marks.layout out.old (cut (glyph_entries marks.form glyphs.now) [] (ligature_table src.now))) }
 {
     let bytes = least(area.len(), AREA);
     cut_ligatures(src, glyphs, marks, t, &mut area[..bytes], out)
@@ -113,8 +113,8 @@ pub fn contexts(
     area: &mut [u8],
     out: &mut [u8],
 ) -> Tried
-    requires { (headerFault (enough src.now (word src.now 4)) 0 4 (setFaultOf (Rules chained) src.now) src.now ≡ none) × (length src.now ≤ limit) × GlyphMap marks.form glyphs.now × (ascends (keys (mapEntries lookups.now)) ≡ true) }
-    ensures { Tries (length t.old < cellsMost) (length area.old < enoughArea) result out.old out.new (writtenIn marks.layout out.old (cut (glyphEntries marks.form glyphs.now) (mapEntries lookups.now) (glyphContext chained src.now))) }
+    requires { (header_fault (enough src.now (word src.now 4)) 0 4 (set_fault_of (Rules chained) src.now) src.now ≡ none) × (length src.now ≤ limit) × GlyphMap marks.form glyphs.now × (ascends (keys (map_entries lookups.now)) ≡ true) }
+    ensures { Tries (length t.old < cells_most) (length area.old < enough_area) result out.old out.new (written_in marks.layout out.old (cut (glyph_entries marks.form glyphs.now) (map_entries lookups.now) (glyph_context chained src.now))) }
 {
     let bytes = least(area.len(), AREA);
     cut_contexts(

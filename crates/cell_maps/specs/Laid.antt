@@ -10,8 +10,8 @@ use Rattle.std.specs.Int.Bits.{bit_and}
 use Rattle.std.proofs.lemmas.Nat.{and_mask}
 use borrow.Author.Tests.{ne_eqb, eqb-true, eqb-false, not-true, not-false}
 use Rattle.meaning.specs.Words.{find, is_some, ascends, keys}
-use Rattle.meaning.specs.Maps.{mapEntries}
-use Rattle.cell_maps.specs.Cells.{cell_of, cell_at, cellEntry, answer_in, folded, Odd, Holds, Kept, kept-all, kept_set, cell-inside, entry-folded, answer-own, answer-other}
+use Rattle.meaning.specs.Maps.{map_entries}
+use Rattle.cell_maps.specs.Cells.{cell_of, cell_at, cell_entry, answer_in, folded, Odd, Holds, Kept, kept_all, kept_set, cell_inside, entry_folded, answer_own, answer_other}
 use Rattle.cell_maps.specs.declared.Map.{Map}
 
 -- r is a power of two, 2 or more
@@ -39,8 +39,8 @@ pub record Added (t₀ t : List ℕ) (m : Map) (old new : ℕ) (r : Bool) : Type
 -- the cells after a listed map, if each entry had a cell of its own; with a cell for each number that is so
 pub record LaidIn (list t₀ t : List ℕ) (m : Map) (r : Bool) : Type 0 where
   pub kept : Kept m.at t₀ t
-  pub holds : r ≡ true → Holds t m (mapEntries list)
-  pub clash : r ≡ false → m.mask ≡ 65535 → ascends (keys (mapEntries list)) ≡ true → ⊥
+  pub holds : r ≡ true → Holds t m (map_entries list)
+  pub clash : r ≡ false → m.mask ≡ 65535 → ascends (keys (map_entries list)) ≡ true → ⊥
 
 -- The map m of a list that was laid into cells from `at` on: its mask is 0, or it is a folded table, and the cells hold the list's entries.
 -- If the old numbers ascend, the cells are at most 65,536, and there is room if there are so many.
@@ -48,14 +48,14 @@ pub record Laid (list t₀ t : List ℕ) (at : ℕ) (m : Map) : Type 0 where
   pub place : m.at ≡ at
   pub kept : Kept at t₀ t
   pub odd : (m.mask ≡ 0 → ⊥) → Odd m
-  pub holds : (m.mask ≡ 0 → ⊥) → Holds t m (mapEntries list)
-  pub few : ascends (keys (mapEntries list)) ≡ true → m.mask < 65536
-  pub room : at + 65536 ≤ length t₀ → ascends (keys (mapEntries list)) ≡ true → m.mask ≡ 0 → ⊥
+  pub holds : (m.mask ≡ 0 → ⊥) → Holds t m (map_entries list)
+  pub few : ascends (keys (map_entries list)) ≡ true → m.mask < 65536
+  pub room : at + 65536 ≤ length t₀ → ascends (keys (map_entries list)) ≡ true → m.mask ≡ 0 → ⊥
 
 -- Powers of two: twice one is the next; below 65,536 the next is at most that.
 -- what is below 2 ^ 16 has an exponent below 16
-small-exponent : (k : ℕ) → 2 ^ k < 65536 → k < 16
-small-exponent k h = step (dec_lt k 16)
+small_exponent : (k : ℕ) → 2 ^ k < 65536 → k < 16
+small_exponent k h = step (dec_lt k 16)
   where
     step : Dec (k < 16) → k < 16
     step (yes l) = l
@@ -68,61 +68,61 @@ small-exponent k h = step (dec_lt k 16)
             let f : 2 ^ k ≡ 65536 = ap (λ (j : ℕ). 2 ^ j) e in
             omega arith
 
-twice-near : (k : ℕ) → 2 ^ k < 65536 → 2 * 2 ^ k ≤ 65536
-twice-near k h = step (dec_lt k 15)
+twice_near : (k : ℕ) → 2 ^ k < 65536 → 2 * 2 ^ k ≤ 65536
+twice_near k h = step (dec_lt k 15)
   where
     step : Dec (k < 15) → 2 * 2 ^ k ≤ 65536
     step (yes l) =
         let g : 2 ^ k < 2 ^ 15 = pow-lt l in
         omega arith
     step (no l) =
-        let e : k ≡ 15 = omega (arith, small-exponent k h) in
+        let e : k ≡ 15 = omega (arith, small_exponent k h) in
         let f : 2 ^ k ≡ 32768 = ap (λ (j : ℕ). 2 ^ j) e in
         omega arith
 
-pub power-twice : {p : ℕ} → Power p → Power (2 * p)
-power-twice {p} w = record { exponent = suc w.exponent; power = omega (arith, w.power, pow-suc 2 (suc w.exponent)) }
+pub power_twice : {p : ℕ} → Power p → Power (2 * p)
+power_twice {p} w = record { exponent = suc w.exponent; power = omega (arith, w.power, pow-suc 2 (suc w.exponent)) }
 
-pub power-near : {p : ℕ} → Power p → p < 65536 → 2 * p ≤ 65536
-power-near w h = omega (arith, w.power, twice-near (suc w.exponent) (omega (arith, w.power)))
+pub power_near : {p : ℕ} → Power p → p < 65536 → 2 * p ≤ 65536
+power_near w h = omega (arith, w.power, twice_near (suc w.exponent) (omega (arith, w.power)))
 
 -- a power of two, 2 or more, is even
-pub power-even : {p : ℕ} → Power p → (p % 2 ≡ 0) × (2 ≤ p)
-power-even {p} w =
+pub power_even : {p : ℕ} → Power p → (p % 2 ≡ 0) × (2 ≤ p)
+power_even {p} w =
     let e : p ≡ 2 ^ w.exponent * 2 = w.power ∙ pow-suc 2 w.exponent in
     let g : 0 < 2 ^ w.exponent = pow_pos w.exponent in
     (omega arith, omega arith)
 
 -- in as many cells as a power of two, a number below it has its own
-pub own-cell : {p : ℕ} → Power p → (x : ℕ) → x < p → bit_and x (p - 1) ≡ x
-own-cell {p} w x h =
+pub own_cell : {p : ℕ} → Power p → (x : ℕ) → x < p → bit_and x (p - 1) ≡ x
+own_cell {p} w x h =
     let e : 2 ^ suc w.exponent - 1 ≡ p - 1 = ap (λ (q : ℕ). q - 1) (sym w.power) in
     ap (bit_and x) (sym e) ∙ and_mask x (suc w.exponent) ∙ mod-eq_of_lt (omega (arith, w.power))
 
 -- What is found when one entry more stands last.
-find-last : (es : List (ℕ × ℕ)) (old new x : ℕ) → find es x ≡ none → find (es ++ ((old, new) ∷ [])) x ≡ cond (eqb old x) (some new) none
+find_last : (es : List (ℕ × ℕ)) (old new x : ℕ) → find es x ≡ none → find (es ++ ((old, new) ∷ [])) x ≡ cond (eqb old x) (some new) none
 unfolding find
-find-last [] old new x h = refl
-find-last (e ∷ es) old new x h = step (eqb e.0 x) h (λ g. find-last es old new x g)
+find_last [] old new x h = refl
+find_last (e ∷ es) old new x h = step (eqb e.0 x) h (λ g. find_last es old new x g)
   where
     step : (b : Bool) → cond b (some e.1) (find es x) ≡ none → (find es x ≡ none → find (es ++ ((old, new) ∷ [])) x ≡ cond (eqb old x) (some new) none)
         → cond b (some e.1) (find (es ++ ((old, new) ∷ [])) x) ≡ cond (eqb old x) (some new) none
     step true h r = cc
     step false h r = r h
 
-find-before : (es : List (ℕ × ℕ)) (old new x : ℕ) → (old ≡ x → ⊥) → find (es ++ ((old, new) ∷ [])) x ≡ find es x
+find_before : (es : List (ℕ × ℕ)) (old new x : ℕ) → (old ≡ x → ⊥) → find (es ++ ((old, new) ∷ [])) x ≡ find es x
 unfolding find
-find-before [] old new x h = rw (ne_eqb old x h) refl
-find-before (e ∷ es) old new x h = ap (λ (o : Option ℕ). cond (eqb e.0 x) (some e.1) o) (find-before es old new x h)
+find_before [] old new x h = rw (ne_eqb old x h) refl
+find_before (e ∷ es) old new x h = ap (λ (o : Option ℕ). cond (eqb e.0 x) (some e.1) o) (find_before es old new x h)
 
 -- An entry more: its cell was free, so that no number of this cell was found.
 module _ {t : List ℕ} {m : Map} {es : List (ℕ × ℕ)} (d : Odd m) (o : Holds t m es) (old new : ℕ) (s : new < 65536) (f : taken t m old ≡ false) where
-  free-none : (x : ℕ) → bit_and x m.mask ≡ bit_and old m.mask → find es x ≡ none
+  free_none : (x : ℕ) → bit_and x m.mask ≡ bit_and old m.mask → find es x ≡ none
   unfolding taken
-  free-none x e =
+  free_none x e =
       let c : cell_of m x ≡ cell_of m old = ap (λ (i : ℕ). m.at + i) e in
       let v : cell_at t m x ≡ cell_at t m old = ap (λ (i : ℕ). get_or t i 0) c in
-      sym (o.answers x) ∙ ap (λ (w : ℕ). answer_in w x) (entry-folded t m d x) ∙ answer-other (cell_at t m x) x (λ n. eqb-false _ _ f (ap (λ (y : ℕ). bit_and y m.mask) (ap (λ (v : ℕ). v / 65536) (sym v) ∙ n) ∙ e))
+      sym (o.answers x) ∙ ap (λ (w : ℕ). answer_in w x) (entry_folded t m d x) ∙ answer_other (cell_at t m x) x (λ n. eqb-false _ _ f (ap (λ (y : ℕ). bit_and y m.mask) (ap (λ (v : ℕ). v / 65536) (sym v) ∙ n) ∙ e))
 
   pub holds_more : Holds (set t (cell_of m old) (old * 65536 + new)) m (es ++ ((old, new) ∷ []))
   holds_more = record {
@@ -133,23 +133,23 @@ module _ {t : List ℕ} {m : Map} {es : List (ℕ × ℕ)} (d : Odd m) (o : Hold
       here : (x : ℕ) (b : Bool) → eqb old x ≡ b → answer_in (old * 65536 + new) x ≡ cond b (some new) none
       here x true e =
           let r : (old * 65536 + new) % 65536 ≡ new = omega arith in
-          answer-own (old * 65536 + new) x (omega (arith, eqb-true old x e)) ∙ ap some r
+          answer_own (old * 65536 + new) x (omega (arith, eqb-true old x e)) ∙ ap some r
       here x false e =
           let q : (old * 65536 + new) / 65536 ≡ old = omega arith in
-          answer-other (old * 65536 + new) x (λ n. eqb-false old x e (sym q ∙ n))
+          answer_other (old * 65536 + new) x (λ n. eqb-false old x e (sym q ∙ n))
 
       step : (x : ℕ) (b : Bool) → eqb (bit_and x m.mask) (bit_and old m.mask) ≡ b → folded (set t (cell_of m old) (old * 65536 + new)) m x ≡ find (es ++ ((old, new) ∷ [])) x
       step x true e =
           let k : bit_and x m.mask ≡ bit_and old m.mask = eqb-true _ _ e in
           let c : cell_of m x ≡ cell_of m old = ap (λ (i : ℕ). m.at + i) k in
-          let v : cellEntry (set t (cell_of m old) (old * 65536 + new)) m x ≡ old * 65536 + new = entry-folded _ m d x ∙ ap (λ (i : ℕ). get_or (set t (cell_of m old) (old * 65536 + new)) i 0) c ∙ get_or-set_same t (cell_of m old) (old * 65536 + new) 0 (cell-inside o.inside old) in
-          ap (λ (v : ℕ). answer_in v x) v ∙ here x (eqb old x) refl ∙ sym (find-last es old new x (free-none x k))
+          let v : cell_entry (set t (cell_of m old) (old * 65536 + new)) m x ≡ old * 65536 + new = entry_folded _ m d x ∙ ap (λ (i : ℕ). get_or (set t (cell_of m old) (old * 65536 + new)) i 0) c ∙ get_or-set_same t (cell_of m old) (old * 65536 + new) 0 (cell_inside o.inside old) in
+          ap (λ (v : ℕ). answer_in v x) v ∙ here x (eqb old x) refl ∙ sym (find_last es old new x (free_none x k))
       step x false e =
           let k : bit_and x m.mask ≡ bit_and old m.mask → ⊥ = eqb-false _ _ e in
-          let v : cellEntry (set t (cell_of m old) (old * 65536 + new)) m x ≡ cellEntry t m x =
-          entry-folded _ m d x ∙ get_or-set_other t (cell_of m old) (cell_of m x) (old * 65536 + new) 0 (λ q. k (omega arith)) ∙ sym (entry-folded t m d x)
+          let v : cell_entry (set t (cell_of m old) (old * 65536 + new)) m x ≡ cell_entry t m x =
+          entry_folded _ m d x ∙ get_or-set_other t (cell_of m old) (cell_of m x) (old * 65536 + new) 0 (λ q. k (omega arith)) ∙ sym (entry_folded t m d x)
           in
-          ap (λ (v : ℕ). answer_in v x) v ∙ o.answers x ∙ sym (find-before es old new x (λ q. k (ap (λ (y : ℕ). bit_and y m.mask) (sym q))))
+          ap (λ (v : ℕ). answer_in v x) v ∙ o.answers x ∙ sym (find_before es old new x (λ q. k (ap (λ (y : ℕ). bit_and y m.mask) (sym q))))
 
 -- With a cell for each number, a cell that is taken holds the number itself.
 same_number : (k a b : ℕ) → k ≡ 65535 → a < 65536 → b < 65536 → bit_and a k ≡ bit_and b k → a ≡ b
@@ -158,30 +158,30 @@ same_number k a b e ha hb h =
     let g : a % 65536 ≡ b % 65536 = sym (and_mask a 16) ∙ f ∙ and_mask b 16 in
     omega arith
 
-some-none : {v : ℕ} → some v ≡ none → ⊥
+some_none : {v : ℕ} → some v ≡ none → ⊥
 unfolding is_some
-some-none h = true≢false (ap is_some h)
+some_none h = true≢false (ap is_some h)
 
-taken-found : {t : List ℕ} {m : Map} {es : List (ℕ × ℕ)} → Odd m → Holds t m es → (old : ℕ) → old < 65536 → cell_at t m old < 4294967296 → m.mask ≡ 65535 → taken t m old ≡ true → find es old ≡ none → ⊥
+taken_found : {t : List ℕ} {m : Map} {es : List (ℕ × ℕ)} → Odd m → Holds t m es → (old : ℕ) → old < 65536 → cell_at t m old < 4294967296 → m.mask ≡ 65535 → taken t m old ≡ true → find es old ≡ none → ⊥
 unfolding taken
-taken-found {t} {m} d o old s w e k n =
+taken_found {t} {m} d o old s w e k n =
     let q : cell_at t m old / 65536 ≡ old = same_number m.mask (cell_at t m old / 65536) old e (omega arith) s (eqb-true _ _ k) in
-    some-none (sym (answer-own (cell_at t m old) old q) ∙ ap (λ (v : ℕ). answer_in v old) (sym (entry-folded t m d old)) ∙ o.answers old ∙ n)
+    some_none (sym (answer_own (cell_at t m old) old q) ∙ ap (λ (v : ℕ). answer_in v old) (sym (entry_folded t m d old)) ∙ o.answers old ∙ n)
 
 -- What `add` says to its callers: the cells before the map stand; the entry is one more; and with a cell for each number only a number that is there already has no free one.
 module _ {t next : List ℕ} {m : Map} {old new : ℕ} {r : Bool} (a : Added t next m old new r) where
-  pub added-kept : Kept m.at t next
-  added-kept = step r a.cells
+  pub added_kept : Kept m.at t next
+  added_kept = step r a.cells
     where
       step : (b : Bool) → next ≡ cond b (set t (cell_of m old) (old * 65536 + new)) t → Kept m.at t next
       step true e = rw e (kept_set m.at t (cell_of m old) (old * 65536 + new) (omega arith))
-      step false e = rw e (kept-all m.at t)
+      step false e = rw e (kept_all m.at t)
 
   module _ {es : List (ℕ × ℕ)} (d : Odd m) (o : Holds t m es) where
-    pub added-holds : r ≡ true → new < 65536 → Holds next m (es ++ ((old, new) ∷ []))
-    added-holds e s =
+    pub added_holds : r ≡ true → new < 65536 → Holds next m (es ++ ((old, new) ∷ []))
+    added_holds e s =
         let f : next ≡ set t (cell_of m old) (old * 65536 + new) = rw e at a.cells in
         rw f (holds_more d o old new s (not-true (taken t m old) (sym a.free ∙ e)))
 
-    pub added-clash : r ≡ false → m.mask ≡ 65535 → old < 65536 → find es old ≡ none → ⊥
-    added-clash e k s n = taken-found d o old s a.small k (not-false (taken t m old) (sym a.free ∙ e)) n
+    pub added_clash : r ≡ false → m.mask ≡ 65535 → old < 65536 → find es old ≡ none → ⊥
+    added_clash e k s n = taken_found d o old s a.small k (not-false (taken t m old) (sym a.free ∙ e)) n

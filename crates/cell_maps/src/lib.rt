@@ -5,8 +5,8 @@
 // Ranks, with a mask of their own: marks of the old numbers, and counts of the marks (crate `ranks`). The new number is the rank, so that no entry takes a cell.
 // Runs of pairs in step, counted from 1, two cells each: the first old number times 65,536, plus the first new one, and the last old number. Halving finds the run of a number. The mask of n runs is 4 n + 2, which is never that of ranks.
 ghost use Rattle.std.specs.Prelude.{◌≡◌, ◌+◌, ◌*◌, ◌/◌, ◌<◌, ◌≤◌, length};
-ghost use Rattle.ranks.specs.Ranks.{markCells};
-ghost use Rattle.cell_maps.specs.Cells.{Inside, noEntry, runEntry, rankEntry, evenEntry, RunFound};
+ghost use Rattle.ranks.specs.Ranks.{mark_cells};
+ghost use Rattle.cell_maps.specs.Cells.{Inside, no_entry, run_entry, rank_entry, even_entry, RunFound};
 
 use bits::has_bit;
 use ranks::rank;
@@ -23,7 +23,7 @@ pub const RANKED: usize = 2 * ranks::CELLS;
 
 // An entry of another number than `old`.
 fn no_entry(old: usize) -> usize
-    ensures { (result ≡ noEntry old) × (result < 0x1_0000_0000) }
+    ensures { (result ≡ no_entry old) × (result < 0x1_0000_0000) }
 {
     if old == 0 {
         return 65536;
@@ -53,7 +53,7 @@ fn last_run(t: &[u32], m: Map, old: usize) -> usize
 // What the run `k` says of `old`: its entry, or one of another number if the run ends before it, and if `k` is 0.
 fn run_entry(t: &[u32], at: usize, k: usize, old: usize) -> usize
     requires { (k ≡ 0 → ⊥) → at + 2 * k + 1 < length t.now }
-    ensures { (result ≡ runEntry t.now at k old) × (result < 0x1_0000_0000) }
+    ensures { (result ≡ run_entry t.now at k old) × (result < 0x1_0000_0000) }
 {
     if k == 0 {
         return no_entry(old);
@@ -68,8 +68,8 @@ fn run_entry(t: &[u32], at: usize, k: usize, old: usize) -> usize
 
 // What ranks say of `old`: its entry, or one of another number if `old` is not marked.
 fn rank_entry(t: &[u32], at: usize, old: usize) -> usize
-    requires { at + 2 * markCells ≤ length t.now }
-    ensures { (result ≡ rankEntry t.now at old) × (result < 0x1_0000_0000) }
+    requires { at + 2 * mark_cells ≤ length t.now }
+    ensures { (result ≡ rank_entry t.now at old) × (result < 0x1_0000_0000) }
 {
     if 65535 < old {
         return no_entry(old);
@@ -83,7 +83,7 @@ fn rank_entry(t: &[u32], at: usize, old: usize) -> usize
 // What the cells of a map with an even mask hold for `old`.
 pub fn even_entry(t: &[u32], m: Map, old: usize) -> usize
     requires { Inside t.now m }
-    ensures { (result ≡ evenEntry t.now m old) × (result < 0x1_0000_0000) }
+    ensures { (result ≡ even_entry t.now m old) × (result < 0x1_0000_0000) }
 {
     if m.mask == RANKED {
         return rank_entry(t, m.at, old);

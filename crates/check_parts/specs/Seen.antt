@@ -7,5 +7,5 @@ use Rattle.faults.specs.declared.Fault.{Fault}
 use Rattle.bits.specs.Bits.{marked}
 
 -- the fault of a part whose place has a mark is no lower than the lowest so far
-pub record Seen (faultAt : ℕ → Option ℕ) (low : Fault) (marks : List ℕ) : Type 0 where
-  pub counted : (p : ℕ) → marked marks 0 p ≡ true → lowest (place_of low) (faultAt p) ≡ place_of low
+pub record Seen (fault_at : ℕ → Option ℕ) (low : Fault) (marks : List ℕ) : Type 0 where
+  pub counted : (p : ℕ) → marked marks 0 p ≡ true → lowest (place_of low) (fault_at p) ≡ place_of low

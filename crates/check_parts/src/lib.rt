@@ -1,12 +1,12 @@
 // The parts that a header reaches by offsets: each is checked, and one that is reached twice is checked once.
 ghost use Rattle.std.specs.Prelude.{◌≡◌, true, ◌+◌, ◌*◌, ◌<◌};
 ghost use Rattle.std.proofs.Math.Option.{none};
-ghost use Rattle.meaning.specs.Fault.{lowest, faultThrough, enough};
-ghost use Rattle.faults.specs.Fault.{faultOf, place_of};
+ghost use Rattle.meaning.specs.Fault.{lowest, fault_through, enough};
+ghost use Rattle.faults.specs.Fault.{fault_of, place_of};
 ghost use Rattle.faults.specs.declared.Fault.TheVariants.{Sound};
 ghost use Rattle.gsubgpos.specs.Marks.{Marked};
 ghost use Rattle.check_parts.specs.Seen.{Seen};
-ghost use Rattle.check_parts.specs.Parts.{faultOfPart, memberOfPart};
+ghost use Rattle.check_parts.specs.Parts.{fault_of_part, member_of_part};
 
 use bits::{has_bit, put_bit};
 use faults::{Fault, found_before, lowest};
@@ -31,8 +31,8 @@ pub enum Part {
 
 // The lowest fault of the part at `at`, and of what it reaches. The value formats of pairs stand in the header. `sound` has marks of its members that were found sound.
 fn check_part(part: Part, src: &[u8], at: usize, sound: &mut [u32]) -> Fault
-    requires { (at < 65536) × Marked (memberOfPart part src.now) none sound.old }
-    ensures { (result ≡ faultOf (faultOfPart part src.now at)) × Marked (memberOfPart part src.now) none sound.new }
+    requires { (at < 65536) × Marked (member_of_part part src.now) none sound.old }
+    ensures { (result ≡ fault_of (fault_of_part part src.now at)) × Marked (member_of_part part src.now) none sound.new }
 {
     match part {
         Part::Coverage => coverage::check(src, at),
@@ -54,8 +54,8 @@ fn check_once(
     marks: &mut [u32],
     sound: &mut [u32],
 ) -> Fault
-    requires { (at < 65536) × Seen (faultOfPart part src.now) low marks.old × Marked (memberOfPart part src.now) none sound.old }
-    ensures { (result ≡ faultOf (lowest (place_of low) (faultOfPart part src.now at))) × Seen (faultOfPart part src.now) result marks.new × Marked (memberOfPart part src.now) none sound.new }
+    requires { (at < 65536) × Seen (fault_of_part part src.now) low marks.old × Marked (member_of_part part src.now) none sound.old }
+    ensures { (result ≡ fault_of (lowest (place_of low) (fault_of_part part src.now at))) × Seen (fault_of_part part src.now) result marks.new × Marked (member_of_part part src.now) none sound.new }
 {
     if has_bit(marks, 0, at) {
         return low;
@@ -77,8 +77,8 @@ fn check_each(
     marks: &mut [u32],
     sound: &mut [u32],
 ) -> Fault
-    requires { (slot + 2 * n < 0x1_0000_0000_0000) × Seen (faultOfPart part src.now) Sound marks.old × Marked (memberOfPart part src.now) none sound.old }
-    ensures { result ≡ faultOf (faultThrough (faultOfPart part src.now) src.now 0 slot n) }
+    requires { (slot + 2 * n < 0x1_0000_0000_0000) × Seen (fault_of_part part src.now) Sound marks.old × Marked (member_of_part part src.now) none sound.old }
+    ensures { result ≡ fault_of (fault_through (fault_of_part part src.now) src.now 0 slot n) }
 {
     let mut low = Fault::Sound;
     let mut i = 0;
@@ -96,7 +96,7 @@ fn check_each(
 // The same with a mark for each place that an offset can lead to. It calls itself as `shared_within` does.
 fn check_shared(part: Part, src: &[u8], slot: usize, n: usize, rounds: usize) -> Fault
     requires { slot + 2 * n < 0x1_0000_0000_0000 }
-    ensures { result ≡ faultOf (faultThrough (faultOfPart part src.now) src.now 0 slot n) }
+    ensures { result ≡ fault_of (fault_through (fault_of_part part src.now) src.now 0 slot n) }
 {
     if rounds != 0 {
         return check_shared(part, src, slot, n, rounds - 1);
@@ -109,7 +109,7 @@ fn check_shared(part: Part, src: &[u8], slot: usize, n: usize, rounds: usize) ->
 // The same of any offsets. Marks are made only where there are many, since clearing them takes longer than most tables do.
 pub fn check_through(part: Part, src: &[u8], slot: usize, n: usize) -> Fault
     requires { slot + 2 * n < 0x1_0000_0000_0000 }
-    ensures { result ≡ faultOf (faultThrough (faultOfPart part src.now) src.now 0 slot n) }
+    ensures { result ≡ fault_of (fault_through (fault_of_part part src.now) src.now 0 slot n) }
 {
     if MANY <= n {
         return check_shared(part, src, slot, n, slot % 2);

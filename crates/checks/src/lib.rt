@@ -1,10 +1,10 @@
 // Malformed, over the whole source: the header of each kind and format, and through its offsets every part, retained or not. And a format that the kind has not.
 ghost use Rattle.std.specs.Prelude.{◌≡◌, true, false, ◌&&◌, not, ◌+◌, ◌*◌, ◌<◌};
 ghost use Rattle.meaning.specs.Words.{word, inside};
-ghost use Rattle.meaning.specs.Subset.{lastFormat, hasFormat};
-ghost use Rattle.meaning.specs.Fault.{lowest, headerFault, coversFault, contextFault, pairFault, fault};
-ghost use Rattle.faults.specs.Fault.{faultOf};
-ghost use Rattle.check_parts.specs.Parts.{faultOfPart, byGlyphFault, byClassFault, ligaturesFault, pairFields, glyphPairsFault, classPairsFault};
+ghost use Rattle.meaning.specs.Subset.{last_format, has_format};
+ghost use Rattle.meaning.specs.Fault.{lowest, header_fault, covers_fault, context_fault, pair_fault, fault};
+ghost use Rattle.faults.specs.Fault.{fault_of};
+ghost use Rattle.check_parts.specs.Parts.{fault_of_part, by_glyph_fault, by_class_fault, ligatures_fault, pair_fields, glyph_pairs_fault, class_pairs_fault};
 
 use check_parts::{Part, check_through, enough_sets};
 use class_counts::{good_formats, good_header};
@@ -14,7 +14,7 @@ use wire::{inside, word_at};
 
 // The last format of a kind: 3 for contexts, 1 for ligatures, 2 for pairs and single substitutions.
 fn last_format(kind: usize) -> usize
-    ensures { result ≡ lastFormat kind }
+    ensures { result ≡ last_format kind }
 {
     if kind <= 2 {
         return 3;
@@ -27,7 +27,7 @@ fn last_format(kind: usize) -> usize
 
 // Whether the kind has this format: from 1 to its last.
 fn has_format(kind: usize, format: usize) -> bool
-    ensures { result ≡ hasFormat kind format }
+    ensures { result ≡ has_format kind format }
 {
     if format < 1 {
         return false;
@@ -37,7 +37,7 @@ fn has_format(kind: usize, format: usize) -> bool
 
 // Whether the first two bytes stand and hold a format the kind hasn't.
 pub fn other_format(kind: usize, src: &[u8]) -> bool
-    ensures { result ≡ inside src.now 0 2 && not (hasFormat kind (word src.now 0)) }
+    ensures { result ≡ inside src.now 0 2 && not (has_format kind (word src.now 0)) }
 {
     if !inside(src, 0, 2) {
         return false;
@@ -49,7 +49,7 @@ pub fn other_format(kind: usize, src: &[u8]) -> bool
 // `good` says whether the header's other fields are.
 fn check_header(src: &[u8], good: bool, tables: usize, slot: usize, part: Part) -> Fault
     requires { (tables < 4) × (slot < 16) }
-    ensures { result ≡ faultOf (headerFault good tables slot (faultOfPart part src.now) src.now) }
+    ensures { result ≡ fault_of (header_fault good tables slot (fault_of_part part src.now) src.now) }
 {
     if !inside(src, 0, slot + 2) {
         return Fault::At(0);
@@ -69,7 +69,7 @@ fn check_header(src: &[u8], good: bool, tables: usize, slot: usize, part: Part) 
 
 // Format 3 of a plain context: the counts first, then the coverages' offsets and the records.
 fn check_plain_covers(src: &[u8]) -> Fault
-    ensures { result ≡ faultOf (coversFault false src.now) }
+    ensures { result ≡ fault_of (covers_fault false src.now) }
 {
     if !inside(src, 0, 6) {
         return Fault::At(0);
@@ -83,7 +83,7 @@ fn check_plain_covers(src: &[u8]) -> Fault
 
 // Format 3 of a chained context: each count before its array.
 fn check_chained_covers(src: &[u8]) -> Fault
-    ensures { result ≡ faultOf (coversFault true src.now) }
+    ensures { result ≡ fault_of (covers_fault true src.now) }
 {
     let b = word_at(src, 2);
     let input = 4 + 2 * b;
@@ -103,7 +103,7 @@ fn check_chained_covers(src: &[u8]) -> Fault
 
 // Format 3, plain or chained.
 fn check_covers(chained: bool, src: &[u8]) -> Fault
-    ensures { result ≡ faultOf (coversFault chained src.now) }
+    ensures { result ≡ fault_of (covers_fault chained src.now) }
 {
     if chained {
         return check_chained_covers(src);
@@ -113,7 +113,7 @@ fn check_covers(chained: bool, src: &[u8]) -> Fault
 
 // Format 2: a chained context has three class tables, a plain one has one.
 fn check_by_class(chained: bool, src: &[u8]) -> Fault
-    ensures { result ≡ faultOf (byClassFault chained src.now) }
+    ensures { result ≡ fault_of (by_class_fault chained src.now) }
 {
     if chained {
         return check_header(src, true, 3, 10, Part::ChainedRules);
@@ -123,7 +123,7 @@ fn check_by_class(chained: bool, src: &[u8]) -> Fault
 
 // Format 1: a set for each covered glyph.
 fn check_by_glyph(chained: bool, src: &[u8]) -> Fault
-    ensures { result ≡ faultOf (byGlyphFault chained src.now) }
+    ensures { result ≡ fault_of (by_glyph_fault chained src.now) }
 {
     let good = enough_sets(src, header(src, 4));
     if chained {
@@ -134,7 +134,7 @@ fn check_by_glyph(chained: bool, src: &[u8]) -> Fault
 
 // A context, plain or chained, by its format.
 fn check_context(chained: bool, src: &[u8]) -> Fault
-    ensures { result ≡ faultOf (contextFault chained src.now) }
+    ensures { result ≡ fault_of (context_fault chained src.now) }
 {
     let format = header(src, 0);
     match format {
@@ -146,28 +146,28 @@ fn check_context(chained: bool, src: &[u8]) -> Fault
 
 // A ligature table.
 fn check_ligatures(src: &[u8]) -> Fault
-    ensures { result ≡ faultOf (ligaturesFault src.now) }
+    ensures { result ≡ fault_of (ligatures_fault src.now) }
 {
     check_header(src, enough_sets(src, header(src, 4)), 0, 4, Part::Ligatures)
 }
 
 // Whether the bits 0xFF00 of both value formats are zero, and there is a set for each covered glyph.
 fn pair_fields(src: &[u8]) -> bool
-    ensures { result ≡ pairFields src.now }
+    ensures { result ≡ pair_fields src.now }
 {
     good_formats(src) && enough_sets(src, header(src, 8))
 }
 
 // Pairs by glyph.
 fn check_glyph_pairs(src: &[u8]) -> Fault
-    ensures { result ≡ faultOf (glyphPairsFault src.now) }
+    ensures { result ≡ fault_of (glyph_pairs_fault src.now) }
 {
     check_header(src, pair_fields(src), 0, 8, Part::Pairs)
 }
 
 // Pairs by class: the header with its cells, then coverage and class tables.
 fn check_class_pairs(src: &[u8]) -> Fault
-    ensures { result ≡ faultOf (classPairsFault src.now) }
+    ensures { result ≡ fault_of (class_pairs_fault src.now) }
 {
     if !good_header(src) {
         return Fault::At(0);
@@ -179,7 +179,7 @@ fn check_class_pairs(src: &[u8]) -> Fault
 
 // A pair table, by its format.
 fn check_pairs(src: &[u8]) -> Fault
-    ensures { result ≡ faultOf (pairFault src.now) }
+    ensures { result ≡ fault_of (pair_fault src.now) }
 {
     if header(src, 0) == 1 {
         return check_glyph_pairs(src);
@@ -189,7 +189,7 @@ fn check_pairs(src: &[u8]) -> Fault
 
 // Where the lowest faulty part of a source of this kind starts, or that it is sound: 1 context, 2 chained, 3 ligature, 4 pair, and single substitution for any other.
 pub fn check(kind: usize, src: &[u8]) -> Fault
-    ensures { result ≡ faultOf (fault kind src.now) }
+    ensures { result ≡ fault_of (fault kind src.now) }
 {
     if !inside(src, 0, 2) {
         return Fault::At(0);

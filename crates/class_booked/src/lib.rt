@@ -1,10 +1,10 @@
 // Format 2 of contexts and chained contexts, written into the area and handed over by a given book: with cells it packs the repeats, without any it does not.
 ghost use Rattle.std.specs.Prelude.{◌≡◌, true, ◌+◌, ◌*◌, ◌<◌, length};
-ghost use Rattle.room.specs.Laid.{enoughArea};
+ghost use Rattle.room.specs.Laid.{enough_area};
 ghost use Rattle.member_sets.specs.Dead.{Dead};
-ghost use Rattle.kept_rules.specs.Left.{mapsIn, ruleLeft};
+ghost use Rattle.kept_rules.specs.Left.{maps_in, rule_left};
 ghost use Rattle.tried.specs.Tries.{Tries};
-ghost use Rattle.class_finish.specs.Written.{BookFor, Writes, leftInto};
+ghost use Rattle.class_finish.specs.Written.{BookFor, Writes, left_into};
 
 use class_finish::{Prepared, finish, no_room};
 use class_slots::write_slots;
@@ -25,8 +25,8 @@ pub fn write_booked(
     book: &mut [u32],
     out: &mut [u8],
 ) -> Tried
-    requires { Writes src.now glyphs.now t.old prepared area.old × Dead (ruleLeft prepared.tail.chained (mapsIn t.old prepared.maps) src.now) dead.old × BookFor prepared.packing book.old }
-    ensures { Tries ⊥ (length area.old < enoughArea) result out.old out.new (leftInto out.old src.now glyphs.now t.old prepared) }
+    requires { Writes src.now glyphs.now t.old prepared area.old × Dead (rule_left prepared.tail.chained (maps_in t.old prepared.maps) src.now) dead.old × BookFor prepared.packing book.old }
+    ensures { Tries ⊥ (length area.old < enough_area) result out.old out.new (left_into out.old src.now glyphs.now t.old prepared) }
 {
     let chained = prepared.tail.chained;
     let marks = prepared.marks;
@@ -62,8 +62,8 @@ pub fn write_packed(
     area: &mut [u8],
     out: &mut [u8],
 ) -> Tried
-    requires { Writes src.now glyphs.now t.old prepared area.old × Dead (ruleLeft prepared.tail.chained (mapsIn t.old prepared.maps) src.now) dead.old × (prepared.packing ≡ 1) }
-    ensures { Tries ⊥ (length area.old < enoughArea) result out.old out.new (leftInto out.old src.now glyphs.now t.old prepared) }
+    requires { Writes src.now glyphs.now t.old prepared area.old × Dead (rule_left prepared.tail.chained (maps_in t.old prepared.maps) src.now) dead.old × (prepared.packing ≡ 1) }
+    ensures { Tries ⊥ (length area.old < enough_area) result out.old out.new (left_into out.old src.now glyphs.now t.old prepared) }
 {
     if rounds != 0 {
         return write_packed(src, glyphs, t, prepared, dead, rounds - 1, area, out);

@@ -3,10 +3,10 @@ ghost use Rattle.std.specs.Prelude.{map, ◌+◌, ◌*◌, ◌≤◌, length};
 ghost use Rattle.meaning.specs.Words.{word, find};
 ghost use Rattle.cell_maps.specs.Cells.{Inside};
 ghost use Rattle.area.specs.Extends.{Tried};
-ghost use Rattle.numbers.specs.Entries.{entriesIn};
+ghost use Rattle.numbers.specs.Entries.{entries_in};
 ghost use Rattle.pair_fields.specs.Pairs.{value_at, Places, Reads};
-ghost use Rattle.class_formats.specs.Cells.{ifKept, rowLeft, cellsLeft, HasRow, HasCells};
-ghost use Rattle.class_formats.specs.Kept.{AsksCells, AsksRows, keptCells};
+ghost use Rattle.class_formats.specs.Cells.{if_kept, row_left, cells_left, HasRow, HasCells};
+ghost use Rattle.class_formats.specs.Kept.{AsksCells, AsksRows, kept_cells};
 
 use area::over;
 use cell_maps::Map;
@@ -27,7 +27,7 @@ fn write_cell(
     pos: usize,
 ) -> usize
     requires { Reads src.now p places.now × Inside t.now seconds × (pos ≤ length area.old) }
-    ensures { Tried area.old pos (ifKept (find (entriesIn t.now seconds) c) (map (value_at src.now p) places.now)) area.new result }
+    ensures { Tried area.old pos (if_kept (find (entries_in t.now seconds) c) (map (value_at src.now p) places.now)) area.new result }
 {
     let Found::New(_) = find(t, seconds, c) else {
         return pos;
@@ -50,7 +50,7 @@ fn write_row(
     pos: usize,
 ) -> usize
     requires { HasRow src.now size p × Places places.now (size + 2) × Inside t.now seconds × (pos ≤ length area.old) }
-    ensures { Tried area.old pos (rowLeft (entriesIn t.now seconds) src.now size places.now 0 p (word src.now 14)) area.new result }
+    ensures { Tried area.old pos (row_left (entries_in t.now seconds) src.now size places.now 0 p (word src.now 14)) area.new result }
 {
     let n = word_inside(src, 14);
     let mut q = pos;
@@ -79,7 +79,7 @@ fn write_rows(
     pos: usize,
 ) -> usize
     requires { HasCells src.now size × Places places.now (size + 2) × Inside t.now firsts × Inside t.now seconds × (pos ≤ length area.old) }
-    ensures { Tried area.old pos (cellsLeft (entriesIn t.now firsts) (entriesIn t.now seconds) src.now size places.now) area.new result }
+    ensures { Tried area.old pos (cells_left (entries_in t.now firsts) (entries_in t.now seconds) src.now size places.now) area.new result }
 {
     if places.len() == 0 {
         return pos;
@@ -113,7 +113,7 @@ pub fn write_cells(
     pos: usize,
 ) -> usize
     requires { AsksCells src.now t.now firsts seconds × AsksRows src.now f × (pos ≤ length area.old) }
-    ensures { Tried area.old pos (keptCells (entriesIn t.now firsts) (entriesIn t.now seconds) src.now f.n1 f.n2) area.new result }
+    ensures { Tried area.old pos (kept_cells (entries_in t.now firsts) (entries_in t.now seconds) src.now f.n1 f.n2) area.new result }
 {
     let mut places = [0u32; 8];
     let k = kept_places(f.f1, f.f2, f.n1, f.n2, &mut places);

@@ -1,12 +1,12 @@
 // Format 2 of contexts and chained contexts: a coverage, class tables and sets of rules by class; cut in one walk, from the source into the area.
 ghost use Rattle.std.specs.Prelude.{◌≤◌, ◌<◌, length};
-ghost use Rattle.meaning.specs.Maps.{mapEntries, glyphEntries};
-ghost use Rattle.meaning.specs.Tables.{classContext};
+ghost use Rattle.meaning.specs.Maps.{map_entries, glyph_entries};
+ghost use Rattle.meaning.specs.Tables.{class_context};
 ghost use Rattle.meaning.specs.Cut.{cut};
-ghost use Rattle.meaning.specs.Subset.{writtenIn};
-ghost use Rattle.room.specs.Laid.{enoughArea};
+ghost use Rattle.meaning.specs.Subset.{written_in};
+ghost use Rattle.room.specs.Laid.{enough_area};
 ghost use Rattle.tried.specs.Tries.{Tries};
-ghost use Rattle.context_classes.specs.Cutting.{enoughCells, Sound, Behind, Covers, NotesCovered, Cuts};
+ghost use Rattle.context_classes.specs.Cutting.{enough_cells, Sound, Behind, Covers, NotesCovered, Cuts};
 
 use class_layouts::write_left;
 use class_lists::greater;
@@ -36,7 +36,7 @@ fn cut_noted(
     out: &mut [u8],
 ) -> Tried
     requires { Cuts src.now glyphs.now lookups.now begun t.old area.old }
-    ensures { Tries (length t.old < enoughCells) (length area.old < enoughArea) result out.old out.new (writtenIn begun.marks.layout out.old (cut (glyphEntries begun.marks.form glyphs.now) (mapEntries lookups.now) (classContext begun.chained src.now))) }
+    ensures { Tries (length t.old < enough_cells) (length area.old < enough_area) result out.old out.new (written_in begun.marks.layout out.old (cut (glyph_entries begun.marks.form glyphs.now) (map_entries lookups.now) (class_context begun.chained src.now))) }
 {
     let classed = lay_classes(begun, src, glyphs, t);
     if classed.input.map.mask == 0 {
@@ -72,7 +72,7 @@ fn notes_at(mask: usize, lookups: &[u8], all: usize) -> usize
 // The retained covered glyphs, noted in cells behind those that the glyph map takes, and then others in its place. The place is 0 where there are too few cells.
 fn note_covered(src: &[u8], glyphs: &[u8], form: usize, lookups: &[u8], t: &mut [u32]) -> Noted
     requires { Covers src.now form glyphs.now }
-    ensures { NotesCovered src.now (glyphEntries form glyphs.now) t.old t.new result }
+    ensures { NotesCovered src.now (glyph_entries form glyphs.now) t.old t.new result }
 {
     let m = lay_glyphs(glyphs, form, t, 0);
     if m.mask == 0 {
@@ -99,7 +99,7 @@ fn cut_in(
     out: &mut [u8],
 ) -> Tried
     requires { Sound chained src.now marks.form glyphs.now lookups.now × (length t.old ≤ 0x1_0000_0000) × (length area.old ≤ 0x1_0000_0000) }
-    ensures { Tries (length t.old < enoughCells) (length area.old < enoughArea) result out.old out.new (writtenIn marks.layout out.old (cut (glyphEntries marks.form glyphs.now) (mapEntries lookups.now) (classContext chained src.now))) }
+    ensures { Tries (length t.old < enough_cells) (length area.old < enough_area) result out.old out.new (written_in marks.layout out.old (cut (glyph_entries marks.form glyphs.now) (map_entries lookups.now) (class_context chained src.now))) }
 {
     if word_at(src, 2) == 0 {
         return Tried::Became(Laid::Nothing);
@@ -134,7 +134,7 @@ pub fn by_class(
     out: &mut [u8],
 ) -> Tried
     requires { Sound chained src.now marks.form glyphs.now lookups.now }
-    ensures { Tries (length t.old < enoughCells) (length area.old < enoughArea) result out.old out.new (writtenIn marks.layout out.old (cut (glyphEntries marks.form glyphs.now) (mapEntries lookups.now) (classContext chained src.now))) }
+    ensures { Tries (length t.old < enough_cells) (length area.old < enough_area) result out.old out.new (written_in marks.layout out.old (cut (glyph_entries marks.form glyphs.now) (map_entries lookups.now) (class_context chained src.now))) }
 {
     let cells = least(t.len(), CELLS);
     let bytes = least(area.len(), AREA);

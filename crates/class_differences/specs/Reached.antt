@@ -6,11 +6,11 @@ use Rattle.meaning.specs.Words.{word, bind}
 use Rattle.meaning.specs.Fault.{fault}
 use Rattle.coverage_index.specs.Index.{index_of}
 use Rattle.differences.specs.Entries.{beside}
-use Rattle.first_glyphs.specs.First.{coverOf, soundCover}
+use Rattle.first_glyphs.specs.First.{cover_of, sound_cover}
 use Rattle.rule_says.specs.declared.Shape.{Shape}
-use Rattle.gathered.specs.Gathered.{numbersAt}
+use Rattle.gathered.specs.Gathered.{numbers_at}
 use Rattle.class_stretches.specs.Tables.{NullOrSound}
-use Rattle.class_tables.specs.Contexts.{input_at, countAt, setPlace}
+use Rattle.class_tables.specs.Contexts.{input_at, count_at, set_place}
 
 -- a sound context by class, plain or chained
 pub record ByClass (chained : Bool) (s : List ℕ) : Type 0 where
@@ -23,22 +23,22 @@ shape_of chained = record { kind = cond chained 2 1; classes = 1 }
 
 -- where the offsets of its sets stand
 abbrev pub slot_at : Bool → ℕ
-slot_at chained = countAt chained + 2
+slot_at chained = count_at chained + 2
 
 -- each covered glyph with the numbers of the rules that it reaches
-unfoldable pub numbersBy : Bool → List ℕ → List ℕ → ℕ → List (ℕ × List ℕ)
-numbersBy chained num s side = map (λ g. (g, numbersAt num s side (setPlace chained s g))) (coverOf s)
+unfoldable pub numbers_by : Bool → List ℕ → List ℕ → ℕ → List (ℕ × List ℕ)
+numbers_by chained num s side = map (λ g. (g, numbers_at num s side (set_place chained s g))) (cover_of s)
 
 -- What is known of a sound context by class: its coverage and its input's class table are sound.
 pub record ClassTable (chained : Bool) (s : List ℕ) : Type 0 where
-  pub cover : soundCover s ≡ true
+  pub cover : sound_cover s ≡ true
   pub input : NullOrSound s (input_at chained s)
 
 -- what stands beside a covered glyph, where f says it of each
-pub by-glyph : {B : Type 0} (f : ℕ → B) (cov : List ℕ) (g : ℕ) → beside (map (λ c. (c, f c)) cov) g ≡ bind (index_of cov g) (λ i. some (f g))
+pub by_glyph : {B : Type 0} (f : ℕ → B) (cov : List ℕ) (g : ℕ) → beside (map (λ c. (c, f c)) cov) g ≡ bind (index_of cov g) (λ i. some (f g))
 unfolding beside index_of bind
-by-glyph f [] g = refl
-by-glyph {B} f (c ∷ cov) g = step (eqb c g) refl (index_of cov g) (by-glyph f cov g)
+by_glyph f [] g = refl
+by_glyph {B} f (c ∷ cov) g = step (eqb c g) refl (index_of cov g) (by_glyph f cov g)
   where
     step : (b : Bool) → eqb c g ≡ b → (o : Option ℕ) → beside (map (λ c. (c, f c)) cov) g ≡ bind o (λ i. some (f g))
         → cond b (some (f c)) (beside (map (λ c. (c, f c)) cov) g) ≡ bind (cond b (some 0) (bind o (λ i. some (suc i)))) (λ i. some (f g))
@@ -47,6 +47,6 @@ by-glyph {B} f (c ∷ cov) g = step (eqb c g) refl (index_of cov g) (by-glyph f 
     step false e (some i) h = h
 
 -- the numbers of a covered glyph are those of the set of its class
-pub in-classes : (chained : Bool) (num s : List ℕ) (side g : ℕ) → beside (numbersBy chained num s side) g ≡ bind (index_of (coverOf s) g) (λ i. some (numbersAt num s side (setPlace chained s g)))
-unfolding numbersBy
-in-classes chained num s side g = by-glyph (λ c. numbersAt num s side (setPlace chained s c)) (coverOf s) g
+pub in_classes : (chained : Bool) (num s : List ℕ) (side g : ℕ) → beside (numbers_by chained num s side) g ≡ bind (index_of (cover_of s) g) (λ i. some (numbers_at num s side (set_place chained s g)))
+unfolding numbers_by
+in_classes chained num s side g = by_glyph (λ c. numbers_at num s side (set_place chained s c)) (cover_of s) g

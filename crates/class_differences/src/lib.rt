@@ -4,14 +4,14 @@ ghost use Rattle.std.specs.Prelude.{◌≡◌, cond, ◌+◌, ◌≤◌, ◌<◌
 ghost use Rattle.meaning.specs.Words.{up_from};
 ghost use Rattle.meaning.specs.Tables.{table};
 ghost use Rattle.differences.specs.Content.{content};
-ghost use Rattle.differences.specs.Entries.{each, ruleEntries, differences};
+ghost use Rattle.differences.specs.Entries.{each, rule_entries, differences};
 ghost use Rattle.listing.specs.Listed.{Listed};
 ghost use Rattle.listing.specs.Laid.{LaidList};
-ghost use Rattle.first_glyphs.specs.First.{atGlyph};
+ghost use Rattle.first_glyphs.specs.First.{at_glyph};
 ghost use Rattle.set_numbers.specs.Sets.{Cells, Told};
 ghost use Rattle.gathered.specs.Gathered.{Scratch, Fit, Remembered};
-ghost use Rattle.class_tables.specs.Contexts.{classSaysBy};
-ghost use Rattle.class_differences.specs.Reached.{numbersBy, ClassTable, ByClass, shape_of, slot_at};
+ghost use Rattle.class_tables.specs.Contexts.{class_says_by};
+ghost use Rattle.class_differences.specs.Reached.{numbers_by, ClassTable, ByClass, shape_of, slot_at};
 
 use class_tables::{number_tables, set_of};
 use coverage_index::Covered;
@@ -41,7 +41,7 @@ fn list_glyph(
     out: &mut [u8],
 ) -> usize
     requires { ClassTable at.chained left.now × ClassTable at.chained right.now × (at.glyph < 65536) × (at.pos < 0x1000_0000_0000) × Fit num.now (length nums.old) (length heads.old) (length links.old) × Remembered num.now left.now right.now nums.old }
-    ensures { Listed (atGlyph (ruleEntries eqb) (numbersBy at.chained num.now left.now 0) (numbersBy at.chained num.now right.now 1) at.glyph) out.old at.pos out.new result × (result ≤ at.pos + 0x18_0000) × Remembered num.now left.now right.now nums.new }
+    ensures { Listed (at_glyph (rule_entries eqb) (numbers_by at.chained num.now left.now 0) (numbers_by at.chained num.now right.now 1) at.glyph) out.old at.pos out.new result × (result ≤ at.pos + 0x18_0000) × Remembered num.now left.now right.now nums.new }
 {
     let Covered::At(_) = cover_index(left, at.glyph) else {
         return list_right(right, at.glyph, out, at.pos);
@@ -70,7 +70,7 @@ fn list_numbered(
     out: &mut [u8],
 ) -> usize
     requires { ClassTable chained left.now × ClassTable chained right.now × Fit num.now (length nums.old) (length heads.old) (length links.old) }
-    ensures { Listed (each (atGlyph (ruleEntries eqb) (numbersBy chained num.now left.now 0) (numbersBy chained num.now right.now 1)) (up_from 0 65536)) out.old 0 out.new result × (result ≤ 0x18_0000_0000) }
+    ensures { Listed (each (at_glyph (rule_entries eqb) (numbers_by chained num.now left.now 0) (numbers_by chained num.now right.now 1)) (up_from 0 65536)) out.old 0 out.new result × (result ≤ 0x18_0000_0000) }
 {
     remember(nums, 0, 0, 0);
     let mut at = 0;
@@ -99,7 +99,7 @@ fn lay_numbered(
     out: &mut [u8],
 ) -> usize
     requires { ClassTable chained left.now × ClassTable chained right.now × Fit num.now (length nums.old) (length heads.old) (length links.old) }
-    ensures { LaidList (each (atGlyph (ruleEntries eqb) (numbersBy chained num.now left.now 0) (numbersBy chained num.now right.now 1)) (up_from 0 65536)) out.old out.new result × (result ≤ 0x18_0000_0000) }
+    ensures { LaidList (each (at_glyph (rule_entries eqb) (numbers_by chained num.now left.now 0) (numbers_by chained num.now right.now 1)) (up_from 0 65536)) out.old out.new result × (result ≤ 0x18_0000_0000) }
 {
     let mut none = [0u8; 1];
     let size = list_numbered(chained, left, right, num, nums, heads, links, &mut none);
@@ -145,7 +145,7 @@ fn number_rules(
     t: &mut [u32],
 )
     requires { ByClass chained left.now × ByClass chained right.now × Cells (length num.old) (length came.old) × (458752 ≤ length t.old) }
-    ensures { Told (classSaysBy chained left.now right.now) left.now right.now (slot_at chained) num.new }
+    ensures { Told (class_says_by chained left.now right.now) left.now right.now (slot_at chained) num.new }
 {
     number_tables(chained, left, right, t);
     let shape = shape_of(chained);

@@ -1,7 +1,7 @@
 // Format 2 of contexts and chained contexts: the table is put together around its sets, and what is answered where the area has no room for it.
 ghost use Rattle.std.specs.Prelude.{◌≡◌, true, ◌+◌, ◌*◌, ◌≤◌, ◌<◌, length};
-ghost use Rattle.known_blocks.specs.Book.{bookCells, packs};
-ghost use Rattle.remade_classes.specs.Tail.{coverOf, tableBlocks};
+ghost use Rattle.known_blocks.specs.Book.{book_cells, packs};
+ghost use Rattle.remade_classes.specs.Tail.{cover_of, table_blocks};
 ghost use Rattle.class_finish.specs.Table.{Finishes, Finished};
 ghost use Rattle.class_finish.specs.Written.{NoRoom};
 
@@ -35,8 +35,8 @@ pub fn finish(
     area: &mut [u8],
     book: &mut [u32],
 ) -> usize
-    requires { Finishes src.now glyphs.now t.old tail slots classes area.old × (packs book.old ≡ true → bookCells ≤ length book.old) }
-    ensures { Finished (packs book.old) tail.chained (coverOf t.old tail) (tableBlocks tail.chained src.now glyphs.now tail) slots classes area.old area.new result }
+    requires { Finishes src.now glyphs.now t.old tail slots classes area.old × (packs book.old ≡ true → book_cells ≤ length book.old) }
+    ensures { Finished (packs book.old) tail.chained (cover_of t.old tail) (table_blocks tail.chained src.now glyphs.now tail) slots classes area.old area.new result }
 {
     let at = slots_at(tail.chained);
     let count = slots.count;

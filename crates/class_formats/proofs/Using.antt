@@ -10,12 +10,12 @@ use lib.ListN.{length}
 use lib.Dec.{eqb}
 use borrow.Author.Tests.{eq-eqb, ne_eqb}
 use Rattle.meaning.specs.Words.{word, find, is_some}
-use Rattle.meaning.specs.Tables.{fieldCount}
-use Rattle.meaning.specs.Cut.{keepIf, standIn}
+use Rattle.meaning.specs.Tables.{field_count}
+use Rattle.meaning.specs.Cut.{keep_if, stand_in}
 use Rattle.pair_fields.specs.Pairs.{value_at}
-use Rattle.pair_places.specs.Formats.{fieldPlace}
-use Rattle.class_formats.specs.Cells.{rowUses, rowsUse, cellsUse, format_in, HasRow, HasCells}
-use Rattle.class_formats.specs.Kept.{cellSize, NewFormats, first-format, second-format}
+use Rattle.pair_places.specs.Formats.{field_place}
+use Rattle.class_formats.specs.Cells.{row_uses, rows_use, cells_use, format_in, HasRow, HasCells}
+use Rattle.class_formats.specs.Kept.{cell_size, NewFormats, first_format, second_format}
 
 -- one less
 pub mul_left : (size n i : ℕ) → i < n → size * (n - i) ≡ size * (n - (i + 1)) + size
@@ -30,70 +30,70 @@ mul_small size (suc n) h = omega (arith, mul-suc size n, mul_small size n h)
 
 -- The three ways through `speaks`.
 module _ (m2 : List (ℕ × ℕ)) (s : List ℕ) (p place c : ℕ) {v : ℕ} (e : v ≡ value_at s p place) where
-  pub speaks-silent : v ≡ 0 → false ≡ not (eqb (value_at s p place) 0) && is_some (find m2 c)
-  speaks-silent z = rw (eq-eqb (value_at s p place) 0 (sym e ∙ z))
+  pub speaks_silent : v ≡ 0 → false ≡ not (eqb (value_at s p place) 0) && is_some (find m2 c)
+  speaks_silent z = rw (eq-eqb (value_at s p place) 0 (sym e ∙ z))
 
   module _ (z : v ≡ 0 → ⊥) where
-    pub speaks-kept : {y : ℕ} → find m2 c ≡ some y → true ≡ not (eqb (value_at s p place) 0) && is_some (find m2 c)
+    pub speaks_kept : {y : ℕ} → find m2 c ≡ some y → true ≡ not (eqb (value_at s p place) 0) && is_some (find m2 c)
     unfolding is_some
-    speaks-kept f = rw (ne_eqb (value_at s p place) 0 (λ q. z (e ∙ q)), f)
+    speaks_kept f = rw (ne_eqb (value_at s p place) 0 (λ q. z (e ∙ q)), f)
 
-    pub speaks-gone : find m2 c ≡ none → false ≡ not (eqb (value_at s p place) 0) && is_some (find m2 c)
+    pub speaks_gone : find m2 c ≡ none → false ≡ not (eqb (value_at s p place) 0) && is_some (find m2 c)
     unfolding is_some
-    speaks-gone f = rw (ne_eqb (value_at s p place) 0 (λ q. z (e ∙ q)), f)
+    speaks_gone f = rw (ne_eqb (value_at s p place) 0 (λ q. z (e ∙ q)), f)
 
 -- What the loop of `row_uses` keeps: the answer for what is left is the whole answer.
 pub record UsingCells (m2 : List (ℕ × ℕ)) (s : List ℕ) (size place p n cell c : ℕ) : Type 0 where
   pub within : c ≤ n
   pub inside : cell + 2 + size * (n - c) ≤ length s
-  pub rest : rowUses m2 s size place c cell (n - c) ≡ rowUses m2 s size place 0 p (word s 14)
+  pub rest : row_uses m2 s size place c cell (n - c) ≡ row_uses m2 s size place 0 p (word s 14)
 
 module _ {m2 : List (ℕ × ℕ)} {s : List ℕ} {size place p n : ℕ} where
-  pub cells-all : n ≡ word s 14 → HasRow s size p → UsingCells m2 s size place p n p 0
-  cells-all e h =
+  pub cells_all : n ≡ word s 14 → HasRow s size p → UsingCells m2 s size place p n p 0
+  cells_all e h =
       let z : n - 0 ≡ word s 14 = omega arith in
       record { within = omega arith; inside = rw z h.cells; rest = rw z }
 
   module _ {cell c : ℕ} (k : UsingCells m2 s size place p n cell c) where
-    pub cells-end : n ≤ c → false ≡ rowUses m2 s size place 0 p (word s 14)
-    unfolding rowUses
-    cells-end h =
+    pub cells_end : n ≤ c → false ≡ row_uses m2 s size place 0 p (word s 14)
+    unfolding row_uses
+    cells_end h =
         let e : n - c ≡ 0 = omega arith in
         rw e at k.rest
 
     module _ (h : c < n) where
-      pub cells-inside : cell + 2 + size ≤ length s
-      cells-inside = omega (arith, k.inside, mul_left size n c h)
+      pub cells_inside : cell + 2 + size ≤ length s
+      cells_inside = omega (arith, k.inside, mul_left size n c h)
 
-      now-is : {u : Bool} → u ≡ not (eqb (value_at s cell place) 0) && is_some (find m2 c) → u || rowUses m2 s size place (c + 1) (cell + size) (n - (c + 1)) ≡ rowUses m2 s size place 0 p (word s 14)
-      unfolding rowUses
-      now-is e =
+      now_is : {u : Bool} → u ≡ not (eqb (value_at s cell place) 0) && is_some (find m2 c) → u || row_uses m2 s size place (c + 1) (cell + size) (n - (c + 1)) ≡ row_uses m2 s size place 0 p (word s 14)
+      unfolding row_uses
+      now_is e =
           let d : n - c ≡ suc (n - (c + 1)) = omega arith in
           rw e (rw d at k.rest)
 
-      pub cells-found : {u : Bool} → u ≡ not (eqb (value_at s cell place) 0) && is_some (find m2 c) → u ≡ true → true ≡ rowUses m2 s size place 0 p (word s 14)
-      cells-found e t = rw t at (now-is e)
+      pub cells_found : {u : Bool} → u ≡ not (eqb (value_at s cell place) 0) && is_some (find m2 c) → u ≡ true → true ≡ row_uses m2 s size place 0 p (word s 14)
+      cells_found e t = rw t at (now_is e)
 
-      pub cells-next : {u : Bool} → u ≡ not (eqb (value_at s cell place) 0) && is_some (find m2 c) → u ≡ false → UsingCells m2 s size place p n (cell + size) (c + 1)
-      cells-next e t = record { within = omega arith; inside = omega (arith, k.inside, mul_left size n c h); rest = rw t at (now-is e) }
+      pub cells_next : {u : Bool} → u ≡ not (eqb (value_at s cell place) 0) && is_some (find m2 c) → u ≡ false → UsingCells m2 s size place p n (cell + size) (c + 1)
+      cells_next e t = record { within = omega arith; inside = omega (arith, k.inside, mul_left size n c h); rest = rw t at (now_is e) }
 
 -- What the loop of `uses` keeps.
 pub record UsingRows (m1 m2 : List (ℕ × ℕ)) (s : List ℕ) (size place n row p c : ℕ) : Type 0 where
   pub within : c ≤ n
   pub step : row ≡ size * word s 14
   pub inside : p + 2 + row * (n - c) ≤ length s
-  pub rest : rowsUse m1 m2 s size place (word s 14) c p (n - c) ≡ cellsUse m1 m2 s size place
+  pub rest : rows_use m1 m2 s size place (word s 14) c p (n - c) ≡ cells_use m1 m2 s size place
 
 module _ {m1 m2 : List (ℕ × ℕ)} {s : List ℕ} {size place n row : ℕ} where
   pub rows_all : n ≡ word s 12 → row ≡ size * word s 14 → HasCells s size → UsingRows m1 m2 s size place n row 14 0
-  unfolding cellsUse
+  unfolding cells_use
   rows_all e f h =
       let z : n - 0 ≡ word s 12 = omega arith in
       record { within = omega arith; step = f; inside = rw (z, f) h.cells; rest = rw z }
 
   module _ {p c : ℕ} (k : UsingRows m1 m2 s size place n row p c) where
-    pub rows_end : n ≤ c → false ≡ cellsUse m1 m2 s size place
-    unfolding rowsUse
+    pub rows_end : n ≤ c → false ≡ cells_use m1 m2 s size place
+    unfolding rows_use
     rows_end h =
         let e : n - c ≡ 0 = omega arith in
         rw e at k.rest
@@ -105,60 +105,60 @@ module _ {m1 m2 : List (ℕ × ℕ)} {s : List ℕ} {size place n row : ℕ} whe
       pub rows_inside : 16 ≤ length s → HasRow s size p
       rows_inside l = record { header = l; cells = rw k.step at rows_row }
 
-      now-row : {u : Bool} → u ≡ is_some (find m1 c) && rowUses m2 s size place 0 p (word s 14) → u || rowsUse m1 m2 s size place (word s 14) (c + 1) (p + row) (n - (c + 1)) ≡ cellsUse m1 m2 s size place
-      unfolding rowsUse
-      now-row e =
+      now_row : {u : Bool} → u ≡ is_some (find m1 c) && row_uses m2 s size place 0 p (word s 14) → u || rows_use m1 m2 s size place (word s 14) (c + 1) (p + row) (n - (c + 1)) ≡ cells_use m1 m2 s size place
+      unfolding rows_use
+      now_row e =
           let d : n - c ≡ suc (n - (c + 1)) = omega arith in
           rw (e, k.step) (rw d at k.rest)
 
-      pub rows-found : {u : Bool} → u ≡ is_some (find m1 c) && rowUses m2 s size place 0 p (word s 14) → u ≡ true → true ≡ cellsUse m1 m2 s size place
-      rows-found e t = rw t at (now-row e)
+      pub rows_found : {u : Bool} → u ≡ is_some (find m1 c) && row_uses m2 s size place 0 p (word s 14) → u ≡ true → true ≡ cells_use m1 m2 s size place
+      rows_found e t = rw t at (now_row e)
 
-      pub rows_next : {u : Bool} → u ≡ is_some (find m1 c) && rowUses m2 s size place 0 p (word s 14) → u ≡ false → UsingRows m1 m2 s size place n row (p + row) (c + 1)
-      rows_next e t = record { within = omega arith; step = k.step; inside = omega (arith, k.inside, mul_left row n c h); rest = rw t at (now-row e) }
+      pub rows_next : {u : Bool} → u ≡ is_some (find m1 c) && row_uses m2 s size place 0 p (word s 14) → u ≡ false → UsingRows m1 m2 s size place n row (p + row) (c + 1)
+      rows_next e t = record { within = omega arith; step = k.step; inside = omega (arith, k.inside, mul_left row n c h); rest = rw t at (now_row e) }
 
 -- at the place 0 there is no field
 module _ (m1 m2 : List (ℕ × ℕ)) (s : List ℕ) (size : ℕ) where
-  absent : (n c p : ℕ) → rowUses m2 s size 0 c p n ≡ false
-  unfolding rowUses value_at
+  absent : (n c p : ℕ) → row_uses m2 s size 0 c p n ≡ false
+  unfolding row_uses value_at
   absent zero c p = refl
   absent (suc n) c p = absent n (c + 1) (p + size)
 
-  absent-rows : (m n c p : ℕ) → rowsUse m1 m2 s size 0 m c p n ≡ false
-  unfolding rowsUse
-  absent-rows m zero c p = refl
-  absent-rows m (suc n) c p = rw (absent m 0 p, absent-rows m n (c + 1) (p + size * m)) (step (is_some (find m1 c)))
+  absent_rows : (m n c p : ℕ) → rows_use m1 m2 s size 0 m c p n ≡ false
+  unfolding rows_use
+  absent_rows m zero c p = refl
+  absent_rows m (suc n) c p = rw (absent m 0 p, absent_rows m n (c + 1) (p + size * m)) (step (is_some (find m1 c)))
     where
       step : (b : Bool) → (b && false) || false ≡ false
       step true = refl
       step false = refl
 
-  pub unused : {place : ℕ} → place ≡ 0 → false ≡ cellsUse m1 m2 s size place
-  unfolding cellsUse
-  unused e = rw e (sym (absent-rows (word s 14) (word s 12) 0 14))
+  pub unused : {place : ℕ} → place ≡ 0 → false ≡ cells_use m1 m2 s size place
+  unfolding cells_use
+  unused e = rw e (sym (absent_rows (word s 14) (word s 12) 0 14))
 
 -- the sum of the fields that stay
-pub format-sum : (m1 m2 : List (ℕ × ℕ)) (s : List ℕ) (size start f : ℕ) {p q u v a b c d : ℕ}
-    → p ≡ fieldPlace start f 1 → q ≡ fieldPlace start f 2 → u ≡ fieldPlace start f 4 → v ≡ fieldPlace start f 8
-    → a ≡ keepIf (cellsUse m1 m2 s size p) 1 → b ≡ keepIf (cellsUse m1 m2 s size q) 2 → c ≡ keepIf (cellsUse m1 m2 s size u) 4 → d ≡ keepIf (cellsUse m1 m2 s size v) 8
+pub format_sum : (m1 m2 : List (ℕ × ℕ)) (s : List ℕ) (size start f : ℕ) {p q u v a b c d : ℕ}
+    → p ≡ field_place start f 1 → q ≡ field_place start f 2 → u ≡ field_place start f 4 → v ≡ field_place start f 8
+    → a ≡ keep_if (cells_use m1 m2 s size p) 1 → b ≡ keep_if (cells_use m1 m2 s size q) 2 → c ≡ keep_if (cells_use m1 m2 s size u) 4 → d ≡ keep_if (cells_use m1 m2 s size v) 8
     → a + b + c + d ≡ format_in m1 m2 s size start f
 unfolding format_in
-format-sum m1 m2 s size start f e i j k w x y z = rw (w, x, y, z, e, i, j, k)
+format_sum m1 m2 s size start f e i j k w x y z = rw (w, x, y, z, e, i, j, k)
 
 -- the formats of a source, put together
-module _ (s : List ℕ) {f1 f2 a b : ℕ} (e : f1 ≡ word s 4) (f : f2 ≡ word s 6) (x : a ≡ fieldCount f1) (y : b ≡ fieldCount f2) where
-  pub size_is : 2 * a + 2 * b ≡ cellSize (word s 4) (word s 6)
+module _ (s : List ℕ) {f1 f2 a b : ℕ} (e : f1 ≡ word s 4) (f : f2 ≡ word s 6) (x : a ≡ field_count f1) (y : b ≡ field_count f2) where
+  pub size_is : 2 * a + 2 * b ≡ cell_size (word s 4) (word s 6)
   size_is = rw (x, y, e, f)
 
-  pub has-sized : HasCells s (cellSize (word s 4) (word s 6)) → HasCells s (2 * a + 2 * b)
-  has-sized h = rw size_is h
+  pub has_sized : HasCells s (cell_size (word s 4) (word s 6)) → HasCells s (2 * a + 2 * b)
+  has_sized h = rw size_is h
 
-  pub formats-new : (m1 m2 : List (ℕ × ℕ)) {n1 m n2 : ℕ} → n1 ≡ format_in m1 m2 s (2 * a + 2 * b) 2 f1 → m ≡ format_in m1 m2 s (2 * a + 2 * b) (2 * a + 2) f2 → n2 ≡ standIn f2 m
+  pub formats_new : (m1 m2 : List (ℕ × ℕ)) {n1 m n2 : ℕ} → n1 ≡ format_in m1 m2 s (2 * a + 2 * b) 2 f1 → m ≡ format_in m1 m2 s (2 * a + 2 * b) (2 * a + 2) f2 → n2 ≡ stand_in f2 m
       → NewFormats m1 m2 s (record { f1 = f1; f2 = f2; n1 = n1; n2 = n2; size = 2 * a + 2 * b })
-  formats-new m1 m2 h k l =
-      let start : 2 * a + 2 ≡ 2 * fieldCount (word s 4) + 2 = ap (λ (n : ℕ). 2 * n + 2) (x ∙ ap fieldCount e) in
+  formats_new m1 m2 h k l =
+      let start : 2 * a + 2 ≡ 2 * field_count (word s 4) + 2 = ap (λ (n : ℕ). 2 * n + 2) (x ∙ ap field_count e) in
       record {
         old = record { f1 = e; f2 = f; size = size_is };
-        n1 = h ∙ ap₂ (λ (n i : ℕ). format_in m1 m2 s n 2 i) size_is e ∙ first-format m1 m2 s;
-        n2 = l ∙ ap₂ standIn f (k ∙ ap₂ (λ (n i : ℕ). format_in m1 m2 s n i f2) size_is start ∙ ap (format_in m1 m2 s (cellSize (word s 4) (word s 6)) (2 * fieldCount (word s 4) + 2)) f) ∙ second-format m1 m2 s;
+        n1 = h ∙ ap₂ (λ (n i : ℕ). format_in m1 m2 s n 2 i) size_is e ∙ first_format m1 m2 s;
+        n2 = l ∙ ap₂ stand_in f (k ∙ ap₂ (λ (n i : ℕ). format_in m1 m2 s n i f2) size_is start ∙ ap (format_in m1 m2 s (cell_size (word s 4) (word s 6)) (2 * field_count (word s 4) + 2)) f) ∙ second_format m1 m2 s;
       }

@@ -2,12 +2,12 @@
 // A cell is a pair record without its second glyph. So the places of its fields are counted from two bytes before it, as in a pair record: `p` is that place.
 ghost use Rattle.std.specs.Prelude.{◌≡◌, ◌&&◌, not, ◌+◌, ◌*◌, ◌≤◌, length, eqb};
 ghost use Rattle.meaning.specs.Words.{word, find, is_some};
-ghost use Rattle.meaning.specs.Tables.{fieldCount};
-ghost use Rattle.meaning.specs.Cut.{keepIf};
+ghost use Rattle.meaning.specs.Tables.{field_count};
+ghost use Rattle.meaning.specs.Cut.{keep_if};
 ghost use Rattle.cell_maps.specs.Cells.{Inside};
-ghost use Rattle.numbers.specs.Entries.{entriesIn};
+ghost use Rattle.numbers.specs.Entries.{entries_in};
 ghost use Rattle.pair_fields.specs.Pairs.{value_at};
-ghost use Rattle.class_formats.specs.Cells.{rowUses, cellsUse, format_in, HasRow, HasCells};
+ghost use Rattle.class_formats.specs.Cells.{row_uses, cells_use, format_in, HasRow, HasCells};
 ghost use Rattle.class_formats.specs.Kept.{AsksCells, NewFormats};
 
 use cell_maps::Map;
@@ -21,7 +21,7 @@ use wire::word_inside;
 // Whether the second class `c` is kept and its cell has a value at `place` that is not 0.
 fn speaks(src: &[u8], p: usize, place: usize, t: &[u32], seconds: Map, c: usize) -> bool
     requires { (p + place + 2 ≤ length src.now) × Inside t.now seconds }
-    ensures { result ≡ not (eqb (value_at src.now p place) 0) && is_some (find (entriesIn t.now seconds) c) }
+    ensures { result ≡ not (eqb (value_at src.now p place) 0) && is_some (find (entries_in t.now seconds) c) }
 {
     let value = value_at(src, p, place);
     if value == 0 {
@@ -36,7 +36,7 @@ fn speaks(src: &[u8], p: usize, place: usize, t: &[u32], seconds: Map, c: usize)
 // Whether some kept cell of the row at `p`, whose cells are `size` bytes long, has a value at `place` that is not 0.
 fn row_uses(src: &[u8], p: usize, size: usize, place: usize, t: &[u32], seconds: Map) -> bool
     requires { HasRow src.now size p × (place ≤ size) × Inside t.now seconds }
-    ensures { result ≡ rowUses (entriesIn t.now seconds) src.now size place 0 p (word src.now 14) }
+    ensures { result ≡ row_uses (entries_in t.now seconds) src.now size place 0 p (word src.now 14) }
 {
     let n = word_inside(src, 14);
     let mut cell = p;
@@ -63,7 +63,7 @@ fn kept_row_uses(
     c: usize,
 ) -> bool
     requires { HasRow src.now size p × (place ≤ size) × Inside t.now firsts × Inside t.now seconds }
-    ensures { result ≡ is_some (find (entriesIn t.now firsts) c) && rowUses (entriesIn t.now seconds) src.now size place 0 p (word src.now 14) }
+    ensures { result ≡ is_some (find (entries_in t.now firsts) c) && row_uses (entries_in t.now seconds) src.now size place 0 p (word src.now 14) }
 {
     match find(t, firsts, c) {
         Found::New(_) => row_uses(src, p, size, place, t, seconds),
@@ -74,7 +74,7 @@ fn kept_row_uses(
 // Whether some kept cell of all rows has a value at `place` that is not 0. At the place 0 there is no field.
 fn uses(src: &[u8], size: usize, place: usize, t: &[u32], firsts: Map, seconds: Map) -> bool
     requires { HasCells src.now size × (place ≤ size) × Inside t.now firsts × Inside t.now seconds }
-    ensures { result ≡ cellsUse (entriesIn t.now firsts) (entriesIn t.now seconds) src.now size place }
+    ensures { result ≡ cells_use (entries_in t.now firsts) (entries_in t.now seconds) src.now size place }
 {
     if place == 0 {
         return false;
@@ -104,7 +104,7 @@ fn bit_kept(
     seconds: Map,
 ) -> usize
     requires { HasCells src.now size × (place ≤ size) × Inside t.now firsts × Inside t.now seconds }
-    ensures { (result ≡ keepIf (cellsUse (entriesIn t.now firsts) (entriesIn t.now seconds) src.now size place) k) × (result ≤ k) }
+    ensures { (result ≡ keep_if (cells_use (entries_in t.now firsts) (entries_in t.now seconds) src.now size place) k) × (result ≤ k) }
 {
     if uses(src, size, place, t, firsts, seconds) {
         return k;
@@ -122,8 +122,8 @@ fn new_format(
     firsts: Map,
     seconds: Map,
 ) -> usize
-    requires { HasCells src.now size × (start ≤ 18) × (start + 2 * fieldCount f ≤ size + 2) × Inside t.now firsts × Inside t.now seconds }
-    ensures { result ≡ format_in (entriesIn t.now firsts) (entriesIn t.now seconds) src.now size start f }
+    requires { HasCells src.now size × (start ≤ 18) × (start + 2 * field_count f ≤ size + 2) × Inside t.now firsts × Inside t.now seconds }
+    ensures { result ≡ format_in (entries_in t.now firsts) (entries_in t.now seconds) src.now size start f }
 {
     let a = bit_kept(src, size, field_place(start, f, 1), 1, t, firsts, seconds);
     let b = bit_kept(src, size, field_place(start, f, 2), 2, t, firsts, seconds);
@@ -135,7 +135,7 @@ fn new_format(
 // The value formats of the source, and the new ones that the cells ask for whose first and second class are kept; the second one is not 0 if the source's is not.
 pub fn new_formats(src: &[u8], t: &[u32], firsts: Map, seconds: Map) -> Formats
     requires { AsksCells src.now t.now firsts seconds }
-    ensures { NewFormats (entriesIn t.now firsts) (entriesIn t.now seconds) src.now result }
+    ensures { NewFormats (entries_in t.now firsts) (entries_in t.now seconds) src.now result }
 {
     let f1 = word_inside(src, 4);
     let f2 = word_inside(src, 6);

@@ -1,10 +1,10 @@
 // The layout of format 2 of contexts and chained contexts, plain or packed as it is asked for, and by whether its sets share rules.
 ghost use Rattle.std.specs.Prelude.{◌<◌, length};
-ghost use Rattle.room.specs.Laid.{enoughArea};
+ghost use Rattle.room.specs.Laid.{enough_area};
 ghost use Rattle.member_sets.specs.Dead.{Dead};
-ghost use Rattle.kept_rules.specs.Left.{mapsIn, ruleLeft};
+ghost use Rattle.kept_rules.specs.Left.{maps_in, rule_left};
 ghost use Rattle.tried.specs.Tries.{Tries};
-ghost use Rattle.class_finish.specs.Written.{Writes, leftInto};
+ghost use Rattle.class_finish.specs.Written.{Writes, left_into};
 
 use class_booked::{write_booked, write_packed};
 use class_finish::Prepared;
@@ -25,8 +25,8 @@ fn write_context(
     area: &mut [u8],
     out: &mut [u8],
 ) -> Tried
-    requires { Writes src.now glyphs.now t.old prepared area.old × Dead (ruleLeft prepared.tail.chained (mapsIn t.old prepared.maps) src.now) dead.old }
-    ensures { Tries ⊥ (length area.old < enoughArea) result out.old out.new (leftInto out.old src.now glyphs.now t.old prepared) }
+    requires { Writes src.now glyphs.now t.old prepared area.old × Dead (rule_left prepared.tail.chained (maps_in t.old prepared.maps) src.now) dead.old }
+    ensures { Tries ⊥ (length area.old < enough_area) result out.old out.new (left_into out.old src.now glyphs.now t.old prepared) }
 {
     if prepared.packing == 1 {
         return write_packed(src, glyphs, t, prepared, dead, rounds, area, out);
@@ -47,7 +47,7 @@ fn write_crowded(
     out: &mut [u8],
 ) -> Tried
     requires { Writes src.now glyphs.now t.old prepared area.old }
-    ensures { Tries ⊥ (length area.old < enoughArea) result out.old out.new (leftInto out.old src.now glyphs.now t.old prepared) }
+    ensures { Tries ⊥ (length area.old < enough_area) result out.old out.new (left_into out.old src.now glyphs.now t.old prepared) }
 {
     if rounds != 0 {
         return write_crowded(src, glyphs, t, prepared, rounds - 1, area, out);
@@ -67,7 +67,7 @@ pub fn write_left(
     out: &mut [u8],
 ) -> Tried
     requires { Writes src.now glyphs.now t.old prepared area.old }
-    ensures { Tries ⊥ (length area.old < enoughArea) result out.old out.new (leftInto out.old src.now glyphs.now t.old prepared) }
+    ensures { Tries ⊥ (length area.old < enough_area) result out.old out.new (left_into out.old src.now glyphs.now t.old prepared) }
 {
     let slots = slots_at(prepared.tail.chained);
     if crowded(src, slots, word_at(src, slots - 2)) {

@@ -1,9 +1,9 @@
 // The classes of the retained glyphs, in cells: one for each whose class is not 0, its new number times 65,536, plus the class, ascending.
 // Map and class table both ascend, so that one walk over both finds the classes: each search begins where the last one ended, and halves. It costs the retained glyphs that have a class other than 0 and the stretches of one class that are met, never the glyphs of a run or of a range.
 ghost use Rattle.std.specs.Prelude.{◌≡◌, ◌||◌, ◌+◌, ◌≤◌, ◌<◌, eqb};
-ghost use Rattle.meaning.specs.Maps.{glyphEntries};
+ghost use Rattle.meaning.specs.Maps.{glyph_entries};
 ghost use Rattle.glyph_runs.specs.Runs.{GlyphMap};
-ghost use Rattle.class_stretches.specs.Tables.{classesAt, NullOrSound};
+ghost use Rattle.class_stretches.specs.Tables.{classes_at, NullOrSound};
 ghost use Rattle.class_lists.specs.Listed.{Greater, PutRun, ToFill, Filled, Passes, Listed};
 
 use class_stretches::{Stretch, stretch_from};
@@ -130,7 +130,7 @@ pub fn list_classes(
     list: usize,
 ) -> ClassList
     requires { NullOrSound src.now at × GlyphMap form glyphs.now × (list < 0x1_0000_0000_0000) }
-    ensures { Listed (classesAt src.now at) (glyphEntries form glyphs.now) t.old t.new list result }
+    ensures { Listed (classes_at src.now at) (glyph_entries form glyphs.now) t.old t.new list result }
 {
     let n = count_runs(glyphs, form);
     let mut high = 0;

@@ -1,6 +1,6 @@
 // Class maps: the classes that survive, which are listed in cells, and their new numbers, laid into other cells.
 ghost use Rattle.std.specs.Prelude.{◌≡◌, ◌+◌, ◌-◌, ◌<◌};
-ghost use Rattle.meaning.specs.Cut.{classMap, secondMap};
+ghost use Rattle.meaning.specs.Cut.{class_map, second_map};
 ghost use Rattle.ranked_maps.specs.Present.{top_of};
 ghost use Rattle.ranked_maps.specs.Mapped.{ToMap, Numbers, Mapped};
 
@@ -27,7 +27,7 @@ fn listed_map(t: &mut [u32], list: usize, l: ClassList, to: usize, zero: bool) -
 // The class map of the classes that are listed in the `l.len` cells from `list` on: its cells stand from `to` on, behind the list. The mask is 0 where there are too few cells.
 pub fn class_map(t: &mut [u32], list: usize, l: ClassList, to: usize) -> ClassMap
     requires { ToMap t.old list l to }
-    ensures { Mapped classMap t.old t.new list l to result }
+    ensures { Mapped class_map t.old t.new list l to result }
 {
     listed_map(t, list, l, to, l.zero)
 }
@@ -35,7 +35,7 @@ pub fn class_map(t: &mut [u32], list: usize, l: ClassList, to: usize) -> ClassMa
 // The same map with class 0 always among the classes, as second classes of pairs are counted.
 pub fn pinned_map(t: &mut [u32], list: usize, l: ClassList, to: usize) -> ClassMap
     requires { ToMap t.old list l to }
-    ensures { Mapped secondMap t.old t.new list l to result }
+    ensures { Mapped second_map t.old t.new list l to result }
 {
     listed_map(t, list, l, to, true)
 }

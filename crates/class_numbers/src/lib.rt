@@ -1,10 +1,10 @@
 // Numbers for the classes of two class tables, equal exactly if the same ids hold the classes: a class of the one is so compared with a class of the other in one step.
 // Both tables are walked by stretches of ids that hold one class, so that a walk costs their ranges, not the 65,536 ids.
 ghost use Rattle.std.specs.Prelude.{◌≡◌, ◌+◌, ◌≤◌, ◌<◌, length};
-ghost use Rattle.meaning.specs.Parts.{classIn};
+ghost use Rattle.meaning.specs.Parts.{class_in};
 ghost use Rattle.class_stretches.specs.Tables.{table_at, NullOrSound};
 ghost use Rattle.class_lists.specs.Elsewhere.{Elsewhere};
-ghost use Rattle.class_strays.specs.Numbered.{Cleared, firstPut, Lowest, ClassesNumbered};
+ghost use Rattle.class_strays.specs.Numbered.{Cleared, first_put, Lowest, ClassesNumbered};
 
 use cells::{cell, put_cell};
 use class_strays::mark_strays;
@@ -25,7 +25,7 @@ fn clear(t: &mut [u32], base: usize)
 // The number `v` into the cell `i`, if the cell has none yet.
 fn put_first(t: &mut [u32], i: usize, v: usize)
     requires { v < 0x1_0000_0000 }
-    ensures { t.new ≡ firstPut t.old i v }
+    ensures { t.new ≡ first_put t.old i v }
 {
     if cell(t, i) == 0 {
         put_cell(t, i, v);
@@ -35,7 +35,7 @@ fn put_first(t: &mut [u32], i: usize, v: usize)
 // The lowest id of each class of the class table at `at`, plus 1, in the 65,536 cells from `base` on; 0 for a class that no id holds.
 fn put_lowest(src: &[u8], at: usize, t: &mut [u32], base: usize)
     requires { NullOrSound src.now at × (base + 65536 ≤ length t.old) }
-    ensures { Lowest (classIn (table_at src.now at)) 65536 t.old t.new base }
+    ensures { Lowest (class_in (table_at src.now at)) 65536 t.old t.new base }
 {
     clear(t, base);
     let mut next = 0;

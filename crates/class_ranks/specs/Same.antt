@@ -1,12 +1,12 @@
 -- Cells of a stretch that a function leaves alone, and what stands there.
 use Rattle.std.specs.Prelude.{ℕ, ◌+◌, ◌≤◌, ◌<◌, ◌≡◌, List, length, get_or}
 use Rattle.std.proofs.Common.{ap, ◌∙◌, arith}
-use Rattle.cell_maps.specs.Cells.{answer_in, folded, Inside, Holds, Kept, entry-same}
+use Rattle.cell_maps.specs.Cells.{answer_in, folded, Inside, Holds, Kept, entry_same}
 use Rattle.cell_maps.specs.declared.Map.{Map}
 use Rattle.area.specs.Part.{part}
 use Rattle.area.specs.Stored.{part_same}
 use Rattle.class_lists.specs.Elsewhere.{Elsewhere}
-use Rattle.ranked_maps.specs.Present.{top_of, present, present-alike}
+use Rattle.ranked_maps.specs.Present.{top_of, present, present_alike}
 
 -- the cells from `from` up to `to` are as before, and so is how many there are
 pub record Same (from to : ℕ) (t u : List ℕ) : Type 0 where
@@ -20,18 +20,18 @@ pub after_same : {from to : ℕ} (end : ℕ) {t u : List ℕ} → Elsewhere from
 after_same end k = record { size = k.size; each = λ i l h. k.after i l }
 
 module _ {from to : ℕ} {t u : List ℕ} (k : Same from to t u) where
-  pub part-alike : (at n : ℕ) → from ≤ at → at + n ≤ to → part u at n ≡ part t at n
-  part-alike at n a b = part_same u t at n (λ j l g. k.each j (omega arith) (omega arith))
+  pub part_alike : (at n : ℕ) → from ≤ at → at + n ≤ to → part u at n ≡ part t at n
+  part_alike at n a b = part_same u t at n (λ j l g. k.each j (omega arith) (omega arith))
 
   module _ (m : Map) (a : from ≤ m.at) (b : m.at + m.mask < to) where
-    pub inside-same : Inside t m → Inside u m
-    inside-same o = record { within = omega (arith, k.size, o.within) }
+    pub inside_same : Inside t m → Inside u m
+    inside_same o = record { within = omega (arith, k.size, o.within) }
 
-    folded-same : (x : ℕ) → folded u m x ≡ folded t m x
-    folded-same x = ap (λ (e : ℕ). answer_in e x) (entry-same t u m (λ i c d. k.each i (omega arith) (omega arith)) x)
+    folded_same : (x : ℕ) → folded u m x ≡ folded t m x
+    folded_same x = ap (λ (e : ℕ). answer_in e x) (entry_same t u m (λ i c d. k.each i (omega arith) (omega arith)) x)
 
     pub holds_same : {es : List (ℕ × ℕ)} → Holds t m es → Holds u m es
-    holds_same o = record { inside = inside-same o.inside; answers = λ x. folded-same x ∙ o.answers x }
+    holds_same o = record { inside = inside_same o.inside; answers = λ x. folded_same x ∙ o.answers x }
 
-    pub present-same : present u m ≡ present t m
-    present-same = present-alike t u m folded-same 0 (top_of m + 1)
+    pub present_same : present u m ≡ present t m
+    present_same = present_alike t u m folded_same 0 (top_of m + 1)

@@ -1,6 +1,6 @@
 // A class map in cells, one for each class. `ranked_maps` has the other form, for classes that are too high for that.
 ghost use Rattle.std.specs.Prelude.{◌≡◌, cond, ◌+◌, ◌-◌, ◌<◌, set};
-ghost use Rattle.cell_maps.specs.Cells.{rankedMask};
+ghost use Rattle.cell_maps.specs.Cells.{ranked_mask};
 ghost use Rattle.area.specs.Part.{news};
 ghost use Rattle.ranked_maps.specs.Mapped.{Direct, ToMark, Marked, Ranked, ToMap, Held, Numbers};
 
@@ -43,7 +43,7 @@ fn rank(t: &mut [u32], m: Map) -> usize
 
 // The cells from `to` on, one for each class, with an entry for each that is listed in the `l.len` cells from `list` on. The mask is 0 where there are too few cells.
 fn held_map(t: &mut [u32], list: usize, l: ClassList, to: usize) -> Map
-    requires { ToMap t.old list l to × (l.high < rankedMask) }
+    requires { ToMap t.old list l to × (l.high < ranked_mask) }
     ensures { Held t.old t.new list l to result }
 {
     let m = Map {
@@ -71,7 +71,7 @@ fn mark_zero(t: &mut [u32], m: Map, zero: bool)
 
 // The map of the classes that are listed in the `l.len` cells from `list` on, and of class 0 if `zero` says so, where the highest class is not too high for a cell for each: its cells stand from `to` on. The mask is 0 where there are too few cells.
 pub fn direct_map(t: &mut [u32], list: usize, l: ClassList, to: usize, zero: bool) -> ClassMap
-    requires { ToMap t.old list l to × (l.high < rankedMask) }
+    requires { ToMap t.old list l to × (l.high < ranked_mask) }
     ensures { Numbers zero t.old t.new list l to result }
 {
     let m = held_map(t, list, l, to);

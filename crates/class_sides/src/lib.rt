@@ -1,7 +1,7 @@
 // One class table of a context by class, in cells: its classes are listed, and its class map is laid; that of the input has marks of the classes that covered glyphs hold.
 ghost use Rattle.std.specs.Prelude.{◌≡◌, ◌<◌};
-ghost use Rattle.meaning.specs.Maps.{glyphEntries};
-ghost use Rattle.class_sides.specs.Sides.{markCells, Asks, Sided, InputAsks, InputLaid};
+ghost use Rattle.meaning.specs.Maps.{glyph_entries};
+ghost use Rattle.class_sides.specs.Sides.{mark_cells, Asks, Sided, InputAsks, InputLaid};
 
 use cell_maps::Map;
 use class_maps::{class_map, top};
@@ -36,7 +36,7 @@ pub fn class_side(
     to: usize,
 ) -> Side
     requires { Asks src.now at form glyphs.now t.old front to }
-    ensures { Sided src.now at (glyphEntries form glyphs.now) t.old t.new front to result }
+    ensures { Sided src.now at (glyph_entries form glyphs.now) t.old t.new front to result }
 {
     let l = list_front(src, at, glyphs, form, t, front);
     if front < l.len {
@@ -54,7 +54,7 @@ pub fn class_side(
 
 // How many cells the marks take, one bit for each class that can have an entry.
 pub fn mark_cells(map: Map) -> usize
-    ensures { result ≡ markCells map }
+    ensures { result ≡ mark_cells map }
 {
     top(map) / 32 + 1
 }
@@ -80,7 +80,7 @@ pub fn class_input(
     t: &mut [u32],
 ) -> Input
     requires { InputAsks src.now at form glyphs.now noted t.old }
-    ensures { InputLaid src.now at (glyphEntries form glyphs.now) noted t.old t.new result }
+    ensures { InputLaid src.now at (glyph_entries form glyphs.now) noted t.old t.new result }
 {
     let side = class_side(src, at, form, glyphs, t, noted.at, noted.at + noted.len);
     let map = side.classes.map;

@@ -7,29 +7,29 @@ use mathlib.Core.List.{List, [], ◌∷◌, ◌++◌, append_assoc}
 use native.Mathlib.Omega.{arith}
 use lib.ListN.{length, take, length-append}
 use Rattle.meaning.specs.Cut.{trim}
-use Rattle.room.specs.Laid.{enoughArea}
-use Rattle.known_blocks.specs.Shared.{blocksIn}
-use Rattle.known_blocks.specs.Book.{bookCells, packs, inBook, Booked}
-use Rattle.kept_rules.specs.Left.{mapsIn}
+use Rattle.room.specs.Laid.{enough_area}
+use Rattle.known_blocks.specs.Shared.{blocks_in}
+use Rattle.known_blocks.specs.Book.{book_cells, packs, in_book, Booked}
+use Rattle.kept_rules.specs.Left.{maps_in}
 use Rattle.kept_rules.specs.declared.Maps.{Maps}
-use Rattle.class_spots.specs.SlotWalk.{Slotting, slotting-all, slotting-said, slotting-null, slotting-set, slotting-end}
-use Rattle.class_spots.specs.Sets.{setLeft, words_in}
-use Rattle.class_spots.specs.Slots.{Noted, setsFull}
+use Rattle.class_spots.specs.SlotWalk.{Slotting, slotting_all, slotting_said, slotting_null, slotting_set, slotting_end}
+use Rattle.class_spots.specs.Sets.{set_left, words_in}
+use Rattle.class_spots.specs.Slots.{Noted, sets_full}
 use Rattle.class_spots.specs.Placing.{Gathered, PlacedSet}
 use Rattle.class_spots.specs.declared.Turn.{Turn}
-use Rattle.class_spots.proofs.Halves.{block-most, blocks-onward}
-use Rattle.class_spots.proofs.Gathering.{gathered-all}
+use Rattle.class_spots.proofs.Halves.{block_most, blocks_onward}
+use Rattle.class_spots.proofs.Gathering.{gathered_all}
 
 -- a slot's block takes its words, among others
-one-most : (packed : Bool) (done : List (Option (List ℕ))) (o : Option (List ℕ)) (rest : List (Option (List ℕ))) → length (words_in o) ≤ length (blocksIn packed (done ++ (o ∷ rest)))
+one_most : (packed : Bool) (done : List (Option (List ℕ))) (o : Option (List ℕ)) (rest : List (Option (List ℕ))) → length (words_in o) ≤ length (blocks_in packed (done ++ (o ∷ rest)))
 unfolding words_in
-one-most packed done none rest = omega arith
-one-most packed done (some b) rest =
-    omega (arith, block-most packed done b, blocks-onward packed (done ++ (some b ∷ [])) rest, ap (λ (l : List (Option (List ℕ))). length (blocksIn packed l)) (append_assoc done (some b ∷ []) rest))
+one_most packed done none rest = omega arith
+one_most packed done (some b) rest =
+    omega (arith, block_most packed done b, blocks_onward packed (done ++ (some b ∷ [])) rest, ap (λ (l : List (Option (List ℕ))). length (blocks_in packed l)) (append_assoc done (some b ∷ []) rest))
 
 module _ (packed chained : Bool) (s t : List ℕ) (maps : Maps) (all : List (Option (List ℕ))) (slots first : ℕ) where
-  abbrev setsLeft : ℕ → Option (List ℕ)
-  setsLeft = setLeft chained (mapsIn t maps) s
+  abbrev sets_left : ℕ → Option (List ℕ)
+  sets_left = set_left chained (maps_in t maps) s
 
   -- k slots are written, and their blocks up to p; with those that are left they are all, and h of them are those up to the last that is not null
   pub record Filling (left : List (Option (List ℕ))) (area₀ area : List ℕ) (h k p : ℕ) (book : List ℕ) : Type 0 where
@@ -39,65 +39,65 @@ module _ (packed chained : Bool) (s t : List ℕ) (maps : Maps) (all : List (Opt
     pub done : List (Option (List ℕ))
     pub many : length done ≡ k
     pub slotting : Slotting all left done h
-    pub gathered : Gathered packed setsLeft slots first done area p book
+    pub gathered : Gathered packed sets_left slots first done area p book
 
-  pub filling-all : {left : List (Option (List ℕ))} {area₀ book : List ℕ} → left ≡ all → 0 < first → slots + 2 * length all ≤ first → first ≤ length area₀ → packs book ≡ packed → Booked setsLeft (inBook packed []) book → (packed ≡ true → bookCells ≤ length book)
+  pub filling_all : {left : List (Option (List ℕ))} {area₀ book : List ℕ} → left ≡ all → 0 < first → slots + 2 * length all ≤ first → first ≤ length area₀ → packs book ≡ packed → Booked sets_left (in_book packed []) book → (packed ≡ true → book_cells ≤ length book)
       → Filling left area₀ area₀ 0 0 first book
-  filling-all e z h l m b c = record { start = z; places = h; same = refl; done = []; many = refl; slotting = slotting-all e; gathered = gathered-all m l b c }
+  filling_all e z h l m b c = record { start = z; places = h; same = refl; done = []; many = refl; slotting = slotting_all e; gathered = gathered_all m l b c }
 
   -- the slots that are left, said otherwise
-  pub filling-said : {left rest : List (Option (List ℕ))} {area₀ area : List ℕ} {h k p : ℕ} {book : List ℕ} → Filling left area₀ area h k p book → left ≡ rest → Filling rest area₀ area h k p book
-  filling-said c e = rw e at c
+  pub filling_said : {left rest : List (Option (List ℕ))} {area₀ area : List ℕ} {h k p : ℕ} {book : List ℕ} → Filling left area₀ area h k p book → left ≡ rest → Filling rest area₀ area h k p book
+  filling_said c e = rw e at c
 
   -- how many are done
-  pub filling-few : {left : List (Option (List ℕ))} {area₀ area : List ℕ} {h k p : ℕ} {book : List ℕ} → Filling left area₀ area h k p book → k + length left ≡ length all
-  filling-few {left} c = omega (arith, c.many, ap length c.slotting.whole, length-append c.done left)
+  pub filling_few : {left : List (Option (List ℕ))} {area₀ area : List ℕ} {h k p : ℕ} {book : List ℕ} → Filling left area₀ area h k p book → k + length left ≡ length all
+  filling_few {left} c = omega (arith, c.many, ap length c.slotting.whole, length-append c.done left)
 
-  module _ (at : ℕ) {rest : List (Option (List ℕ))} {area₀ area : List ℕ} {h k p : ℕ} {book : List ℕ} (c : Filling (setsLeft at ∷ rest) area₀ area h k p book) where
+  module _ (at : ℕ) {rest : List (Option (List ℕ))} {area₀ area : List ℕ} {h k p : ℕ} {book : List ℕ} (c : Filling (sets_left at ∷ rest) area₀ area h k p book) where
     abbrev turn : Turn
     turn = record { at = at; slot = slots + 2 * k; first = first; pos = p }
 
-    slot-here : slots + 2 * k ≡ slots + 2 * length c.done
-    slot-here = omega (arith, c.many)
+    slot_here : slots + 2 * k ≡ slots + 2 * length c.done
+    slot_here = omega (arith, c.many)
 
     module _ {q : ℕ} {one after : List ℕ} (w : PlacedSet chained s t maps turn area book one after q) where
-      pub filling-null : q ≡ 0 → Filling rest area₀ one h (k + 1) p after
-      filling-null z =
-          let g = w.null c.gathered slot-here z in
+      pub filling_null : q ≡ 0 → Filling rest area₀ one h (k + 1) p after
+      filling_null z =
+          let g = w.null c.gathered slot_here z in
           record {
             start = c.start;
             places = c.places;
             same = w.same ∙ c.same;
             done = c.done ++ (none ∷ []);
             many = omega (arith, length-append c.done (none ∷ []), c.many);
-            slotting = slotting-null (slotting-said c.slotting (ap (λ (x : Option (List ℕ)). x ∷ rest) g.0));
+            slotting = slotting_null (slotting_said c.slotting (ap (λ (x : Option (List ℕ)). x ∷ rest) g.0));
             gathered = g.1;
           }
 
-      pub filling-set : (q ≡ 0 → ⊥) → q ≤ length one → Filling rest area₀ one (k + 1) (k + 1) q after
-      filling-set z l =
-          let g = w.there c.gathered slot-here z (omega (arith, w.same)) in
+      pub filling_set : (q ≡ 0 → ⊥) → q ≤ length one → Filling rest area₀ one (k + 1) (k + 1) q after
+      filling_set z l =
+          let g = w.there c.gathered slot_here z (omega (arith, w.same)) in
           record {
             start = c.start;
             places = c.places;
             same = w.same ∙ c.same;
             done = c.done ++ (some g.words ∷ []);
             many = omega (arith, length-append c.done (some g.words ∷ []), c.many);
-            slotting = rw c.many at (slotting-set (slotting-said c.slotting (ap (λ (x : Option (List ℕ)). x ∷ rest) g.is)));
+            slotting = rw c.many at (slotting_set (slotting_said c.slotting (ap (λ (x : Option (List ℕ)). x ∷ rest) g.is)));
             gathered = g.gathered;
           }
 
       -- there is no room
-      pub filling-full : length one < q → enoughArea ≤ length area₀ → setsFull ≤ 2 * length (blocksIn packed all)
-      filling-full l m =
-          let b = 2 * length (blocksIn packed all) in
-          let whole = ap (λ (x : List (Option (List ℕ))). length (blocksIn packed x)) c.slotting.whole in
-          let before : p ≤ first + b = omega (arith, c.gathered.noted.place, blocks-onward packed c.done (setsLeft at ∷ rest), whole) in
-          w.full c.gathered (omega (arith, w.same)) (omega (arith, c.same)) b before (omega (arith, one-most packed c.done (setsLeft at) rest, whole))
+      pub filling_full : length one < q → enough_area ≤ length area₀ → sets_full ≤ 2 * length (blocks_in packed all)
+      filling_full l m =
+          let b = 2 * length (blocks_in packed all) in
+          let whole = ap (λ (x : List (Option (List ℕ))). length (blocks_in packed x)) c.slotting.whole in
+          let before : p ≤ first + b = omega (arith, c.gathered.noted.place, blocks_onward packed c.done (sets_left at ∷ rest), whole) in
+          w.full c.gathered (omega (arith, w.same)) (omega (arith, c.same)) b before (omega (arith, one_most packed c.done (sets_left at) rest, whole))
 
   -- all is written where none is left
-  pub filling-end : {left : List (Option (List ℕ))} {area₀ area : List ℕ} {h k p : ℕ} {book : List ℕ} → Filling left area₀ area h k p book → left ≡ [] → Noted packed slots first all area p × (h ≤ length all) × (trim all ≡ take h all)
-  filling-end c e =
-      let k = slotting-said c.slotting e in
-      let f = slotting-end k in
+  pub filling_end : {left : List (Option (List ℕ))} {area₀ area : List ℕ} {h k p : ℕ} {book : List ℕ} → Filling left area₀ area h k p book → left ≡ [] → Noted packed slots first all area p × (h ≤ length all) × (trim all ≡ take h all)
+  filling_end c e =
+      let k = slotting_said c.slotting e in
+      let f = slotting_end k in
       (rw f.0 at c.gathered.noted, omega (arith, k.near, ap length f.0), f.1)

@@ -3,8 +3,8 @@ ghost use Rattle.std.specs.Prelude.{◌≡◌, true, map, ◌+◌, ◌*◌, ◌�
 ghost use Rattle.std.proofs.lemmas.List.Edits.{sets};
 ghost use Rattle.meaning.specs.Words.{words, flat};
 ghost use Rattle.member_sets.specs.Dead.{Dead};
-ghost use Rattle.kept_rules.specs.Left.{mapsIn, ruleLeft};
-ghost use Rattle.known_blocks.specs.Book.{bookCells, packs};
+ghost use Rattle.kept_rules.specs.Left.{maps_in, rule_left};
+ghost use Rattle.known_blocks.specs.Book.{book_cells, packs};
 ghost use Rattle.class_spots.specs.Slots.{settled, Ready, WroteSlots};
 ghost use Rattle.class_spots.specs.Placing.{SetAsked, PlacedSet};
 
@@ -30,8 +30,8 @@ fn place_set(
     book: &mut [u32],
     turn: Turn,
 ) -> usize
-    requires { SetAsked chained src.now t.now maps turn area.old book.old × Dead (ruleLeft chained (mapsIn t.now maps) src.now) dead.old }
-    ensures { PlacedSet chained src.now t.now maps turn area.old book.old area.new book.new result × Dead (ruleLeft chained (mapsIn t.now maps) src.now) dead.new }
+    requires { SetAsked chained src.now t.now maps turn area.old book.old × Dead (rule_left chained (maps_in t.now maps) src.now) dead.old }
+    ensures { PlacedSet chained src.now t.now maps turn area.old book.old area.new book.new result × Dead (rule_left chained (maps_in t.now maps) src.now) dead.new }
 {
     let before = again(book, turn.first, turn.at);
     if before != 0 {
@@ -65,8 +65,8 @@ pub fn write_slots(
     area: &mut [u8],
     book: &mut [u32],
 ) -> Slots
-    requires { Ready chained src.now t.now maps classes × (length area.old ≤ 0x1_0000_0000) × Dead (ruleLeft chained (mapsIn t.now maps) src.now) dead.old × (packs book.old ≡ true → bookCells ≤ length book.old) }
-    ensures { WroteSlots (packs book.old) chained src.now t.now maps classes.marks area.old area.new result × Dead (ruleLeft chained (mapsIn t.now maps) src.now) dead.new }
+    requires { Ready chained src.now t.now maps classes × (length area.old ≤ 0x1_0000_0000) × Dead (rule_left chained (maps_in t.now maps) src.now) dead.old × (packs book.old ≡ true → book_cells ≤ length book.old) }
+    ensures { WroteSlots (packs book.old) chained src.now t.now maps classes.marks area.old area.new result × Dead (rule_left chained (maps_in t.now maps) src.now) dead.new }
 {
     let slots = slots_at(chained);
     let first = slots + 2 * classes.count;

@@ -10,57 +10,57 @@ use lib.ListN.{length, get_or, length-append}
 use lib.Seq.{sets}
 use lib.Dec.{ltb}
 use Rattle.meaning.specs.Words.{bytes2}
-use Rattle.meaning.specs.Tables.{dropNull}
-use Rattle.meaning.specs.Packed.{firstOfEach, together}
-use Rattle.laws.specs.PackedReading.{sharedBlocks}
+use Rattle.meaning.specs.Tables.{drop_null}
+use Rattle.meaning.specs.Packed.{first_of_each, together}
+use Rattle.laws.specs.PackedReading.{shared_blocks}
 use Rattle.laws.specs.Stands.{All, Word, Stands, all_append}
 use Rattle.laws.specs.Repeats.{has}
-use Rattle.area.specs.Extends.{Keeps, Extends, extends-none, extends-kept, extends-keeps, extends-stands}
-use Rattle.numbers.proofs.Fronts.{part-keeps, part-extends}
-use Rattle.known_blocks.specs.Shared.{blocksIn, known, place_in, null-dropped, blocks-null, blocks-next, firsts-next}
-use Rattle.known_blocks.specs.Book.{bookCells, packs, inBook, Booked, Repeated, Behind, Settled}
+use Rattle.area.specs.Extends.{Keeps, Extends, extends_none, extends_kept, extends_keeps, extends_stands}
+use Rattle.numbers.proofs.Fronts.{part_keeps, part_extends}
+use Rattle.known_blocks.specs.Shared.{blocks_in, known, place_in, null_dropped, blocks_null, blocks_next, firsts_next}
+use Rattle.known_blocks.specs.Book.{book_cells, packs, in_book, Booked, Repeated, Behind, Settled}
 use Rattle.known_blocks.specs.declared.Spot.{Spot}
 use Rattle.class_spots.specs.Slots.{Noted}
 use Rattle.class_spots.specs.Placing.{Gathered}
-use Rattle.class_spots.proofs.Noting.{noted-all, noted-null, noted-set}
+use Rattle.class_spots.proofs.Noting.{noted_all, noted_null, noted_set}
 
-in-null : (packed : Bool) (bs : List (Option (List ℕ))) → inBook packed (bs ++ (none ∷ [])) ≡ inBook packed bs
-in-null false bs = refl
-in-null true bs = ap firstOfEach (null-dropped bs)
+in_null : (packed : Bool) (bs : List (Option (List ℕ))) → in_book packed (bs ++ (none ∷ [])) ≡ in_book packed bs
+in_null false bs = refl
+in_null true bs = ap first_of_each (null_dropped bs)
 
 -- packed blocks and one more: their words fit, and each has two, if that holds of it or it is among them
 module _ (bs : List (Option (List ℕ))) (b : List ℕ) where
   abbrev ds : List (List ℕ)
-  ds = firstOfEach (dropNull bs)
+  ds = first_of_each (drop_null bs)
 
-  small-next : All Word (blocksIn true bs) → (known true bs b ≡ false → All Word b) → All Word (blocksIn true (bs ++ (some b ∷ [])))
-  small-next h f = rw (blocks-next true 0 bs b) (all_append Word (blocksIn true bs) (cond (has b ds) [] b) h (step (has b ds) refl))
+  small_next : All Word (blocks_in true bs) → (known true bs b ≡ false → All Word b) → All Word (blocks_in true (bs ++ (some b ∷ [])))
+  small_next h f = rw (blocks_next true 0 bs b) (all_append Word (blocks_in true bs) (cond (has b ds) [] b) h (step (has b ds) refl))
     where
       step : (t : Bool) → has b ds ≡ t → All Word (cond t [] b)
       step true e = tt
       step false e = f e
 
-  two-next : 2 * length (inBook true bs) ≤ length (blocksIn true bs) → (known true bs b ≡ false → 2 ≤ length b) → 2 * length (inBook true (bs ++ (some b ∷ []))) ≤ length (blocksIn true (bs ++ (some b ∷ [])))
-  two-next h f = rw (firsts-next true 0 bs b, blocks-next true 0 bs b) (step (has b ds) refl)
+  two_next : 2 * length (in_book true bs) ≤ length (blocks_in true bs) → (known true bs b ≡ false → 2 ≤ length b) → 2 * length (in_book true (bs ++ (some b ∷ []))) ≤ length (blocks_in true (bs ++ (some b ∷ [])))
+  two_next h f = rw (firsts_next true 0 bs b, blocks_next true 0 bs b) (step (has b ds) refl)
     where
-      step : (t : Bool) → has b ds ≡ t → 2 * length (ds ++ cond t [] (b ∷ [])) ≤ length (blocksIn true bs ++ cond t [] b)
-      step true e = omega (arith, h, length-append ds [], length-append (blocksIn true bs) [])
-      step false e = omega (arith, h, f e, length-append ds (b ∷ []), length-append (blocksIn true bs) b)
+      step : (t : Bool) → has b ds ≡ t → 2 * length (ds ++ cond t [] (b ∷ [])) ≤ length (blocks_in true bs ++ cond t [] b)
+      step true e = omega (arith, h, length-append ds [], length-append (blocks_in true bs) [])
+      step false e = omega (arith, h, f e, length-append ds (b ∷ []), length-append (blocks_in true bs) b)
 
 -- no set so far
-pub gathered-all : {packed : Bool} {left : ℕ → Option (List ℕ)} {slots first : ℕ} {area book : List ℕ} → packs book ≡ packed → first ≤ length area → Booked left (inBook packed []) book → (packed ≡ true → bookCells ≤ length book) → Gathered packed left slots first [] area first book
-unfolding sharedBlocks dropNull firstOfEach together
-gathered-all m h k e = record { mode = m; noted = noted-all h; near = omega arith; booked = k; small = λ p. tt; two = λ p. omega arith; enough = e }
+pub gathered_all : {packed : Bool} {left : ℕ → Option (List ℕ)} {slots first : ℕ} {area book : List ℕ} → packs book ≡ packed → first ≤ length area → Booked left (in_book packed []) book → (packed ≡ true → book_cells ≤ length book) → Gathered packed left slots first [] area first book
+unfolding shared_blocks drop_null first_of_each together
+gathered_all m h k e = record { mode = m; noted = noted_all h; near = omega arith; booked = k; small = λ p. tt; two = λ p. omega arith; enough = e }
 
 module _ {packed : Bool} {left : ℕ → Option (List ℕ)} {slots first : ℕ} {bs : List (Option (List ℕ))} {area : List ℕ} {end : ℕ} {book : List ℕ} (g : Gathered packed left slots first bs area end book) where
   -- the count in the book
-  pub gathered-count : get_or book 0 0 < 65536
-  gathered-count = omega (arith, g.booked.count, g.booked.few)
+  pub gathered_count : get_or book 0 0 < 65536
+  gathered_count = omega (arith, g.booked.count, g.booked.few)
 
   module _ {b one : List ℕ} {q source : ℕ} (x : Extends area end b one q) (from : left source ≡ some b) (long : 2 ≤ length b) (low : q ≤ end + 131076) (small : All Word b) where
     -- it was written behind the others
-    pub set-behind : Behind left bs b one first end q source book
-    set-behind =
+    pub set_behind : Behind left bs b one first end q source book
+    set_behind =
         let m = g.mode in
         let mode : packs book ≡ true → packed ≡ true = λ t. sym m ∙ t in
         record {
@@ -69,39 +69,39 @@ module _ {packed : Bool} {left : ℕ → Option (List ℕ)} {slots first : ℕ} 
           end = x.place;
           some_word = omega arith;
           laid = λ t. laid (mode t);
-          last = λ t. extends-stands x small;
+          last = λ t. extends_stands x small;
           from = from;
           room = λ t h. omega (arith, g.two (mode t), g.enough (mode t), rw (mode t) at g.noted.place);
           few = λ t h. omega (arith, g.two (mode t), rw (mode t) at g.noted.place);
         }
       where
-        laid : packed ≡ true → Stands one first (blocksIn true bs)
+        laid : packed ≡ true → Stands one first (blocks_in true bs)
         laid t =
             let u : Noted true slots first bs area end = rw t at g.noted in
-            let stays = part-keeps (extends-keeps x) first (2 * length (blocksIn true bs)) (omega (arith, u.place)) ∙ u.laid in
-            extends-stands (part-extends (blocksIn true bs) refl (omega (arith, u.place, u.room, x.same)) stays) (g.small t)
+            let stays = part_keeps (extends_keeps x) first (2 * length (blocks_in true bs)) (omega (arith, u.place)) ∙ u.laid in
+            extends_stands (part_extends (blocks_in true bs) refl (omega (arith, u.place, u.room, x.same)) stays) (g.small t)
 
     -- and it has its spot
-    pub gathered-set : {slot : ℕ} → slot ≡ slots + 2 * length bs → slot + 2 ≤ first → {spot : Spot} {after two : List ℕ} {r : ℕ} → Settled one first end q source book after spot → (spot.at ≡ 0 → ⊥) → (r ≡ slot + 2) × (two ≡ sets one slot (bytes2 ((spot.at - first) / 2 + 1))) → Gathered packed left slots first (bs ++ (some b ∷ [])) two spot.end after
-    gathered-set e apart {spot} {after} s n p =
+    pub gathered_set : {slot : ℕ} → slot ≡ slots + 2 * length bs → slot + 2 ≤ first → {spot : Spot} {after two : List ℕ} {r : ℕ} → Settled one first end q source book after spot → (spot.at ≡ 0 → ⊥) → (r ≡ slot + 2) × (two ≡ sets one slot (bytes2 ((spot.at - first) / 2 + 1))) → Gathered packed left slots first (bs ++ (some b ∷ [])) two spot.end after
+    gathered_set e apart {spot} {after} s n p =
         let m : packs after ≡ packed = ap (ltb 1) s.same ∙ g.mode in
-        let near = s.near bs b set-behind n in
+        let near = s.near bs b set_behind n in
         let place : spot.at ≡ place_in packed first bs b = rw m at near.0 in
-        let ends : spot.end ≡ first + 2 * length (blocksIn packed (bs ++ (some b ∷ []))) = rw m at near.1 in
-        let after-all : end + 2 * length (cond (known packed bs b) [] b) ≡ spot.end = omega (arith, ends, g.noted.place, ap length (blocks-next packed 0 bs b), length-append (blocksIn packed bs) (cond (known packed bs b) [] b)) in
+        let ends : spot.end ≡ first + 2 * length (blocks_in packed (bs ++ (some b ∷ []))) = rw m at near.1 in
+        let after-all : end + 2 * length (cond (known packed bs b) [] b) ≡ spot.end = omega (arith, ends, g.noted.place, ap length (blocks_next packed 0 bs b), length-append (blocks_in packed bs) (cond (known packed bs b) [] b)) in
         let stands : Extends area end (cond (known packed bs b) [] b) one spot.end = rw after-all at (written (known packed bs b)) in
         record {
           mode = m;
-          noted = noted-set g.noted (omega (arith, e)) b place stands (rw e at p);
-          near = close (known packed bs b) refl (λ f. rw m at (s.new bs b set-behind f n)) after-all (dec_lt (first + 65535) end);
+          noted = noted_set g.noted (omega (arith, e)) b place stands (rw e at p);
+          near = close (known packed bs b) refl (λ f. rw m at (s.new bs b set_behind f n)) after-all (dec_lt (first + 65535) end);
           booked = rw m at near.2;
-          small = λ t. small-next bs b (g.small t) (λ f. small);
-          two = λ t. two-next bs b (g.two t) (λ f. long);
+          small = λ t. small_next bs b (g.small t) (λ f. small);
+          two = λ t. two_next bs b (g.two t) (λ f. long);
           enough = λ t. omega (arith, g.enough t, s.same);
         }
       where
         written : (t : Bool) → Extends area end (cond t [] b) one (end + 2 * length (cond t [] b))
-        written true = rw (no_more end) (extends-kept (extends-none g.noted.room) (extends-keeps x))
+        written true = rw (no_more end) (extends_kept (extends_none g.noted.room) (extends_keeps x))
           where
             no_more : (n : ℕ) → n + 2 * 0 ≡ n
             no_more n = omega arith
@@ -113,35 +113,35 @@ module _ {packed : Bool} {left : ℕ → Option (List ℕ)} {slots first : ℕ} 
         close false h f l (no v) = omega (arith, l, x.place)
 
   module _ {slot : ℕ} (e : slot ≡ slots + 2 * length bs) (apart : slot + 2 ≤ first) where
-    room-between : slots + 2 * length bs + 2 ≤ first
-    room-between = omega (arith, e)
+    room_between : slots + 2 * length bs + 2 ≤ first
+    room_between = omega (arith, e)
 
     -- nothing is left of it
-    pub gathered-null : {one two : List ℕ} {r : ℕ} → Keeps area end one → (r ≡ slot + 2) × (two ≡ sets one slot (bytes2 0)) → Gathered packed left slots first (bs ++ (none ∷ [])) two end book
-    gathered-null k p = record {
+    pub gathered_null : {one two : List ℕ} {r : ℕ} → Keeps area end one → (r ≡ slot + 2) × (two ≡ sets one slot (bytes2 0)) → Gathered packed left slots first (bs ++ (none ∷ [])) two end book
+    gathered_null k p = record {
       mode = g.mode;
-      noted = noted-null g.noted room-between k (rw e at p);
+      noted = noted_null g.noted room_between k (rw e at p);
       near = g.near;
-      booked = rw (in-null packed bs) g.booked;
-      small = λ t. rw (blocks-null true 0 bs) (g.small t);
-      two = λ t. rw (null-dropped bs, blocks-null true 0 bs) (g.two t);
+      booked = rw (in_null packed bs) g.booked;
+      small = λ t. rw (blocks_null true 0 bs) (g.small t);
+      two = λ t. rw (null_dropped bs, blocks_null true 0 bs) (g.two t);
       enough = g.enough;
     }
 
     -- it is in the book, by its place in the source
-    pub gathered-again : {source at r : ℕ} {two : List ℕ} (x : Repeated left bs book first source at) → (r ≡ slot + 2) × (two ≡ sets area slot (bytes2 ((at - first) / 2 + 1))) → Gathered packed left slots first (bs ++ (some x.words ∷ [])) two end book
-    gathered-again {at = at} x p =
+    pub gathered_again : {source at r : ℕ} {two : List ℕ} (x : Repeated left bs book first source at) → (r ≡ slot + 2) × (two ≡ sets area slot (bytes2 ((at - first) / 2 + 1))) → Gathered packed left slots first (bs ++ (some x.words ∷ [])) two end book
+    gathered_again {at = at} x p =
         let m = g.mode in
         let again : known packed bs x.words ≡ true = rw m at x.again in
         let place : at ≡ place_in packed first bs x.words = rw m at x.at in
-        let kept : Extends area end (cond (known packed bs x.words) [] x.words) area end = rw again (extends-none g.noted.room) in
+        let kept : Extends area end (cond (known packed bs x.words) [] x.words) area end = rw again (extends_none g.noted.room) in
         let known-true : packed ≡ true → known true bs x.words ≡ true = λ t. rw t at again in
         record {
           mode = m;
-          noted = noted-set g.noted room-between x.words place kept (rw e at p);
+          noted = noted_set g.noted room_between x.words place kept (rw e at p);
           near = g.near;
           booked = rw m at x.booked;
-          small = λ t. small-next bs x.words (g.small t) (λ n. absurd (true≢false (sym (known-true t) ∙ n)));
-          two = λ t. two-next bs x.words (g.two t) (λ n. absurd (true≢false (sym (known-true t) ∙ n)));
+          small = λ t. small_next bs x.words (g.small t) (λ n. absurd (true≢false (sym (known-true t) ∙ n)));
+          two = λ t. two_next bs x.words (g.two t) (λ n. absurd (true≢false (sym (known-true t) ∙ n)));
           enough = g.enough;
         }

@@ -7,19 +7,19 @@ use lib.ListN.{length, get_or}
 use lib.Seq.{sets, length-sets}
 use borrow.Author.Tests.{eq-eqb, ne_eqb}
 use Rattle.meaning.specs.Words.{word, words, bytes2, flat}
-use Rattle.laws.specs.Left.{words_left, words-all, words-none}
-use Rattle.laws.specs.Written.{sets-one}
-use Rattle.handing.proofs.Moved.{getD-sets-behind}
+use Rattle.laws.specs.Left.{words_left_lem, words_all, words_none}
+use Rattle.laws.specs.Written.{sets_one}
+use Rattle.handing.proofs.Moved.{get_d_sets_behind}
 use Rattle.class_spots.specs.Slots.{settled}
 
 -- the ways to an offset
-pub settled-null : (p : ℕ) {w : ℕ} → w ≡ 0 → 0 ≡ settled p w
+pub settled_null : (p : ℕ) {w : ℕ} → w ≡ 0 → 0 ≡ settled p w
 unfolding settled
-settled-null p {w} e = rw (eq-eqb w 0 e) refl
+settled_null p {w} e = rw (eq-eqb w 0 e) refl
 
-pub settled-there : (p : ℕ) {w : ℕ} → (w ≡ 0 → ⊥) → p + 2 * (w - 1) ≡ settled p w
+pub settled_there : (p : ℕ) {w : ℕ} → (w ≡ 0 → ⊥) → p + 2 * (w - 1) ≡ settled p w
 unfolding settled
-settled-there p {w} e = rw (ne_eqb w 0 e) refl
+settled_there p {w} e = rw (ne_eqb w 0 e) refl
 
 -- the slots that are left, settled, end the run; and they stand where they stood
 pub record Settling (p at n : ℕ) (out₀ out : List ℕ) (i : ℕ) : Type 0 where
@@ -29,29 +29,29 @@ pub record Settling (p at n : ℕ) (out₀ out : List ℕ) (i : ℕ) : Type 0 wh
   pub left : sets out (at + 2 * i) (flat (map (settled p) (words out₀ (at + 2 * i) (n - i)))) ≡ sets out₀ at (flat (map (settled p) (words out₀ at n)))
 
 module _ {p at n : ℕ} {out₀ : List ℕ} where
-  pub settling-all : Settling p at n out₀ out₀ 0
-  settling-all =
+  pub settling_all : Settling p at n out₀ out₀ 0
+  settling_all =
       let e : at + 2 * 0 ≡ at = omega arith in
-      record { within = omega arith; same = refl; behind = λ j h. refl; left = rw (words-all out₀ at n, e) }
+      record { within = omega arith; same = refl; behind = λ j h. refl; left = rw (words_all out₀ at n, e) }
 
   -- the slot that is read is the one that stood there
-  settling-word : {out : List ℕ} {i : ℕ} → Settling p at n out₀ out i → word out (at + 2 * i) ≡ word out₀ (at + 2 * i)
+  settling_word : {out : List ℕ} {i : ℕ} → Settling p at n out₀ out i → word out (at + 2 * i) ≡ word out₀ (at + 2 * i)
   unfolding word
-  settling-word {out} {i} k = rw (k.behind (at + 2 * i) (omega arith), k.behind (at + 2 * i + 1) (omega arith))
+  settling_word {out} {i} k = rw (k.behind (at + 2 * i) (omega arith), k.behind (at + 2 * i + 1) (omega arith))
 
-  pub settling-turn : {out next : List ℕ} {i slot w v r : ℕ} → Settling p at n out₀ out i → i < n → slot ≡ at + 2 * i → w ≡ word out slot → v ≡ settled p w
+  pub settling_turn : {out next : List ℕ} {i slot w v r : ℕ} → Settling p at n out₀ out i → i < n → slot ≡ at + 2 * i → w ≡ word out slot → v ≡ settled p w
       → (r ≡ slot + 2) × (next ≡ sets out slot (bytes2 v)) → Settling p at n out₀ next (i + 1)
   unfolding bytes2
-  settling-turn {out} {next} {i} {slot} {w} {v} k h es e s f =
+  settling_turn {out} {next} {i} {slot} {w} {v} k h es e s f =
       let g : at + 2 * (i + 1) ≡ at + 2 * i + 2 = omega arith in
-      let v₀ : v ≡ settled p (word out₀ (at + 2 * i)) = s ∙ ap (settled p) (e ∙ ap (word out) es ∙ settling-word k) in
+      let v₀ : v ≡ settled p (word out₀ (at + 2 * i)) = s ∙ ap (settled p) (e ∙ ap (word out) es ∙ settling_word k) in
       record {
         within = omega arith;
         same = ap length f.1 ∙ length-sets out slot (bytes2 v) ∙ k.same;
-        behind = λ j m. ap (λ (b : List ℕ). get_or b j 0) f.1 ∙ getD-sets-behind (bytes2 v) out slot j (omega arith) ∙ k.behind j (omega arith);
-        left = rw (f.1, es, g) (sets-one out (at + 2 * i) v (map (settled p) (words out₀ (at + 2 * i + 2) (n - (i + 1)))) ∙ rw (v₀, ← g) (rw (words_left out₀ at n i h) at k.left));
+        behind = λ j m. ap (λ (b : List ℕ). get_or b j 0) f.1 ∙ get_d_sets_behind (bytes2 v) out slot j (omega arith) ∙ k.behind j (omega arith);
+        left = rw (f.1, es, g) (sets_one out (at + 2 * i) v (map (settled p) (words out₀ (at + 2 * i + 2) (n - (i + 1)))) ∙ rw (v₀, ← g) (rw (words_left_lem out₀ at n i h) at k.left));
       }
 
-  pub settling-end : {out : List ℕ} {i : ℕ} → Settling p at n out₀ out i → n ≤ i → out ≡ sets out₀ at (flat (map (settled p) (words out₀ at n)))
+  pub settling_end : {out : List ℕ} {i : ℕ} → Settling p at n out₀ out i → n ≤ i → out ≡ sets out₀ at (flat (map (settled p) (words out₀ at n)))
   unfolding flat
-  settling-end {out} {i} k h = rw (words-none out₀ (at + 2 * i) n i h) at k.left
+  settling_end {out} {i} k h = rw (words_none out₀ (at + 2 * i) n i h) at k.left

@@ -5,14 +5,14 @@ use Rattle.std.proofs.lemmas.List.Edits.{sets}
 use Rattle.meaning.specs.Words.{bytes2}
 use Rattle.meaning.specs.Subset.{limit}
 use Rattle.laws.specs.Stands.{All, Word}
-use Rattle.room.specs.Laid.{enoughArea}
-use Rattle.known_blocks.specs.Shared.{blocksIn, known}
-use Rattle.known_blocks.specs.Book.{bookCells, packs, inBook, Booked, Behind, Settled}
+use Rattle.room.specs.Laid.{enough_area}
+use Rattle.known_blocks.specs.Shared.{blocks_in, known}
+use Rattle.known_blocks.specs.Book.{book_cells, packs, in_book, Booked, Behind, Settled}
 use Rattle.known_blocks.specs.declared.Spot.{Spot}
-use Rattle.kept_rules.specs.Left.{AllInside, mapsIn}
+use Rattle.kept_rules.specs.Left.{AllInside, maps_in}
 use Rattle.kept_rules.specs.declared.Maps.{Maps}
-use Rattle.class_spots.specs.Sets.{setLeft, words_in, SetSound}
-use Rattle.class_spots.specs.Slots.{Noted, setsFull}
+use Rattle.class_spots.specs.Sets.{set_left, words_in, SetSound}
+use Rattle.class_spots.specs.Slots.{Noted, sets_full}
 use Rattle.class_spots.specs.declared.Turn.{Turn}
 
 -- The blocks so far, sets or class tables: their slots are noted, and those that are written are in the book, if it is for packed ones; then their words fit, and each has two.
@@ -21,10 +21,10 @@ pub record Gathered (packed : Bool) (left : ℕ → Option (List ℕ)) (slots fi
   pub mode : packs book ≡ packed
   pub noted : Noted packed slots first bs area end
   pub near : end ≤ first + 196611
-  pub booked : Booked left (inBook packed bs) book
-  pub small : packed ≡ true → All Word (blocksIn true bs)
-  pub two : packed ≡ true → 2 * length (inBook true bs) ≤ length (blocksIn true bs)
-  pub enough : packed ≡ true → bookCells ≤ length book
+  pub booked : Booked left (in_book packed bs) book
+  pub small : packed ≡ true → All Word (blocks_in true bs)
+  pub two : packed ≡ true → 2 * length (in_book true bs) ≤ length (blocks_in true bs)
+  pub enough : packed ≡ true → book_cells ≤ length book
 
 -- what is asked of the places of a turn
 pub record TurnIn (turn : Turn) (area book : List ℕ) : Type 0 where
@@ -69,25 +69,25 @@ module _ (chained : Bool) (s t : List ℕ) (maps : Maps) (turn : Turn) where
     pub packed : Bool
     pub slots : ℕ
     pub sets : List (Option (List ℕ))
-    pub gathered : Gathered packed (setLeft chained (mapsIn t maps) s) slots turn.first sets area turn.pos book
+    pub gathered : Gathered packed (set_left chained (maps_in t maps) s) slots turn.first sets area turn.pos book
     pub sound : SetSound chained s turn.at
     pub short : length s ≤ limit
     pub inside : AllInside t maps
-    pub words : {ws : List ℕ} → setLeft chained (mapsIn t maps) s turn.at ≡ some ws → 2 * length ws ≤ 65535 → All Word ws
+    pub words : {ws : List ℕ} → set_left chained (maps_in t maps) s turn.at ≡ some ws → 2 * length ws ≤ 65535 → All Word ws
 
   -- something is left of the set, and it is among the sets
   pub record SetThere (packed : Bool) (slots : ℕ) (bs : List (Option (List ℕ))) (area book : List ℕ) (r : ℕ) : Type 0 where
     pub words : List ℕ
-    pub is : setLeft chained (mapsIn t maps) s turn.at ≡ some words
-    pub gathered : Gathered packed (setLeft chained (mapsIn t maps) s) slots turn.first (bs ++ (some words ∷ [])) area r book
+    pub is : set_left chained (maps_in t maps) s turn.at ≡ some words
+    pub gathered : Gathered packed (set_left chained (maps_in t maps) s) slots turn.first (bs ++ (some words ∷ [])) area r book
 
   -- Whatever sets there are so far: nothing is left, or something is, or there is no room, or the set is too long or too far behind the first.
   pub record PlacedSet (area₀ book₀ area book : List ℕ) (r : ℕ) : Type 0 where
     pub same : length area ≡ length area₀
     pub alike : length book ≡ length book₀
-    pub null : {packed : Bool} {slots : ℕ} {bs : List (Option (List ℕ))} → Gathered packed (setLeft chained (mapsIn t maps) s) slots turn.first bs area₀ turn.pos book₀ → turn.slot ≡ slots + 2 * length bs → r ≡ 0
-        → (setLeft chained (mapsIn t maps) s turn.at ≡ none) × Gathered packed (setLeft chained (mapsIn t maps) s) slots turn.first (bs ++ (none ∷ [])) area turn.pos book
-    pub there : {packed : Bool} {slots : ℕ} {bs : List (Option (List ℕ))} → Gathered packed (setLeft chained (mapsIn t maps) s) slots turn.first bs area₀ turn.pos book₀ → turn.slot ≡ slots + 2 * length bs → (r ≡ 0 → ⊥) → r ≤ length area₀
+    pub null : {packed : Bool} {slots : ℕ} {bs : List (Option (List ℕ))} → Gathered packed (set_left chained (maps_in t maps) s) slots turn.first bs area₀ turn.pos book₀ → turn.slot ≡ slots + 2 * length bs → r ≡ 0
+        → (set_left chained (maps_in t maps) s turn.at ≡ none) × Gathered packed (set_left chained (maps_in t maps) s) slots turn.first (bs ++ (none ∷ [])) area turn.pos book
+    pub there : {packed : Bool} {slots : ℕ} {bs : List (Option (List ℕ))} → Gathered packed (set_left chained (maps_in t maps) s) slots turn.first bs area₀ turn.pos book₀ → turn.slot ≡ slots + 2 * length bs → (r ≡ 0 → ⊥) → r ≤ length area₀
         → SetThere packed slots bs area book r
-    pub full : {packed : Bool} {slots : ℕ} {bs : List (Option (List ℕ))} → Gathered packed (setLeft chained (mapsIn t maps) s) slots turn.first bs area₀ turn.pos book₀ → length area₀ < r → enoughArea ≤ length area₀
-        → (most : ℕ) → turn.pos ≤ turn.first + most → 2 * length (words_in (setLeft chained (mapsIn t maps) s turn.at)) ≤ most → setsFull ≤ most
+    pub full : {packed : Bool} {slots : ℕ} {bs : List (Option (List ℕ))} → Gathered packed (set_left chained (maps_in t maps) s) slots turn.first bs area₀ turn.pos book₀ → length area₀ < r → enough_area ≤ length area₀
+        → (most : ℕ) → turn.pos ≤ turn.first + most → 2 * length (words_in (set_left chained (maps_in t maps) s turn.at)) ≤ most → sets_full ≤ most

@@ -3,8 +3,8 @@ ghost use Rattle.std.specs.Prelude.{◌≡◌, ◌+◌, ◌*◌, ◌≤◌, ◌<
 ghost use Rattle.meaning.specs.Subset.{limit};
 ghost use Rattle.numbers.specs.Leaves.{Leaves};
 ghost use Rattle.member_sets.specs.Dead.{Dead};
-ghost use Rattle.kept_rules.specs.Left.{AllInside, mapsIn, ruleLeft};
-ghost use Rattle.class_spots.specs.Sets.{slotsAt, setPlace, setLeft, setMost, SetSound, Asked};
+ghost use Rattle.kept_rules.specs.Left.{AllInside, maps_in, rule_left};
+ghost use Rattle.class_spots.specs.Sets.{slots_at, set_place, set_left, set_most, SetSound, Asked};
 ghost use Rattle.class_spots.specs.Placing.{SpotAsked, PlacedSpot};
 
 use area::{over, put};
@@ -39,7 +39,7 @@ pub struct Turn {
 
 // Where the slots stand, in the source and in the small table: after the format, the offsets of the coverage and of one class table or three, and the count.
 pub fn slots_at(chained: bool) -> usize
-    ensures { result ≡ slotsAt chained }
+    ensures { result ≡ slots_at chained }
 {
     if chained {
         return 12;
@@ -50,7 +50,7 @@ pub fn slots_at(chained: bool) -> usize
 // The place of the set of a class; 0 if it has none, or if no retained covered glyph holds the class, which its bit in the cells from `marks` on tells.
 pub fn set_place(src: &[u8], slots: usize, t: &[u32], marks: usize, class: usize) -> usize
     requires { Asked src.now slots marks class }
-    ensures { (result ≡ setPlace src.now slots t.now marks class) × (result < 65536) }
+    ensures { (result ≡ set_place src.now slots t.now marks class) × (result < 65536) }
 {
     if word_inside(src, slots - 2) <= class {
         return 0;
@@ -72,8 +72,8 @@ pub fn write_set(
     area: &mut [u8],
     pos: usize,
 ) -> usize
-    requires { SetSound chained src.now at × (length src.now ≤ limit) × AllInside t.now maps × (pos ≤ length area.old) × Dead (ruleLeft chained (mapsIn t.now maps) src.now) dead.old }
-    ensures { Leaves area.old pos (setLeft chained (mapsIn t.now maps) src.now at) (setMost (setLeft chained (mapsIn t.now maps) src.now at) src.now) area.new result × Dead (ruleLeft chained (mapsIn t.now maps) src.now) dead.new }
+    requires { SetSound chained src.now at × (length src.now ≤ limit) × AllInside t.now maps × (pos ≤ length area.old) × Dead (rule_left chained (maps_in t.now maps) src.now) dead.old }
+    ensures { Leaves area.old pos (set_left chained (maps_in t.now maps) src.now at) (set_most (set_left chained (maps_in t.now maps) src.now at) src.now) area.new result × Dead (rule_left chained (maps_in t.now maps) src.now) dead.new }
 {
     if at == 0 {
         return 0;

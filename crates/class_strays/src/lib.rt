@@ -1,10 +1,10 @@
 // From the lowest ids of the classes of two class tables to the classes' numbers, in cells: classes that share an id and whose lowest ids differ stray.
 // Both tables are walked by stretches of ids that hold one class.
 ghost use Rattle.std.specs.Prelude.{◌≡◌, cond, ◌+◌, ◌≤◌, ◌<◌, length, ltb};
-ghost use Rattle.meaning.specs.Parts.{classIn};
+ghost use Rattle.meaning.specs.Parts.{class_in};
 ghost use Rattle.class_stretches.specs.Tables.{table_at, NullOrSound};
 ghost use Rattle.class_lists.specs.Elsewhere.{Elsewhere};
-ghost use Rattle.class_strays.specs.Numbered.{Holding, lowestIn, compared, Marked};
+ghost use Rattle.class_strays.specs.Numbered.{Holding, lowest_in, compared, Marked};
 
 use cells::{cell, put_cell};
 use class_stretches::{Stretch, stretch_from};
@@ -23,7 +23,7 @@ fn onward(src: &[u8], at: usize, last: Stretch, glyph: usize) -> Stretch
 // The lowest id of a class, plus 1, by its cell: a class that strays has 65,536 or 131,072 more.
 fn lowest_in(v: usize) -> usize
     requires { v < 0x1_0000_0000 }
-    ensures { (result ≡ lowestIn v) × (result ≤ 65536) }
+    ensures { (result ≡ lowest_in v) × (result ≤ 65536) }
 {
     if v <= 65536 {
         return v;
@@ -58,8 +58,8 @@ fn lower(a: usize, b: usize) -> usize
 
 // From the lowest ids of the classes to their numbers: a class strays if one of its ids has, in the other table, a class with another lowest id.
 pub fn mark_strays(left: &[u8], at: usize, right: &[u8], to: usize, t: &mut [u32], base: usize)
-    requires { NullOrSound left.now at × NullOrSound right.now to × (base + 131072 ≤ length t.old) × Marked (classIn (table_at left.now at)) (classIn (table_at right.now to)) 65536 0 t.old base }
-    ensures { Marked (classIn (table_at left.now at)) (classIn (table_at right.now to)) 65536 65536 t.new base × Elsewhere base (base + 131072) t.old t.new }
+    requires { NullOrSound left.now at × NullOrSound right.now to × (base + 131072 ≤ length t.old) × Marked (class_in (table_at left.now at)) (class_in (table_at right.now to)) 65536 0 t.old base }
+    ensures { Marked (class_in (table_at left.now at)) (class_in (table_at right.now to)) 65536 65536 t.new base × Elsewhere base (base + 131072) t.old t.new }
 {
     let mut l = stretch_from(left, at, 0, 0);
     let mut r = stretch_from(right, to, 0, 0);

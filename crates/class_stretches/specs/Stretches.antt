@@ -1,14 +1,14 @@
 -- Stretches of glyphs that hold one class, and the search for the class range of a glyph.
 use Rattle.std.specs.Prelude.{ℕ, ◌+◌, ◌*◌, ◌≤◌, ◌<◌, ◌≡◌, true, List, length}
 use Rattle.meaning.specs.Words.{word, triples}
-use Rattle.meaning.specs.Parts.{rangesAscend, rangeClasses, class_of}
-use Rattle.class_stretches.specs.Tables.{classesAt}
+use Rattle.meaning.specs.Parts.{ranges_ascend, range_classes, class_of}
+use Rattle.class_stretches.specs.Tables.{classes_at}
 use Rattle.class_stretches.specs.declared.Stretch.{Stretch}
 
 -- the n class ranges from `at` on lie inside the source and ascend
 pub record Ranges (s : List ℕ) (at n : ℕ) : Type 0 where
   pub inside : at + 6 * n ≤ length s
-  pub rise : rangesAscend 0 (triples s at n) ≡ true
+  pub rise : ranges_ascend 0 (triples s at n) ≡ true
 
 -- the range before the r-th, if there is one, ends before the glyph x
 abbrev pub Passed : List ℕ → ℕ → ℕ → ℕ → Type 0
@@ -29,7 +29,7 @@ pub record Stretched (cs : List (ℕ × ℕ)) (x : ℕ) (r : Stretch) : Type 0 w
 
 -- they do in the n class ranges from `at` on, and the ranges before its next end before each later glyph
 pub record Ranged (s : List ℕ) (at n x : ℕ) (r : Stretch) : Type 0 where
-  pub stretch : Stretched (rangeClasses (triples s at n)) x r
+  pub stretch : Stretched (range_classes (triples s at n)) x r
   pub within : r.next ≤ n
   pub passed : (y : ℕ) → r.last < y → Passed s at y r.next
 
@@ -39,5 +39,5 @@ pub record Hint (s : List ℕ) (at x next : ℕ) : Type 0 where
 
 -- the glyphs from x to the last of the stretch r hold its class in the class table at `at`, and the search for a later glyph may begin with its next
 pub record Found (s : List ℕ) (at x : ℕ) (r : Stretch) : Type 0 where
-  pub stretch : Stretched (classesAt s at) x r
+  pub stretch : Stretched (classes_at s at) x r
   pub hint : (y : ℕ) → r.last < y → Hint s at y r.next

@@ -1,6 +1,6 @@
 // The class of a glyph in a class table, and how far the glyphs that follow it hold the same class.
 ghost use Rattle.std.specs.Prelude.{◌≡◌, ◌+◌, ◌≤◌, ◌<◌};
-ghost use Rattle.meaning.specs.Parts.{classIn};
+ghost use Rattle.meaning.specs.Parts.{class_in};
 ghost use Rattle.class_stretches.specs.Tables.{table_at, NullOrSound, array_at, ArrayInside};
 ghost use Rattle.class_stretches.specs.Stretches.{Ranges, Passed, Ended, Stretched, Ranged, Hint, Found};
 
@@ -101,7 +101,7 @@ pub fn stretch_from(src: &[u8], at: usize, next: usize, glyph: usize) -> Stretch
 // The class of a glyph in the class table at `at`; with a null table, at 0, it is class 0.
 pub fn class_of(src: &[u8], at: usize, glyph: usize) -> usize
     requires { NullOrSound src.now at × (glyph < 65536) }
-    ensures { (result ≡ classIn (table_at src.now at) glyph) × (result < 65536) }
+    ensures { (result ≡ class_in (table_at src.now at) glyph) × (result < 65536) }
 {
     let found = stretch_from(src, at, 0, glyph);
     found.class

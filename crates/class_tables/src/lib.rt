@@ -2,7 +2,7 @@
 ghost use Rattle.std.specs.Prelude.{◌≡◌, ◌≤◌, ◌<◌, length};
 ghost use Rattle.class_stretches.specs.Tables.{NullOrSound};
 ghost use Rattle.class_lists.specs.Elsewhere.{Elsewhere};
-ghost use Rattle.class_tables.specs.Contexts.{backAt, input_at, aheadAt, countAt, setPlace, SoundTables, TablesNumbered};
+ghost use Rattle.class_tables.specs.Contexts.{back_at, input_at, ahead_at, count_at, set_place, SoundTables, TablesNumbered};
 
 use class_numbers::number_classes;
 use class_stretches::class_of;
@@ -10,7 +10,7 @@ use wire::word_at;
 
 // Where the class table of the backtrack stands; 0 for a null one.
 fn back_at(chained: bool, src: &[u8]) -> usize
-    ensures { result ≡ backAt chained src.now }
+    ensures { result ≡ back_at chained src.now }
 {
     if chained {
         return word_at(src, 4);
@@ -30,7 +30,7 @@ fn input_at(chained: bool, src: &[u8]) -> usize
 
 // Where that of the lookahead stands.
 fn ahead_at(chained: bool, src: &[u8]) -> usize
-    ensures { result ≡ aheadAt chained src.now }
+    ensures { result ≡ ahead_at chained src.now }
 {
     if chained {
         return word_at(src, 8);
@@ -40,7 +40,7 @@ fn ahead_at(chained: bool, src: &[u8]) -> usize
 
 // Where the count of the sets stands.
 fn count_at(chained: bool) -> usize
-    ensures { (result ≡ countAt chained) × (result ≤ 10) }
+    ensures { (result ≡ count_at chained) × (result ≤ 10) }
 {
     if chained {
         return 10;
@@ -51,7 +51,7 @@ fn count_at(chained: bool) -> usize
 // Where the set stands that a covered glyph reaches by its class; 0 for none: a null set, a class past the last set, or a null class table.
 pub fn set_of(chained: bool, src: &[u8], glyph: usize) -> usize
     requires { NullOrSound src.now (input_at chained src.now) × (glyph < 65536) }
-    ensures { (result ≡ setPlace chained src.now glyph) × (result < 65536) }
+    ensures { (result ≡ set_place chained src.now glyph) × (result < 65536) }
 {
     let at = input_at(chained, src);
     if at == 0 {

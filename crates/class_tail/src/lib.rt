@@ -1,10 +1,10 @@
 // What follows the sets of format 2 of contexts and chained contexts, written into the area: the coverage, from what cells hold, and the class tables, each made again from the source when it is written.
 ghost use Rattle.std.specs.Prelude.{◌≡◌, true, ◌≤◌, ◌<◌, length};
-ghost use Rattle.meaning.specs.Maps.{glyphEntries};
-ghost use Rattle.known_blocks.specs.Book.{bookCells, packs};
+ghost use Rattle.meaning.specs.Maps.{glyph_entries};
+ghost use Rattle.known_blocks.specs.Book.{book_cells, packs};
 ghost use Rattle.class_lists.specs.Elsewhere.{Elsewhere};
-ghost use Rattle.remade_classes.specs.Made.{newTable, MakeAsked};
-ghost use Rattle.remade_classes.specs.Tail.{coverOf, tableBlocks, TailIn, BlockAsked, PlacedTable, NotedTables, LaidTables, Lays, Places, TablesAsked};
+ghost use Rattle.remade_classes.specs.Made.{new_table, MakeAsked};
+ghost use Rattle.remade_classes.specs.Tail.{cover_of, table_blocks, TailIn, BlockAsked, PlacedTable, NotedTables, LaidTables, Lays, Places, TablesAsked};
 
 use area::{over, put};
 use area_parts::write_cover;
@@ -33,8 +33,8 @@ fn write_made(
     book: &mut [u32],
     goal: Goal,
 ) -> usize
-    requires { MakeAsked src.now old glyphs.now tail.form t.old tail.cover.at × BlockAsked (newTable (glyphEntries tail.form glyphs.now) src.now old.at) goal.turn goal.gap area.old book.old }
-    ensures { PlacedTable (newTable (glyphEntries tail.form glyphs.now) src.now old.at) goal.turn goal.gap area.old book.old area.new book.new result × Elsewhere 0 tail.cover.at t.old t.new }
+    requires { MakeAsked src.now old glyphs.now tail.form t.old tail.cover.at × BlockAsked (new_table (glyph_entries tail.form glyphs.now) src.now old.at) goal.turn goal.gap area.old book.old }
+    ensures { PlacedTable (new_table (glyph_entries tail.form glyphs.now) src.now old.at) goal.turn goal.gap area.old book.old area.new book.new result × Elsewhere 0 tail.cover.at t.old t.new }
 {
     let table = make_table(src, old, glyphs, tail.form, t, tail.cover.at);
     write_table(t, table, area, book, goal.turn, goal.gap)
@@ -52,7 +52,7 @@ fn note_tables(
     p: usize,
 ) -> usize
     requires { TailIn src.now glyphs.now t.old tail × TablesAsked area.old gap p book.old }
-    ensures { NotedTables (packs book.old) gap p (tableBlocks tail.chained src.now glyphs.now tail) area.old area.new result }
+    ensures { NotedTables (packs book.old) gap p (table_blocks tail.chained src.now glyphs.now tail) area.old area.new result }
 {
     begin(book);
     let turn = Turn {
@@ -102,7 +102,7 @@ fn write_tables(
     p: usize,
 ) -> usize
     requires { TailIn src.now glyphs.now t.old tail × TablesAsked area.old gap p book.old }
-    ensures { LaidTables (packs book.old) gap p (tableBlocks tail.chained src.now glyphs.now tail) area.old area.new result }
+    ensures { LaidTables (packs book.old) gap p (table_blocks tail.chained src.now glyphs.now tail) area.old area.new result }
 {
     let end = note_tables(src, glyphs, t, tail, area, book, gap, p);
     let n = (slots_at(tail.chained) - 6) / 2;
@@ -121,8 +121,8 @@ pub fn write_tail(
     gap: usize,
     p: usize,
 ) -> usize
-    requires { TailIn src.now glyphs.now t.old tail × Places area.old 2 4 gap p × (packs book.old ≡ true → bookCells ≤ length book.old) }
-    ensures { Lays (packs book.old) gap p (coverOf t.old tail) (tableBlocks tail.chained src.now glyphs.now tail) area.old area.new result }
+    requires { TailIn src.now glyphs.now t.old tail × Places area.old 2 4 gap p × (packs book.old ≡ true → book_cells ≤ length book.old) }
+    ensures { Lays (packs book.old) gap p (cover_of t.old tail) (table_blocks tail.chained src.now glyphs.now tail) area.old area.new result }
 {
     if HIGHEST < p - gap {
         return over(area);

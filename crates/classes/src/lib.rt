@@ -1,10 +1,10 @@
 // Class tables: checked.
 ghost use Rattle.std.specs.Prelude.{◌≡◌, true, ◌+◌, ◌*◌, ◌<◌};
 ghost use Rattle.meaning.specs.Words.{triples};
-ghost use Rattle.meaning.specs.Parts.{rangesAscend, classesSound};
-ghost use Rattle.meaning.specs.Fault.{classesFault};
-ghost use Rattle.faults.specs.Fault.{faultOf};
-ghost use Rattle.classes.specs.Formats.{arraySound};
+ghost use Rattle.meaning.specs.Parts.{ranges_ascend, classes_sound};
+ghost use Rattle.meaning.specs.Fault.{classes_fault};
+ghost use Rattle.faults.specs.Fault.{fault_of};
+ghost use Rattle.classes.specs.Formats.{array_sound};
 
 use faults::Fault;
 use wire::{inside, word_at};
@@ -12,7 +12,7 @@ use wire::{inside, word_at};
 // Where the class table at `at` is faulty: at its start, or nowhere.
 pub fn check(src: &[u8], at: usize) -> Fault
     requires { at < 0x1_0000_0000_0000 }
-    ensures { result ≡ faultOf (classesFault src.now at) }
+    ensures { result ≡ fault_of (classes_fault src.now at) }
 {
     if sound(src, at) {
         return Fault::Sound;
@@ -23,7 +23,7 @@ pub fn check(src: &[u8], at: usize) -> Fault
 // Whether the class table at `at` lies inside the source, has format 1 or 2, and ascends or ends by glyph 65,535.
 fn sound(src: &[u8], at: usize) -> bool
     requires { at < 0x1_0000_0000_0000 }
-    ensures { result ≡ classesSound src.now at }
+    ensures { result ≡ classes_sound src.now at }
 {
     if !inside(src, at, 4) {
         return false;
@@ -45,7 +45,7 @@ fn sound(src: &[u8], at: usize) -> bool
 // Whether the class array of the table at `at` lies inside the source and ends by glyph 65,535.
 fn array_sound(src: &[u8], at: usize) -> bool
     requires { at < 0x1_0000_0000_0000 }
-    ensures { result ≡ arraySound src.now at }
+    ensures { result ≡ array_sound src.now at }
 {
     if !inside(src, at, 6) {
         return false;
@@ -60,7 +60,7 @@ fn array_sound(src: &[u8], at: usize) -> bool
 // Whether each of the `n` ranges from `at` on has its start at most its end, and they ascend without overlap.
 fn ranges_ascend(src: &[u8], at: usize, n: usize) -> bool
     requires { at + 6 * n < 0x1_0000_0000_0000_0000 }
-    ensures { result ≡ rangesAscend 0 (triples src.now at n) }
+    ensures { result ≡ ranges_ascend 0 (triples src.now at n) }
 {
     let mut low = 0;
     let mut i = 0;

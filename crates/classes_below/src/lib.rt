@@ -2,8 +2,8 @@
 // Class tables are gone over by their stretches, a range or an id of an array each, never glyph by glyph, and a coverage is searched only for those whose class is not below its count.
 ghost use Rattle.std.specs.Prelude.{◌≡◌, true, ◌&&◌, ◌+◌, ◌*◌, ◌<◌, length, get_or, ltb};
 ghost use Rattle.meaning.specs.Words.{every};
-ghost use Rattle.meaning.specs.Parts.{coverage, coverageSound, classes, classesSound, class_of};
-ghost use Rattle.meaning.specs.Fault.{firstBelow, secondBelow, classesBelow};
+ghost use Rattle.meaning.specs.Parts.{coverage, coverage_sound, classes, classes_sound, class_of};
+ghost use Rattle.meaning.specs.Fault.{first_below, second_below, classes_below};
 ghost use Rattle.covered_between.specs.Stretches.{stretches};
 
 use covered_between::{Stretch, past};
@@ -45,7 +45,7 @@ fn stretch_at(src: &[u8], at: usize, i: usize) -> Stretch
 
 // Whether each class that the sound class table at `at` lists is below `n`.
 fn listed_below(src: &[u8], at: usize, n: usize) -> bool
-    requires { (classesSound src.now at ≡ true) × (at < 65536) × (0 < n) }
+    requires { (classes_sound src.now at ≡ true) × (at < 65536) × (0 < n) }
     ensures { result ≡ every (λ e. ltb e.1 n) (classes src.now at) }
 {
     let k = count(src, at);
@@ -61,7 +61,7 @@ fn listed_below(src: &[u8], at: usize, n: usize) -> bool
 
 // Whether the class of each glyph of the sound coverage at `cover` is below `n` in the sound class table at `at`.
 fn covered_below(src: &[u8], cover: usize, at: usize, n: usize) -> bool
-    requires { (coverageSound src.now cover ≡ true) × (cover < 65536) × (classesSound src.now at ≡ true) × (at < 65536) × (0 < n) }
+    requires { (coverage_sound src.now cover ≡ true) × (cover < 65536) × (classes_sound src.now at ≡ true) × (at < 65536) × (0 < n) }
     ensures { result ≡ every (λ g. ltb (class_of (classes src.now at) g) n) (coverage src.now cover) }
 {
     let k = count(src, at);
@@ -77,7 +77,7 @@ fn covered_below(src: &[u8], cover: usize, at: usize, n: usize) -> bool
 
 // Whether the first class of each covered glyph is below `n`; not judged where the coverage is null, or it or the first class table is faulty.
 fn first_below(src: &[u8], n: usize) -> bool
-    ensures { result ≡ firstBelow src.now n }
+    ensures { result ≡ first_below src.now n }
 {
     let cover = subtable_place(src, 2);
     if cover == 0 {
@@ -98,7 +98,7 @@ fn first_below(src: &[u8], n: usize) -> bool
 
 // Whether the second class of any glyph is below `n`: 0, and each that is listed; not judged where the second class table is faulty.
 fn second_below(src: &[u8], n: usize) -> bool
-    ensures { result ≡ secondBelow src.now n }
+    ensures { result ≡ second_below src.now n }
 {
     let at = subtable_place(src, 10);
     let Fault::Sound = classes::check(src, at) else {
@@ -112,7 +112,7 @@ fn second_below(src: &[u8], n: usize) -> bool
 
 // Whether classes are below their counts; not judged where one of the class tables is null.
 pub fn classes_below(src: &[u8]) -> bool
-    ensures { result ≡ classesBelow src.now }
+    ensures { result ≡ classes_below src.now }
 {
     if subtable_place(src, 8) == 0 {
         return true;

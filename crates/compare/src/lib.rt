@@ -1,7 +1,7 @@
 // The call that compares: a kind, two subtables of it and a lent buffer, and the first answer that applies, the left subtable's refusals first.
 ghost use Rattle.std.specs.Prelude.{◌≡◌, ◌+◌, ◌*◌, ◌<◌};
 ghost use Rattle.differences.specs.Compare.{refusal, compare};
-ghost use Rattle.compare_refusals.specs.Answers.{number_of, length_of, comparedOf, decoded};
+ghost use Rattle.compare_refusals.specs.Answers.{number_of, length_of, compared_of, decoded};
 
 use compare_lists::lay;
 use compare_refusals::{Compared, Judged, refusal};
@@ -18,7 +18,7 @@ pub fn compare_in(
     links: &mut [u32],
     out: &mut [u8],
 ) -> Compared
-    ensures { (comparedOf result out.new ≡ compare kind left.now right.now out.old) × (length_of result < 0x100_0000_0000_0000) }
+    ensures { (compared_of result out.new ≡ compare kind left.now right.now out.old) × (length_of result < 0x100_0000_0000_0000) }
 {
     if let Judged::Refused(answer) = refusal(kind, left, right) {
         return answer;
@@ -32,7 +32,7 @@ pub fn compare_in(
 
 // The call without lent cells.
 pub fn compare(kind: usize, left: &[u8], right: &[u8], out: &mut [u8]) -> Compared
-    ensures { (comparedOf result out.new ≡ compare kind left.now right.now out.old) × (length_of result < 0x100_0000_0000_0000) }
+    ensures { (compared_of result out.new ≡ compare kind left.now right.now out.old) × (length_of result < 0x100_0000_0000_0000) }
 {
     let mut num = [0u32; 1];
     let mut nums = [0u32; 1];

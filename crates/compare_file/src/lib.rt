@@ -2,7 +2,7 @@
 ghost use Rattle.std.specs.Prelude.{◌≡◌, true, ◌≤◌, ◌<◌, length};
 ghost use Rattle.meaning.specs.Job.{bytes_of};
 ghost use Rattle.report_lines.specs.Text.{Put};
-ghost use Rattle.compare_file.specs.CompareFile.{goodFile, kindIn, leftPart, rightPart, printed};
+ghost use Rattle.compare_file.specs.CompareFile.{good_file, kind_in, left_part, right_part, printed};
 
 use file_parts::{ends_by, part_at};
 use lookup_list::long_at;
@@ -21,7 +21,7 @@ const TAG: usize = 0x4C53_4331;
 
 // Whether the file is a compare file: of 22 bytes to the limit, it ends in the tag, and both subtables lie wholly before the trailer.
 pub fn good_file(file: &[u8]) -> bool
-    ensures { result ≡ goodFile file.now }
+    ensures { result ≡ good_file file.now }
 {
     if file.len() < TRAILER {
         return false;
@@ -41,24 +41,24 @@ pub fn good_file(file: &[u8]) -> bool
 
 // The kind that a compare file says.
 pub fn kind_of(file: &[u8]) -> usize
-    requires { goodFile file.now ≡ true }
-    ensures { (result ≡ kindIn file.now) × (result < 65536) }
+    requires { good_file file.now ≡ true }
+    ensures { (result ≡ kind_in file.now) × (result < 65536) }
 {
     word_at(file, file.len() - TRAILER)
 }
 
 // The left subtable.
 pub fn left_of(file: &[u8]) -> &[u8]
-    requires { goodFile file.now ≡ true }
-    ensures { result.now ≡ bytes_of file.now (leftPart file.now) }
+    requires { good_file file.now ≡ true }
+    ensures { result.now ≡ bytes_of file.now (left_part file.now) }
 {
     part_at(file, file.len() - TRAILER + 2)
 }
 
 // The right subtable.
 pub fn right_of(file: &[u8]) -> &[u8]
-    requires { goodFile file.now ≡ true }
-    ensures { result.now ≡ bytes_of file.now (rightPart file.now) }
+    requires { good_file file.now ≡ true }
+    ensures { result.now ≡ bytes_of file.now (right_part file.now) }
 {
     part_at(file, file.len() - TRAILER + 10)
 }

@@ -1,7 +1,7 @@
 // The program: reads a compare file from standard input, whose last 22 bytes say a kind and point back to two subtables of it, and prints the answer of the comparison and, where there is one, the list.
 ghost use Rattle.std.specs.Prelude.{◌≡◌, ◌≤◌, length, replicate};
 ghost use Rattle.report_lines.specs.Text.{Put, Printable};
-ghost use Rattle.compare_job.specs.Program.{compareFile, said, outcomeOf, program, room, textRoom};
+ghost use Rattle.compare_job.specs.Program.{compare_file, said, outcome_of, program, room, text_room};
 
 use compare::{compare, length_of, number_of};
 use compare_file::{good_file, kind_of, left_of, put_answer, right_of};
@@ -25,7 +25,7 @@ pub struct Answered {
 
 // The comparison of a file's subtables, or that the file is faulty, which is tested first.
 fn compare_parts(file: &[u8], list: &mut [u8]) -> Answered
-    ensures { outcomeOf result list.new ≡ compareFile file.now list.old }
+    ensures { outcome_of result list.new ≡ compare_file file.now list.old }
 {
     if !good_file(file) {
         return Answered { number: 11, len: 0 };
@@ -50,7 +50,7 @@ fn put_outcome(text: &mut [u8], number: usize, len: usize, list: &[u8]) -> usize
 
 // A buffer for the text. Its contract says how long it is, and nothing of what is in it.
 fn blank() -> [u8; TEXT]
-    ensures { length result ≡ textRoom }
+    ensures { length result ≡ text_room }
 {
     [0u8; TEXT]
 }
@@ -64,7 +64,7 @@ fn lent() -> [u8; LIST]
 
 // What the program prints for a file, at the front of `text`; how long it is.
 fn answer(file: &[u8], text: &mut [u8]) -> usize
-    requires { textRoom ≤ length text.old }
+    requires { text_room ≤ length text.old }
     ensures { Put text.old 0 (program file.now) text.new result × (result ≤ length text.new) }
 {
     let mut list = lent();

@@ -4,11 +4,11 @@ ghost use Rattle.meaning.specs.Words.{word};
 ghost use Rattle.meaning.specs.Tables.{table};
 ghost use Rattle.differences.specs.Content.{content};
 ghost use Rattle.differences.specs.Entries.{differences};
-ghost use Rattle.differences.specs.Compare.{comparedKind, comparedFormat};
+ghost use Rattle.differences.specs.Compare.{compared_kind, compared_format};
 ghost use Rattle.listing.specs.Listed.{Listed};
 ghost use Rattle.listing.specs.Laid.{LaidList};
 ghost use Rattle.gathered.specs.Gathered.{Scratch};
-ghost use Rattle.compare_refusals.specs.Passes.{Passes, byRules, Enough};
+ghost use Rattle.compare_refusals.specs.Passes.{Passes, by_rules, Enough};
 
 use cover_differences::{list_chained, list_plain};
 use listing::put_listed;
@@ -18,7 +18,7 @@ use wire::word_at;
 
 // What differs between two contexts of different formats: the format. Listed from `pos` on, where there is room; the place after it.
 fn list_formats(kind: usize, left: &[u8], right: &[u8], out: &mut [u8], pos: usize) -> usize
-    requires { (1 ≤ kind) × (kind ≤ 2) × (comparedFormat kind (word left.now 0) ≡ true) × (comparedFormat kind (word right.now 0) ≡ true) × (word left.now 0 ≡ word right.now 0 → ⊥) × (pos < 0x4000_0000_0000) }
+    requires { (1 ≤ kind) × (kind ≤ 2) × (compared_format kind (word left.now 0) ≡ true) × (compared_format kind (word right.now 0) ≡ true) × (word left.now 0 ≡ word right.now 0 → ⊥) × (pos < 0x4000_0000_0000) }
     ensures { Listed (differences (content (table kind left.now)) (content (table kind right.now))) out.old pos out.new result × (result ≤ pos + 12) }
 {
     let f = word_at(left, 0);
@@ -39,7 +39,7 @@ fn list_covers(kind: usize, left: &[u8], right: &[u8], out: &mut [u8]) -> usize
 
 // Whether rules are to be paired: contexts of one format, 1 or 2, and ligatures.
 fn by_rules(kind: usize, left: &[u8], right: &[u8]) -> bool
-    ensures { result ≡ byRules kind (word left.now 0) (word right.now 0) }
+    ensures { result ≡ by_rules kind (word left.now 0) (word right.now 0) }
 {
     if kind == 4 {
         return false;
@@ -53,7 +53,7 @@ fn by_rules(kind: usize, left: &[u8], right: &[u8]) -> bool
 
 // What differs between two sound subtables without rules to pair, listed where there is room; the list's length.
 fn list_direct(kind: usize, left: &[u8], right: &[u8], out: &mut [u8]) -> usize
-    requires { (comparedKind kind ≡ true) × Passes kind left.now × Passes kind right.now × (byRules kind (word left.now 0) (word right.now 0) ≡ false) }
+    requires { (compared_kind kind ≡ true) × Passes kind left.now × Passes kind right.now × (by_rules kind (word left.now 0) (word right.now 0) ≡ false) }
     ensures { Listed (differences (content (table kind left.now)) (content (table kind right.now))) out.old 0 out.new result × (result ≤ 0x100_0000_0000) }
 {
     if kind == 4 {
@@ -67,7 +67,7 @@ fn list_direct(kind: usize, left: &[u8], right: &[u8], out: &mut [u8]) -> usize
 
 // The same: the list's length, and the list in the buffer if there is room for all of it. It is gone over twice, since nothing is written before its length is known.
 fn lay_direct(kind: usize, left: &[u8], right: &[u8], out: &mut [u8]) -> usize
-    requires { (comparedKind kind ≡ true) × Passes kind left.now × Passes kind right.now × (byRules kind (word left.now 0) (word right.now 0) ≡ false) }
+    requires { (compared_kind kind ≡ true) × Passes kind left.now × Passes kind right.now × (by_rules kind (word left.now 0) (word right.now 0) ≡ false) }
     ensures { LaidList (differences (content (table kind left.now)) (content (table kind right.now))) out.old out.new result × (result ≤ 0x100_0000_0000) }
 {
     let mut none = [0u8; 1];
@@ -89,7 +89,7 @@ fn lay_rules(
     links: &mut [u32],
     out: &mut [u8],
 ) -> usize
-    requires { (comparedKind kind ≡ true) × Passes kind left.now × Passes kind right.now × (byRules kind (word left.now 0) (word right.now 0) ≡ true) × Scratch (length num.old) (length nums.old) (length heads.old) (length links.old) }
+    requires { (compared_kind kind ≡ true) × Passes kind left.now × Passes kind right.now × (by_rules kind (word left.now 0) (word right.now 0) ≡ true) × Scratch (length num.old) (length nums.old) (length heads.old) (length links.old) }
     ensures { LaidList (differences (content (table kind left.now)) (content (table kind right.now))) out.old out.new result × (result ≤ 0x100_0000_0000) }
 {
     if word_at(left, 0) == 2 {
@@ -101,7 +101,7 @@ fn lay_rules(
 // The same with cells of our own.
 // It calls itself, so that the compiler keeps its arrays out of its caller's frame: only a caller that lends too little pays for them. How often it does, `rounds`, is 0 for kinds 1 to 3.
 fn lay_own(kind: usize, left: &[u8], right: &[u8], rounds: usize, out: &mut [u8]) -> usize
-    requires { (comparedKind kind ≡ true) × Passes kind left.now × Passes kind right.now × (byRules kind (word left.now 0) (word right.now 0) ≡ true) }
+    requires { (compared_kind kind ≡ true) × Passes kind left.now × Passes kind right.now × (by_rules kind (word left.now 0) (word right.now 0) ≡ true) }
     ensures { LaidList (differences (content (table kind left.now)) (content (table kind right.now))) out.old out.new result × (result ≤ 0x100_0000_0000) }
 {
     if rounds != 0 {
@@ -153,7 +153,7 @@ pub fn lay(
     links: &mut [u32],
     out: &mut [u8],
 ) -> usize
-    requires { (comparedKind kind ≡ true) × Passes kind left.now × Passes kind right.now }
+    requires { (compared_kind kind ≡ true) × Passes kind left.now × Passes kind right.now }
     ensures { LaidList (differences (content (table kind left.now)) (content (table kind right.now))) out.old out.new result × (result ≤ 0x100_0000_0000) }
 {
     if !by_rules(kind, left, right) {

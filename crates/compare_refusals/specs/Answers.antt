@@ -29,14 +29,14 @@ length_of Device = 0
 length_of (NoRoom n) = n
 
 -- an answer, with the buffer as it is left
-abbrev pub comparedOf : Compared → List ℕ → Outcome
-comparedOf a out = record { number = number_of a; len = length_of a; out = out }
+abbrev pub compared_of : Compared → List ℕ → Outcome
+compared_of a out = record { number = number_of a; len = length_of a; out = out }
 
 -- an answer that is one number, the number times 2^56 plus the length, with the buffer as it is left
 abbrev pub decoded : ℕ → List ℕ → Outcome
 decoded n out = record { number = n / 0x100_0000_0000_0000; len = n % 0x100_0000_0000_0000; out = out }
 
 -- the refusal that the tests give, if they give one
-abbrev pub refusalOf : Judged → Option Refusal
-refusalOf (Refused a) = some (record { number = number_of a; len = length_of a })
-refusalOf Sound = none
+abbrev pub refusal_of : Judged → Option Refusal
+refusal_of (Refused a) = some (record { number = number_of a; len = length_of a })
+refusal_of Sound = none

@@ -1,9 +1,9 @@
 // The answers of the call that compares, and why it is refused, the left subtable first.
 ghost use Rattle.std.specs.Prelude.{◌≡◌, false, ◌&&◌, not, ◌<◌};
 ghost use Rattle.meaning.specs.Words.{word, inside};
-ghost use Rattle.differences.specs.Compare.{comparedKind, comparedFormat, tableRefusal, refusal};
+ghost use Rattle.differences.specs.Compare.{compared_kind, compared_format, table_refusal, refusal};
 ghost use Rattle.listing.specs.Listed.{Listed};
-ghost use Rattle.compare_refusals.specs.Answers.{refusalOf};
+ghost use Rattle.compare_refusals.specs.Answers.{refusal_of};
 
 use checks::check;
 use faults::Fault;
@@ -32,7 +32,7 @@ pub enum Judged {
 
 // Whether subtables of the kind are compared: 1 context, 2 chained, 3 ligature, 4 pair.
 fn compared_kind(kind: usize) -> bool
-    ensures { result ≡ comparedKind kind }
+    ensures { result ≡ compared_kind kind }
 {
     if kind < 1 {
         return false;
@@ -42,7 +42,7 @@ fn compared_kind(kind: usize) -> bool
 
 // Whether the format is compared: of contexts 1, 2 and 3, of ligatures and pairs 1.
 fn compared_format(kind: usize, format: usize) -> bool
-    ensures { result ≡ comparedFormat kind format }
+    ensures { result ≡ compared_format kind format }
 {
     if 2 < kind {
         return format == 1;
@@ -55,7 +55,7 @@ fn compared_format(kind: usize, format: usize) -> bool
 
 // Whether the first two bytes stand and hold a format that is not compared.
 fn other_format(kind: usize, src: &[u8]) -> bool
-    ensures { result ≡ inside src.now 0 2 && not (comparedFormat kind (word src.now 0)) }
+    ensures { result ≡ inside src.now 0 2 && not (compared_format kind (word src.now 0)) }
 {
     if !inside(src, 0, 2) {
         return false;
@@ -65,7 +65,7 @@ fn other_format(kind: usize, src: &[u8]) -> bool
 
 // Why a subtable of this kind is refused, if it is: over the limit, a format that is not compared, malformed, or device bits.
 fn refused(kind: usize, src: &[u8]) -> Judged
-    ensures { refusalOf result ≡ tableRefusal kind src.now }
+    ensures { refusal_of result ≡ table_refusal kind src.now }
 {
     if LIMIT < src.len() {
         return Judged::Refused(Compared::LongSource);
@@ -84,7 +84,7 @@ fn refused(kind: usize, src: &[u8]) -> Judged
 
 // Why a call is refused, if it is: its kind, then the left subtable, then the right one.
 pub fn refusal(kind: usize, left: &[u8], right: &[u8]) -> Judged
-    ensures { refusalOf result ≡ refusal kind left.now right.now }
+    ensures { refusal_of result ≡ refusal kind left.now right.now }
 {
     if !compared_kind(kind) {
         return Judged::Refused(Compared::BadKind);

@@ -2,11 +2,11 @@
 use Rattle.std.specs.Prelude.{ℕ, ◌+◌, ◌*◌, ◌/◌, ◌≤◌, ◌<◌, ◌≡◌, Bool, true, List, length}
 use Rattle.std.proofs.Math.Option.{none}
 use Rattle.meaning.specs.Words.{word, keys, ascends}
-use Rattle.meaning.specs.Maps.{mapEntries, goodForm, glyphEntries, goodGlyphMap}
-use Rattle.meaning.specs.Parts.{coverage, coverageSound}
-use Rattle.meaning.specs.Tables.{classContext}
-use Rattle.meaning.specs.Fault.{contextFault}
-use Rattle.meaning.specs.Cut.{newCoverage}
+use Rattle.meaning.specs.Maps.{map_entries, good_form, glyph_entries, good_glyph_map}
+use Rattle.meaning.specs.Parts.{coverage, coverage_sound}
+use Rattle.meaning.specs.Tables.{class_context}
+use Rattle.meaning.specs.Fault.{context_fault}
+use Rattle.meaning.specs.Cut.{new_coverage}
 use Rattle.meaning.specs.Subset.{limit}
 use Rattle.laws.specs.ReadsBack.{Good}
 use Rattle.laws.specs.CutGood.{Values}
@@ -14,31 +14,31 @@ use Rattle.laws.specs.SoundGood.{Bytes}
 use Rattle.cell_maps.specs.declared.Map.{Map}
 use Rattle.area.specs.Part.{news}
 use Rattle.glyph_runs.specs.Runs.{GlyphMap}
-use Rattle.ranked_maps.specs.Present.{mostCells}
+use Rattle.ranked_maps.specs.Present.{most_cells}
 use Rattle.remade_classes.specs.Made.{OldIn}
 use Rattle.remade_classes.specs.declared.Noted.{Noted}
-use Rattle.context_classes.specs.Meaning.{backAt, input_at, aheadAt, SoundContext}
+use Rattle.context_classes.specs.Meaning.{back_at, input_at, ahead_at, SoundContext}
 use Rattle.class_sides.specs.Sides.{InputIn}
 use Rattle.context_classes.specs.declared.Begun.{Begun}
 use Rattle.context_classes.specs.declared.Classed.{Classed}
 use Rattle.class_finish.specs.declared.Prepared.{Prepared}
 
 -- cells that are enough for any source: 65,536 for the maps and the lists of classes in turn, and for the notes, three class maps, and 2,048 for the marks
-abbrev pub enoughCells : ℕ
-enoughCells = 2 * 65536 + 3 * mostCells + 2048
+abbrev pub enough_cells : ℕ
+enough_cells = 2 * 65536 + 3 * most_cells + 2048
 
 -- what a cut asks: the source is a context of format 2 without a fault and is not over the limit, the glyph map is good, and the old numbers of the lookup map ascend
 pub record Sound (chained : Bool) (s : List ℕ) (form : ℕ) (glyphs lookups : List ℕ) : Type 0 where
-  pub sound : contextFault chained s ≡ none
+  pub sound : context_fault chained s ≡ none
   pub format : word s 0 ≡ 2
   pub source : length s ≤ limit
-  pub form-good : goodForm form ≡ true
-  pub glyphs-good : goodGlyphMap form glyphs ≡ true
-  pub lookups-ascend : ascends (keys (mapEntries lookups)) ≡ true
+  pub form_good : good_form form ≡ true
+  pub glyphs_good : good_glyph_map form glyphs ≡ true
+  pub lookups_ascend : ascends (keys (map_entries lookups)) ≡ true
 
 -- all that a cut needs, from its parts
-abbrev pub preparedOf : Begun → List ℕ → Classed → Map → Prepared
-preparedOf b s c l = record {
+abbrev pub prepared_of : Begun → List ℕ → Classed → Map → Prepared
+prepared_of b s c l = record {
   maps = record { back = c.back; input = c.input.map; ahead = c.ahead; lookups = l };
   marks = c.input.marks;
   classes = c.input.classes;
@@ -46,9 +46,9 @@ preparedOf b s c l = record {
     chained = b.chained;
     form = b.marks.form;
     cover = b.cover;
-    back = record { at = backAt b.chained s; map = c.back };
+    back = record { at = back_at b.chained s; map = c.back };
     input = record { at = input_at b.chained s; map = c.input.map };
-    ahead = record { at = aheadAt b.chained s; map = c.ahead };
+    ahead = record { at = ahead_at b.chained s; map = c.ahead };
   };
   packing = b.marks.layout;
 }
@@ -57,24 +57,24 @@ preparedOf b s c l = record {
 pub record Behind (mask all r : ℕ) : Type 0 where
   pub behind : mask < r
   pub near : r ≤ 65536 + all / 4
-  pub enough : enoughCells ≤ all → r ≡ 65536
+  pub enough : enough_cells ≤ all → r ≡ 65536
 
 -- the coverage is there and sound, and the glyph map is good
 pub record Covers (s : List ℕ) (form : ℕ) (glyphs : List ℕ) : Type 0 where
-  pub sound : coverageSound s (word s 2) ≡ true
+  pub sound : coverage_sound s (word s 2) ≡ true
   pub map : GlyphMap form glyphs
 
 -- the retained glyphs of the coverage are noted in r's cells, behind 65,536 others where the cells are enough for any source
 pub record Covered (s : List ℕ) (g : List (ℕ × ℕ)) (t : List ℕ) (r : Noted) : Type 0 where
-  pub enough : enoughCells ≤ length t → r.at ≡ 65536
+  pub enough : enough_cells ≤ length t → r.at ≡ 65536
   pub inside : r.at + r.len ≤ length t
   pub few : r.len ≤ 65536
-  pub noted : news t r.at r.len ≡ newCoverage g (coverage s (word s 2))
+  pub noted : news t r.at r.len ≡ new_coverage g (coverage s (word s 2))
 
 -- They are, or the place is 0, since there are too few cells.
 pub record NotesCovered (s : List ℕ) (g : List (ℕ × ℕ)) (t₀ t : List ℕ) (r : Noted) : Type 0 where
   pub size : length t ≡ length t₀
-  pub room : r.at ≡ 0 → length t₀ < enoughCells
+  pub room : r.at ≡ 0 → length t₀ < enough_cells
   pub covered : (r.at ≡ 0 → ⊥) → Covered s g t r
 
 -- what is asked to lay the class maps: the source is a sound context, and the retained glyphs of its coverage are noted in cells, behind 65,536 others where the cells are enough for any source
@@ -82,33 +82,33 @@ pub record Begins (s glyphs : List ℕ) (b : Begun) (t : List ℕ) : Type 0 wher
   pub sound : SoundContext b.chained s
   pub map : GlyphMap b.marks.form glyphs
   pub covers : word s 2 ≡ 0 → ⊥
-  pub enough : enoughCells ≤ length t → b.cover.at ≡ 65536
+  pub enough : enough_cells ≤ length t → b.cover.at ≡ 65536
   pub inside : b.cover.at + b.cover.len ≤ length t
   pub few : b.cover.len ≤ 65536
-  pub noted : news t b.cover.at b.cover.len ≡ newCoverage (glyphEntries b.marks.form glyphs) (coverage s (word s 2))
+  pub noted : news t b.cover.at b.cover.len ≡ new_coverage (glyph_entries b.marks.form glyphs) (coverage s (word s 2))
   pub cells : length t ≤ 0x1_0000_0000
 
 -- The class maps are in cells, so that each new class table can be made, and the notes are as they were.
 pub record ClassesIn (s glyphs : List ℕ) (b : Begun) (t : List ℕ) (c : Classed) : Type 0 where
-  pub input : InputIn (glyphEntries b.marks.form glyphs) s (input_at b.chained s) (coverage s (word s 2)) t b.cover c.input
-  pub few : c.input.map.mask < mostCells
-  pub back : OldIn (glyphEntries b.marks.form glyphs) s t b.cover.at (record { at = backAt b.chained s; map = c.back })
-  pub ahead : OldIn (glyphEntries b.marks.form glyphs) s t b.cover.at (record { at = aheadAt b.chained s; map = c.ahead })
-  pub noted : news t b.cover.at b.cover.len ≡ newCoverage (glyphEntries b.marks.form glyphs) (coverage s (word s 2))
+  pub input : InputIn (glyph_entries b.marks.form glyphs) s (input_at b.chained s) (coverage s (word s 2)) t b.cover c.input
+  pub few : c.input.map.mask < most_cells
+  pub back : OldIn (glyph_entries b.marks.form glyphs) s t b.cover.at (record { at = back_at b.chained s; map = c.back })
+  pub ahead : OldIn (glyph_entries b.marks.form glyphs) s t b.cover.at (record { at = ahead_at b.chained s; map = c.ahead })
+  pub noted : news t b.cover.at b.cover.len ≡ new_coverage (glyph_entries b.marks.form glyphs) (coverage s (word s 2))
 
 -- They are, or the mask of the input's is 0, since there are too few cells.
 pub record ClassesLaid (s glyphs : List ℕ) (b : Begun) (t₀ t : List ℕ) (c : Classed) : Type 0 where
   pub size : length t ≡ length t₀
-  pub room : c.input.map.mask ≡ 0 → length t₀ < enoughCells
+  pub room : c.input.map.mask ≡ 0 → length t₀ < enough_cells
   pub laid : (c.input.map.mask ≡ 0 → ⊥) → ClassesIn s glyphs b t c
 
 -- what is asked where the covered glyphs are noted: there is one, and the lookup map is good
 pub record Cuts (s glyphs lookups : List ℕ) (b : Begun) (t area : List ℕ) : Type 0 where
   pub begins : Begins s glyphs b t
   pub bytes : Bytes s
-  pub good : Good (classContext b.chained s)
+  pub good : Good (class_context b.chained s)
   pub covered : 0 < b.cover.len
   pub classed : input_at b.chained s ≡ 0 → ⊥
-  pub ascend : ascends (keys (mapEntries lookups)) ≡ true
-  pub values : Values (mapEntries lookups)
+  pub ascend : ascends (keys (map_entries lookups)) ≡ true
+  pub values : Values (map_entries lookups)
   pub short : length area ≤ 0x1_0000_0000

@@ -1,7 +1,7 @@
 // All class tables of a context by class: their class maps in cells, one behind the other, and what the writing goes by.
 ghost use Rattle.std.specs.Prelude.{◌≡◌};
-ghost use Rattle.context_classes.specs.Meaning.{backAt, input_at, aheadAt};
-ghost use Rattle.context_classes.specs.Cutting.{preparedOf, Begins, ClassesLaid};
+ghost use Rattle.context_classes.specs.Meaning.{back_at, input_at, ahead_at};
+ghost use Rattle.context_classes.specs.Cutting.{prepared_of, Begins, ClassesLaid};
 
 use cell_maps::Map;
 use class_finish::Prepared;
@@ -29,7 +29,7 @@ pub struct Classed {
 
 // Where the class table of the backtrack stands; 0 if it is null, and in a plain context, which has none.
 fn back_at(chained: bool, src: &[u8]) -> usize
-    ensures { result ≡ backAt chained src.now }
+    ensures { result ≡ back_at chained src.now }
 {
     if chained {
         return word_at(src, 4);
@@ -49,7 +49,7 @@ pub fn input_at(chained: bool, src: &[u8]) -> usize
 
 // Where the class table of the lookahead stands; 0 if it is null, and in a plain context, which has none.
 fn ahead_at(chained: bool, src: &[u8]) -> usize
-    ensures { result ≡ aheadAt chained src.now }
+    ensures { result ≡ ahead_at chained src.now }
 {
     if chained {
         return word_at(src, 8);
@@ -98,7 +98,7 @@ pub fn lay_classes(begun: Begun, src: &[u8], glyphs: &[u8], t: &mut [u32]) -> Cl
 
 // All that the cut needs, from its parts.
 pub fn prepare(begun: Begun, src: &[u8], classed: Classed, lookups: Map) -> Prepared
-    ensures { result ≡ preparedOf begun src.now classed lookups }
+    ensures { result ≡ prepared_of begun src.now classed lookups }
 {
     let chained = begun.chained;
     let cover = begun.cover;

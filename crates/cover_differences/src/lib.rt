@@ -5,12 +5,12 @@ ghost use Rattle.meaning.specs.Words.{word, entries};
 ghost use Rattle.meaning.specs.Tables.{table};
 ghost use Rattle.meaning.specs.Fault.{fault};
 ghost use Rattle.differences.specs.Content.{content};
-ghost use Rattle.differences.specs.Entries.{same_list, sameTwo, sameSays, differences};
+ghost use Rattle.differences.specs.Entries.{same_list, same_two, same_says, differences};
 ghost use Rattle.listing.specs.Listed.{Listed};
-ghost use Rattle.cover_differences.specs.Stretches.{first_at, last_at, higher, countAt, soundAt, coverAt};
-ghost use Rattle.cover_differences.specs.Rows.{SoundRow, rowRuns, sameRow};
-ghost use Rattle.cover_differences.specs.Contexts.{plainSays, SoundPlain, twoRules};
-ghost use Rattle.cover_differences.specs.Chained.{chainedSays, SoundChained};
+ghost use Rattle.cover_differences.specs.Stretches.{first_at, last_at, higher, count_at, sound_at, cover_at};
+ghost use Rattle.cover_differences.specs.Rows.{SoundRow, row_runs, same_row};
+ghost use Rattle.cover_differences.specs.Contexts.{plain_says, SoundPlain, two_rules};
+ghost use Rattle.cover_differences.specs.Chained.{chained_says, SoundChained};
 
 use listing::put_listed;
 use wire::word_at;
@@ -50,7 +50,7 @@ fn higher(a: usize, b: usize) -> usize
 // How many stretches the coverage at `at` has; a null one, at 0, has none.
 fn count_at(src: &[u8], at: usize) -> usize
     requires { at < 65536 }
-    ensures { (result ≡ countAt src.now at) × (result < 65536) }
+    ensures { (result ≡ count_at src.now at) × (result < 65536) }
 {
     if at == 0 {
         return 0;
@@ -60,8 +60,8 @@ fn count_at(src: &[u8], at: usize) -> usize
 
 // Whether the coverages at `l` on the left and at `r` on the right have the same glyphs. Both are walked by stretches; `a` and `b` are the lowest glyphs that are left of the current ones.
 fn same_glyphs(left: &[u8], l: usize, right: &[u8], r: usize) -> bool
-    requires { (l < 65536) × (r < 65536) × (soundAt left.now l ≡ true) × (soundAt right.now r ≡ true) }
-    ensures { result ≡ same_list eqb (coverAt left.now l) (coverAt right.now r) }
+    requires { (l < 65536) × (r < 65536) × (sound_at left.now l ≡ true) × (sound_at right.now r ≡ true) }
+    ensures { result ≡ same_list eqb (cover_at left.now l) (cover_at right.now r) }
 {
     let m = count_at(left, l);
     let n = count_at(right, r);
@@ -103,7 +103,7 @@ fn same_glyphs(left: &[u8], l: usize, right: &[u8], r: usize) -> bool
 // Whether the `n` coverages whose offsets stand from `p` on have the same glyphs on the left and on the right, one by one.
 fn same_covers(left: &[u8], right: &[u8], p: usize, n: usize) -> bool
     requires { (p + 2 * n < 0x1_0000_0000) × SoundRow left.now p n × SoundRow right.now p n }
-    ensures { result ≡ sameRow (rowRuns left.now p n) (rowRuns right.now p n) }
+    ensures { result ≡ same_row (row_runs left.now p n) (row_runs right.now p n) }
 {
     let mut i = 0;
     while i < n {
@@ -120,7 +120,7 @@ fn same_covers(left: &[u8], right: &[u8], p: usize, n: usize) -> bool
 // Whether the `n` entries of two words from `p` on are the same on the left and on the right.
 fn same_entries(left: &[u8], right: &[u8], p: usize, n: usize) -> bool
     requires { p + 4 * n < 0x1_0000_0000 }
-    ensures { result ≡ same_list sameTwo (entries left.now p n) (entries right.now p n) }
+    ensures { result ≡ same_list same_two (entries left.now p n) (entries right.now p n) }
 {
     let mut i = 0;
     while i < n {
@@ -138,7 +138,7 @@ fn same_entries(left: &[u8], right: &[u8], p: usize, n: usize) -> bool
 // Whether the rows of coverages whose counts stand at `p` are the same on the left and on the right.
 fn same_row(left: &[u8], right: &[u8], p: usize) -> bool
     requires { (p < 0x100_0000) × SoundRow left.now (p + 2) (word left.now p) × SoundRow right.now (p + 2) (word right.now p) }
-    ensures { result ≡ sameRow (rowRuns left.now (p + 2) (word left.now p)) (rowRuns right.now (p + 2) (word right.now p)) }
+    ensures { result ≡ same_row (row_runs left.now (p + 2) (word left.now p)) (row_runs right.now (p + 2) (word right.now p)) }
 {
     let n = word_at(left, p);
     if n != word_at(right, p) {
@@ -150,7 +150,7 @@ fn same_row(left: &[u8], right: &[u8], p: usize) -> bool
 // Whether the records from `p` on, whose counts stand at `k`, are the same on the left and on the right.
 fn same_records(left: &[u8], right: &[u8], k: usize, p: usize) -> bool
     requires { p < 0x100_0000 }
-    ensures { result ≡ same_list sameTwo (entries left.now p (word left.now k)) (entries right.now p (word right.now k)) }
+    ensures { result ≡ same_list same_two (entries left.now p (word left.now k)) (entries right.now p (word right.now k)) }
 {
     let n = word_at(left, k);
     if n != word_at(right, k) {
@@ -162,7 +162,7 @@ fn same_records(left: &[u8], right: &[u8], k: usize, p: usize) -> bool
 // Whether two plain contexts by coverages say the same.
 fn same_plain(left: &[u8], right: &[u8]) -> bool
     requires { SoundPlain left.now × SoundPlain right.now }
-    ensures { result ≡ sameSays (plainSays left.now) (plainSays right.now) }
+    ensures { result ≡ same_says (plain_says left.now) (plain_says right.now) }
 {
     let n = word_at(left, 2);
     if n != word_at(right, 2) {
@@ -177,7 +177,7 @@ fn same_plain(left: &[u8], right: &[u8]) -> bool
 // What is listed of two contexts by coverages from `pos` on, if they are not the same: both, as rules that only one side has; the place after it.
 fn list_rules(same: bool, out: &mut [u8], pos: usize) -> usize
     requires { pos < 0x4000_0000_0000 }
-    ensures { Listed (twoRules same) out.old pos out.new result × (result ≤ pos + 24) }
+    ensures { Listed (two_rules same) out.old pos out.new result × (result ≤ pos + 24) }
 {
     if same {
         return pos;
@@ -197,7 +197,7 @@ pub fn list_plain(left: &[u8], right: &[u8], out: &mut [u8], pos: usize) -> usiz
 // Whether two chained contexts by coverages say the same. Rows of one length end at one place, so that one place serves both sides.
 fn same_chained(left: &[u8], right: &[u8]) -> bool
     requires { SoundChained left.now × SoundChained right.now }
-    ensures { result ≡ sameSays (chainedSays left.now) (chainedSays right.now) }
+    ensures { result ≡ same_says (chained_says left.now) (chained_says right.now) }
 {
     if !same_row(left, right, 2) {
         return false;

@@ -8,30 +8,30 @@ use native.Mathlib.Omega.{arith}
 use lib.ListN.{length}
 use borrow.Author.Tests.{leb-true}
 use Rattle.meaning.specs.Words.{word, inside}
-use Rattle.meaning.specs.Tables.{reaches, coverContext}
-use Rattle.meaning.specs.Fault.{faultThrough, coverageFault, coversFault}
+use Rattle.meaning.specs.Tables.{reaches, cover_context}
+use Rattle.meaning.specs.Fault.{fault_through, coverage_fault, covers_fault}
 use Rattle.laws.specs.Runs.{both}
-use Rattle.laws.specs.SoundGood.{part_sound, lowest-none}
+use Rattle.laws.specs.SoundGood.{part_sound, lowest_none}
 use Rattle.cover_parts.specs.Rows.{SoundRow}
 use Rattle.cover_parts.specs.Parts.{IsContext}
 
-inside-fits : (s : List ℕ) (at n : ℕ) → inside s at n ≡ true → at + n ≤ length s
+inside_fits : (s : List ℕ) (at n : ℕ) → inside s at n ≡ true → at + n ≤ length s
 unfolding inside
-inside-fits s at n h = leb-true (at + n) (length s) h
+inside_fits s at n h = leb-true (at + n) (length s) h
 
 module _ (s : List ℕ) where
   -- a row that reaches nothing
   no_row : SoundRow s (record { at = 0; len = 0 })
-  unfolding faultThrough
+  unfolding fault_through
   no_row = record { inside = omega arith; sound = refl }
 
   -- a plain context: counts, offsets, records
-  pub plain-is : {n k : ℕ} → coversFault false s ≡ none → (n ≡ word s 2) × (n < 65536) → (k ≡ word s 4) × (k < 65536)
+  pub plain_is : {n k : ℕ} → covers_fault false s ≡ none → (n ≡ word s 2) × (n < 65536) → (k ≡ word s 4) × (k < 65536)
       → IsContext false s (record { back = record { at = 0; len = 0 }; input = record { at = 6; len = n }; ahead = record { at = 0; len = 0 }; records = record { at = 6 + 2 * n; len = k } })
-  unfolding coverContext reaches coversFault
-  plain-is {n} {k} h e f =
+  unfolding cover_context reaches covers_fault
+  plain_is {n} {k} h e f =
       let p = part_sound 0 (inside s 0 6 && inside s 6 (2 * word s 2 + 4 * word s 4)) _ h in
-      let l : 6 + (2 * word s 2 + 4 * word s 4) ≤ length s = inside-fits s 6 (2 * word s 2 + 4 * word s 4) (both (inside s 0 6) _ p.0).1 in
+      let l : 6 + (2 * word s 2 + 4 * word s 4) ≤ length s = inside_fits s 6 (2 * word s 2 + 4 * word s 4) (both (inside s 0 6) _ p.0).1 in
       record {
         table = rw (e.0, f.0);
         back = no_row;
@@ -44,7 +44,7 @@ module _ (s : List ℕ) where
       }
 
   -- a chained context: three arrays and the records, each with its count before it
-  pub chained-is : {b n a k : ℕ} → coversFault true s ≡ none → (b ≡ word s 2) × (b < 65536) → (n ≡ word s (4 + 2 * b)) × (n < 65536)
+  pub chained_is : {b n a k : ℕ} → covers_fault true s ≡ none → (b ≡ word s 2) × (b < 65536) → (n ≡ word s (4 + 2 * b)) × (n < 65536)
       → (a ≡ word s (4 + 2 * b + 2 + 2 * n)) × (a < 65536) → (k ≡ word s (4 + 2 * b + 2 + 2 * n + 2 + 2 * a)) × (k < 65536)
       → IsContext true s
       (record {
@@ -53,15 +53,15 @@ module _ (s : List ℕ) where
         ahead = record { at = 4 + 2 * b + 2 + 2 * n + 2; len = a };
         records = record { at = 4 + 2 * b + 2 + 2 * n + 2 + 2 * a + 2; len = k };
       })
-  unfolding coverContext coversFault
-  chained-is {b} {n} {a} {k} h e f g r =
+  unfolding cover_context covers_fault
+  chained_is {b} {n} {a} {k} h e f g r =
       let i = 4 + 2 * b in
       let j = i + 2 + 2 * n in
       let z = j + 2 + 2 * a in
       let p = part_sound 0 (inside s 0 4 && (inside s i 2 && (inside s j 2 && (inside s z 2 && inside s (z + 2) (4 * k))))) _ (rw (← e.0, ← f.0, ← g.0, ← r.0) at h) in
-      let q = lowest-none (faultThrough (coverageFault s) s 0 4 b) _ p.1 in
-      let t = lowest-none (faultThrough (coverageFault s) s 0 (i + 2) n) (faultThrough (coverageFault s) s 0 (j + 2) a) q.1 in
-      let l : z + 2 + 4 * k ≤ length s = inside-fits s (z + 2) (4 * k) (both (inside s z 2) _ (both (inside s j 2) _ (both (inside s i 2) _ (both (inside s 0 4) _ p.0).1).1).1).1 in
+      let q = lowest_none (fault_through (coverage_fault s) s 0 4 b) _ p.1 in
+      let t = lowest_none (fault_through (coverage_fault s) s 0 (i + 2) n) (fault_through (coverage_fault s) s 0 (j + 2) a) q.1 in
+      let l : z + 2 + 4 * k ≤ length s = inside_fits s (z + 2) (4 * k) (both (inside s z 2) _ (both (inside s j 2) _ (both (inside s i 2) _ (both (inside s 0 4) _ p.0).1).1).1).1 in
       record {
         table = rw (← e.0, ← f.0, ← g.0, ← r.0);
         back = record { inside = omega arith; sound = q.0 };

@@ -11,139 +11,139 @@ use lib.ListN.{length, get_or, length-append}
 use lib.Seq.{sets, length-sets}
 use lib.Dec.{eqb, leb, ltb}
 use borrow.Author.Tests.{eq-eqb, ne_eqb, leb-false}
-use Rattle.meaning.specs.Words.{word, bytes2, is_some, bind, mapAll, find, threes}
-use Rattle.meaning.specs.Maps.{glyphEntries}
-use Rattle.meaning.specs.Parts.{coverage, coverageSound}
+use Rattle.meaning.specs.Words.{word, bytes2, is_some, bind, map_all, find, threes}
+use Rattle.meaning.specs.Maps.{glyph_entries}
+use Rattle.meaning.specs.Parts.{coverage, coverage_sound}
 use Rattle.meaning.specs.Tables.{reach, reaches}
-use Rattle.meaning.specs.Fault.{faultThrough, coverageFault}
-use Rattle.meaning.specs.Cut.{unlessEmpty, newCoverage}
-use Rattle.meaning.specs.Layout.{runs, indexed, coverageWords}
+use Rattle.meaning.specs.Fault.{fault_through, coverage_fault}
+use Rattle.meaning.specs.Cut.{unless_empty, new_coverage}
+use Rattle.meaning.specs.Layout.{runs, indexed, coverage_words}
 use Rattle.meaning.specs.Packed.{together}
-use Rattle.laws.specs.Stands.{All, Word, Stands, threes-length}
-use Rattle.laws.specs.Runs.{indexed-length}
+use Rattle.laws.specs.Stands.{All, Word, Stands, threes_length}
+use Rattle.laws.specs.Runs.{indexed_length}
 use Rattle.laws.specs.PartsBack.{Glyphs}
-use Rattle.laws.specs.Fits.{coverage-fits}
-use Rattle.laws.specs.CutGood.{up-length, newCoverage-glyphs}
-use Rattle.laws.specs.SoundGood.{part_sound, lowest-none, coverage-good}
-use Rattle.laws.specs.PackedReading.{sharedBlocks}
-use Rattle.glyph_runs.specs.Runs.{map-good}
-use Rattle.cell_maps.specs.Cells.{Kept, kept-all, kept_more, holds_kept}
+use Rattle.laws.specs.Fits.{coverage_fits}
+use Rattle.laws.specs.CutGood.{up_length, new_coverage_glyphs}
+use Rattle.laws.specs.SoundGood.{part_sound, lowest_none, coverage_good}
+use Rattle.laws.specs.PackedReading.{shared_blocks}
+use Rattle.glyph_runs.specs.Runs.{map_good}
+use Rattle.cell_maps.specs.Cells.{Kept, kept_all, kept_more, holds_kept}
 use Rattle.cell_maps.specs.declared.Map.{Map}
-use Rattle.area.specs.Extends.{Extends, Tried, extends-none, extends-said, extends-keeps, extends-kept, extends-stands}
+use Rattle.area.specs.Extends.{Extends, Tried, extends_none, extends_said, extends_keeps, extends_kept, extends_stands}
 use Rattle.area.specs.Part.{news, part, classless}
-use Rattle.range_meets.specs.Met.{Met, met-news}
+use Rattle.range_meets.specs.Met.{Met, met_news}
 use Rattle.meets.specs.Either.{SeeksGlyphs}
-use Rattle.known_blocks.specs.Shared.{blocksIn, known, place_in, blocks-next}
-use Rattle.known_blocks.specs.Book.{packs, inBook, Listed, Booked, Repeated, Again, Behind, Settled}
+use Rattle.known_blocks.specs.Shared.{blocks_in, known, place_in, blocks_next}
+use Rattle.known_blocks.specs.Book.{packs, in_book, Listed, Booked, Repeated, Again, Behind, Settled}
 use Rattle.known_blocks.specs.declared.Spot.{Spot}
-use Rattle.cover_parts.specs.Behind.{addedBy, known-near, place-new}
-use Rattle.cover_parts.specs.Rows.{wordsLeft, left_at, blockLeft, blocksLeft, slotLeft, rowLeft, highestEnd, Stood, Lays, LaysLeft, Pointed, Placing, Points, Passes, SoundRow, WritesSlot, WritesRow}
+use Rattle.cover_parts.specs.Behind.{added_by, known_near, place_new}
+use Rattle.cover_parts.specs.Rows.{words_left, left_at, block_left, blocks_left, slot_left, row_left, highest_end, Stood, Lays, LaysLeft, Pointed, Placing, Points, Passes, SoundRow, WritesSlot, WritesRow}
 use Rattle.cover_parts.specs.declared.Row.{Row}
 use Rattle.cover_parts.specs.declared.Slot.{Slot}
 use Rattle.cover_parts.specs.declared.Places.{Places}
 use Rattle.cover_parts.specs.declared.Held.{Held}
-use Rattle.cover_parts.proofs.Lays.{some-none, some_same, fits_one, stood_store, lays-none, lays_one, lays-over, lays-past, stood-more, lays_more, laid-some, laid_none, laid-zero}
+use Rattle.cover_parts.proofs.Lays.{some_none, some_same, fits_one, stood_store, lays_none, lays_one, lays_over, lays_past, stood_more, lays_more, laid_some, laid_none, laid_zero}
 
 -- a part that an offset of a row reaches has no fault if the row's parts have none
-through-none : (faultAt : ℕ → Option ℕ) (s : List ℕ) (slot n i : ℕ) → faultThrough faultAt s 0 slot n ≡ none → i < n → (word s (slot + 2 * i) ≡ 0 → ⊥) → faultAt (word s (slot + 2 * i)) ≡ none
-unfolding faultThrough
-through-none faultAt s slot zero i h l z = absurd (omega arith)
-through-none faultAt s slot (suc n) zero h l z =
+through_none : (fault_at : ℕ → Option ℕ) (s : List ℕ) (slot n i : ℕ) → fault_through fault_at s 0 slot n ≡ none → i < n → (word s (slot + 2 * i) ≡ 0 → ⊥) → fault_at (word s (slot + 2 * i)) ≡ none
+unfolding fault_through
+through_none fault_at s slot zero i h l z = absurd (omega arith)
+through_none fault_at s slot (suc n) zero h l z =
     let e : slot + 2 * 0 ≡ slot = omega arith in
-    rw e (rw (ne_eqb (word s slot) 0 (rw e at z), zero-add) at (lowest-none (cond (eqb (word s slot) 0) none (faultAt (0 + word s slot))) _ h).0)
-through-none faultAt s slot (suc n) (suc i) h l z =
+    rw e (rw (ne_eqb (word s slot) 0 (rw e at z), zero-add) at (lowest_none (cond (eqb (word s slot) 0) none (fault_at (0 + word s slot))) _ h).0)
+through_none fault_at s slot (suc n) (suc i) h l z =
     let e : slot + 2 * suc i ≡ slot + 2 + 2 * i = omega arith in
-    rw e (through-none faultAt s (slot + 2) n i (lowest-none (cond (eqb (word s slot) 0) none (faultAt (0 + word s slot))) _ h).1 (omega arith) (rw e at z))
+    rw e (through_none fault_at s (slot + 2) n i (lowest_none (cond (eqb (word s slot) 0) none (fault_at (0 + word s slot))) _ h).1 (omega arith) (rw e at z))
 
 -- the coverage at a non-null offset of a row is sound
-pub sound-at : {s : List ℕ} {row : Row} → SoundRow s row → {i at : ℕ} → i < row.len → at ≡ word s (row.at + 2 * i) → (at ≡ 0 → ⊥) → coverageSound s at ≡ true
-unfolding coverageFault
-sound-at {s} {row} k {i} h e z = rw e (part_sound _ _ none (through-none (coverageFault s) s row.at row.len i k.sound h (λ q. z (e ∙ q)))).0
+pub sound_at : {s : List ℕ} {row : Row} → SoundRow s row → {i at : ℕ} → i < row.len → at ≡ word s (row.at + 2 * i) → (at ≡ 0 → ⊥) → coverage_sound s at ≡ true
+unfolding coverage_fault
+sound_at {s} {row} k {i} h e z = rw e (part_sound _ _ none (through_none (coverage_fault s) s row.at row.len i k.sound h (λ q. z (e ∙ q)))).0
 
 -- a coverage has two words or more, and at most 65,538
-words-two : (gs : List ℕ) → 2 ≤ length (coverageWords gs)
-unfolding coverageWords
-words-two gs = step (leb (4 + 2 * length gs) (4 + 6 * length (runs (classless gs))))
+words_two : (gs : List ℕ) → 2 ≤ length (coverage_words gs)
+unfolding coverage_words
+words_two gs = step (leb (4 + 2 * length gs) (4 + 6 * length (runs (classless gs))))
   where
     step : (t : Bool) → 2 ≤ length (cond t (1 ∷ length gs ∷ gs) (2 ∷ length (runs (classless gs)) ∷ threes (indexed 0 (runs (classless gs)))))
     step true = omega arith
     step false = omega arith
 
-words-most : (gs : List ℕ) → Glyphs gs → length (coverageWords gs) ≤ 65538
-unfolding coverageWords
-words-most gs k = step (leb (4 + 2 * length gs) (4 + 6 * length rs)) refl
+words_most : (gs : List ℕ) → Glyphs gs → length (coverage_words gs) ≤ 65538
+unfolding coverage_words
+words_most gs k = step (leb (4 + 2 * length gs) (4 + 6 * length rs)) refl
   where
     rs : List (ℕ × ℕ × ℕ)
     rs = runs (classless gs)
 
     few : length gs ≤ 65536
-    few = omega (arith, up-length 0 gs (omega arith) k.0 k.1)
+    few = omega (arith, up_length 0 gs (omega arith) k.0 k.1)
 
     step : (t : Bool) → leb (4 + 2 * length gs) (4 + 6 * length rs) ≡ t → length (cond t (1 ∷ length gs ∷ gs) (2 ∷ length rs ∷ threes (indexed 0 rs))) ≤ 65538
     step true e = omega (arith, few)
-    step false e = omega (arith, few, leb-false (4 + 2 * length gs) (4 + 6 * length rs) e, threes-length (indexed 0 rs), indexed-length 0 rs)
+    step false e = omega (arith, few, leb-false (4 + 2 * length gs) (4 + 6 * length rs) e, threes_length (indexed 0 rs), indexed_length 0 rs)
 
 -- One coverage.
 module _ (g : List (ℕ × ℕ)) (cov : List ℕ) where
-  one-gone : newCoverage g cov ≡ [] → blocksLeft g (some cov ∷ []) ≡ none
-  unfolding blocksLeft blockLeft wordsLeft mapAll bind unlessEmpty
-  one-gone e = rw e
+  one_gone : new_coverage g cov ≡ [] → blocks_left g (some cov ∷ []) ≡ none
+  unfolding blocks_left block_left words_left map_all bind unless_empty
+  one_gone e = rw e
 
-  words_left : (n : ℕ) (ns : List ℕ) → newCoverage g cov ≡ n ∷ ns → wordsLeft g cov ≡ some (coverageWords (newCoverage g cov))
-  unfolding wordsLeft bind unlessEmpty
-  words_left n ns e = rw e
+  words_left_lem : (n : ℕ) (ns : List ℕ) → new_coverage g cov ≡ n ∷ ns → words_left g cov ≡ some (coverage_words (new_coverage g cov))
+  unfolding words_left bind unless_empty
+  words_left_lem n ns e = rw e
 
-  left_one : {b : List ℕ} → wordsLeft g cov ≡ some b → blocksLeft g (some cov ∷ []) ≡ some (some b ∷ [])
-  unfolding blocksLeft blockLeft mapAll bind
+  left_one : {b : List ℕ} → words_left g cov ≡ some b → blocks_left g (some cov ∷ []) ≡ some (some b ∷ [])
+  unfolding blocks_left block_left map_all bind
   left_one e = rw e
 
-  left-long : {b : List ℕ} → wordsLeft g cov ≡ some b → 2 ≤ length b
-  unfolding wordsLeft bind unlessEmpty
-  left-long {b} e = step (newCoverage g cov) e
+  left_long : {b : List ℕ} → words_left g cov ≡ some b → 2 ≤ length b
+  unfolding words_left bind unless_empty
+  left_long {b} e = step (new_coverage g cov) e
     where
-      step : (l : List ℕ) → bind (unlessEmpty l) (λ k. some (coverageWords k)) ≡ some b → 2 ≤ length b
-      step [] q = absurd (some-none (sym q))
-      step (n ∷ ns) q = subst (λ (x : List ℕ). 2 ≤ length x) (some_same q) (words-two (n ∷ ns))
+      step : (l : List ℕ) → bind (unless_empty l) (λ k. some (coverage_words k)) ≡ some b → 2 ≤ length b
+      step [] q = absurd (some_none (sym q))
+      step (n ∷ ns) q = subst (λ (x : List ℕ). 2 ≤ length x) (some_same q) (words_two (n ∷ ns))
 
   -- by how many glyphs are noted
-  news-gone : (t : List ℕ) (to k : ℕ) → news t to k ≡ newCoverage g cov → k ≡ 0 → blocksLeft g (some cov ∷ []) ≡ none
+  news_gone : (t : List ℕ) (to k : ℕ) → news t to k ≡ new_coverage g cov → k ≡ 0 → blocks_left g (some cov ∷ []) ≡ none
   unfolding part
-  news-gone t to k e z = one-gone (sym e ∙ rw z refl)
+  news_gone t to k e z = one_gone (sym e ∙ rw z refl)
 
-  news-left : (t : List ℕ) (to k : ℕ) → news t to k ≡ newCoverage g cov → (k ≡ 0 → ⊥) → wordsLeft g cov ≡ some (coverageWords (newCoverage g cov))
+  news_left : (t : List ℕ) (to k : ℕ) → news t to k ≡ new_coverage g cov → (k ≡ 0 → ⊥) → words_left g cov ≡ some (coverage_words (new_coverage g cov))
   unfolding part
-  news-left t to zero e z = absurd (z refl)
-  news-left t to (suc k) e z = words_left (get_or t to 0 % 65536) (news t (to + 1) k) (sym e)
+  news_left t to zero e z = absurd (z refl)
+  news_left t to (suc k) e z = words_left_lem (get_or t to 0 % 65536) (news t (to + 1) k) (sym e)
 
   -- by whether one is retained
-  passes_on : (p : ℕ) → is_some (unlessEmpty (newCoverage g cov)) ≡ true → Passes (blocksLeft g (some cov ∷ [])) p p
-  unfolding is_some unlessEmpty
-  passes_on p h = step (newCoverage g cov) refl h
+  passes_on : (p : ℕ) → is_some (unless_empty (new_coverage g cov)) ≡ true → Passes (blocks_left g (some cov ∷ [])) p p
+  unfolding is_some unless_empty
+  passes_on p h = step (new_coverage g cov) refl h
     where
-      step : (l : List ℕ) → newCoverage g cov ≡ l → is_some (unlessEmpty l) ≡ true → Passes (blocksLeft g (some cov ∷ [])) p p
+      step : (l : List ℕ) → new_coverage g cov ≡ l → is_some (unless_empty l) ≡ true → Passes (blocks_left g (some cov ∷ [])) p p
       step [] e h = absurd (true≢false (sym h))
-      step (n ∷ ns) e h = record { gone = λ q. absurd (some-none (sym (left_one (words_left n ns e)) ∙ q)); stays = λ {bs = bs} q. refl }
+      step (n ∷ ns) e h = record { gone = λ q. absurd (some_none (sym (left_one (words_left_lem n ns e)) ∙ q)); stays = λ {bs = bs} q. refl }
 
-  passes-gone : (p : ℕ) → is_some (unlessEmpty (newCoverage g cov)) ≡ false → Passes (blocksLeft g (some cov ∷ [])) p 0
-  unfolding is_some unlessEmpty
-  passes-gone p h = step (newCoverage g cov) refl h
+  passes_gone : (p : ℕ) → is_some (unless_empty (new_coverage g cov)) ≡ false → Passes (blocks_left g (some cov ∷ [])) p 0
+  unfolding is_some unless_empty
+  passes_gone p h = step (new_coverage g cov) refl h
     where
-      step : (l : List ℕ) → newCoverage g cov ≡ l → is_some (unlessEmpty l) ≡ false → Passes (blocksLeft g (some cov ∷ [])) p 0
-      step [] e h = record { gone = λ q. refl; stays = λ {bs = bs} q. absurd (some-none (sym q ∙ one-gone e)) }
+      step : (l : List ℕ) → new_coverage g cov ≡ l → is_some (unless_empty l) ≡ false → Passes (blocks_left g (some cov ∷ [])) p 0
+      step [] e h = record { gone = λ q. refl; stays = λ {bs = bs} q. absurd (some_none (sym q ∙ one_gone e)) }
       step (n ∷ ns) e h = absurd (true≢false h)
 
-module _ {form : ℕ} {s : List ℕ} {cover : ℕ} {glyphs : List ℕ} {m : Map} {t : List ℕ} (a : SeeksGlyphs form s cover glyphs m t) (p : ℕ) {r : Bool} (e : r ≡ is_some (unlessEmpty (newCoverage (glyphEntries form glyphs) (coverage s cover)))) where
-  pub over-met : r ≡ true → Passes (slotLeft (glyphEntries form glyphs) s cover) p p
-  over-met h = passes_on (glyphEntries form glyphs) (coverage s cover) p (sym e ∙ h)
+module _ {form : ℕ} {s : List ℕ} {cover : ℕ} {glyphs : List ℕ} {m : Map} {t : List ℕ} (a : SeeksGlyphs form s cover glyphs m t) (p : ℕ) {r : Bool} (e : r ≡ is_some (unless_empty (new_coverage (glyph_entries form glyphs) (coverage s cover)))) where
+  pub over_met : r ≡ true → Passes (slot_left (glyph_entries form glyphs) s cover) p p
+  over_met h = passes_on (glyph_entries form glyphs) (coverage s cover) p (sym e ∙ h)
 
-  pub over-gone : r ≡ false → Passes (slotLeft (glyphEntries form glyphs) s cover) p 0
-  over-gone h = passes-gone (glyphEntries form glyphs) (coverage s cover) p (sym e ∙ h)
+  pub over_gone : r ≡ false → Passes (slot_left (glyph_entries form glyphs) s cover) p 0
+  over_gone h = passes_gone (glyph_entries form glyphs) (coverage s cover) p (sym e ∙ h)
 
 -- the blocks of a book, each of two words or more, have at least twice as many words
-listed-long : (left : ℕ → Option (List ℕ)) → ((x : ℕ) (d : List ℕ) → left x ≡ some d → 2 ≤ length d) → (book : List ℕ) (i w : ℕ) (ds : List (List ℕ)) → Listed left book i w ds → 2 * length ds ≤ length (together ds)
+listed_long : (left : ℕ → Option (List ℕ)) → ((x : ℕ) (d : List ℕ) → left x ≡ some d → 2 ≤ length d) → (book : List ℕ) (i w : ℕ) (ds : List (List ℕ)) → Listed left book i w ds → 2 * length ds ≤ length (together ds)
 unfolding together
-listed-long left f book i w [] h = omega arith
-listed-long left f book i w (d ∷ ds) h = omega (arith, f _ d h.1, listed-long left f book (i + 1) (w + length d) ds h.2, length-append d (together ds))
+listed_long left f book i w [] h = omega arith
+listed_long left f book i w (d ∷ ds) h = omega (arith, f _ d h.1, listed_long left f book (i + 1) (w + length d) ds h.2, length-append d (together ds))
 
 -- Where a block stands that was written.
 module _ {area : List ℕ} {slot : Slot} {at : Places} {q : ℕ} {book₀ book : List ℕ} {spot : Spot} (a : Placing area slot at q book₀) (s : Settled area at.first at.pos q slot.cover book₀ book spot) where
@@ -151,12 +151,12 @@ module _ {area : List ℕ} {slot : Slot} {at : Places} {q : ℕ} {book₀ book :
   same_kind = ap (λ (n : ℕ). ltb 1 n) s.same
 
   -- it is new, and too far behind the first
-  pub point-far : {r : ℕ} → spot.at ≡ 0 → length area < r → Points area slot at q area r book₀ book
-  point-far {r} z l = record {
+  pub point_far : {r : ℕ} → spot.at ≡ 0 → length area < r → Points area slot at q area r book₀ book
+  point_far {r} z l = record {
     same = refl;
     pages = s.same;
     points = λ {left} pre b h. record {
-      far = λ g. omega (arith, s.far z a.start, h.place, place-new (packs book₀) at.first pre b (ap (λ (t : Bool). known t pre b) (sym same_kind) ∙ s.unknown pre b h z a.start));
+      far = λ g. omega (arith, s.far z a.start, h.place, place_new (packs book₀) at.first pre b (ap (λ (t : Bool). known t pre b) (sym same_kind) ∙ s.unknown pre b h z a.start));
       near = λ g. absurd (omega arith);
       put = λ g. absurd (omega arith);
       end = λ g. absurd (omega arith);
@@ -166,8 +166,8 @@ module _ {area : List ℕ} {slot : Slot} {at : Places} {q : ℕ} {book₀ book :
 
   module _ (z : spot.at ≡ 0 → ⊥) where
     -- no offset can say its place
-    pub point-past : {r : ℕ} → 65535 < spot.at → length area < r → Points area slot at q area r book₀ book
-    point-past {r} n l = record {
+    pub point_past : {r : ℕ} → 65535 < spot.at → length area < r → Points area slot at q area r book₀ book
+    point_past {r} n l = record {
       same = refl;
       pages = s.same;
       points = λ {left} pre b h. record {
@@ -186,15 +186,15 @@ module _ {area : List ℕ} {slot : Slot} {at : Places} {q : ℕ} {book₀ book :
       points = λ {left} pre b h. step pre b h (rw same_kind at (s.near pre b h z));
     }
       where
-        added-short : (t : Bool) (b : List ℕ) → length (cond t [] b) ≤ length b
-        added-short true b = omega arith
-        added-short false b = omega arith
+        added_short : (t : Bool) (b : List ℕ) → length (cond t [] b) ≤ length b
+        added_short true b = omega arith
+        added_short false b = omega arith
 
         step : {left : ℕ → Option (List ℕ)} (pre : List (Option (List ℕ))) (b : List ℕ) → Behind left pre b area at.first at.pos q slot.cover book₀
-            → (spot.at ≡ place_in (packs book₀) at.first pre b) × (spot.end ≡ at.first + 2 * length (blocksIn (packs book₀) (pre ++ (some b ∷ [])))) × Booked left (inBook (packs book₀) (pre ++ (some b ∷ []))) book
+            → (spot.at ≡ place_in (packs book₀) at.first pre b) × (spot.end ≡ at.first + 2 * length (blocks_in (packs book₀) (pre ++ (some b ∷ [])))) × Booked left (in_book (packs book₀) (pre ++ (some b ∷ []))) book
             → Pointed (packs book₀) left at.first pre b area slot.at after spot.end book
         step pre b h w = record {
-          far = λ g. absurd (omega (arith, w.1, a.lies, h.place, h.end, ap length (blocks-next (packs book₀) 0 pre b), length-append (blocksIn (packs book₀) pre) (cond (known (packs book₀) pre b) [] b), added-short (known (packs book₀) pre b) b));
+          far = λ g. absurd (omega (arith, w.1, a.lies, h.place, h.end, ap length (blocks_next (packs book₀) 0 pre b), length-append (blocks_in (packs book₀) pre) (cond (known (packs book₀) pre b) [] b), added_short (known (packs book₀) pre b) b));
           near = λ g. omega (arith, w.0);
           put = λ g. e ∙ ap (λ (x : ℕ). sets area slot.at (bytes2 x)) w.0;
           end = λ g. w.1;
@@ -203,7 +203,7 @@ module _ {area : List ℕ} {slot : Slot} {at : Places} {q : ℕ} {book₀ book :
 
 module _ {s : List ℕ} {slot : Slot} {glyphs : List ℕ} {h : Held} {t area : List ℕ} {at : Places} {book : List ℕ} (a : WritesSlot s slot glyphs h t area at book) where
   abbrev g : List (ℕ × ℕ)
-  g = glyphEntries h.form glyphs
+  g = glyph_entries h.form glyphs
 
   abbrev cov : List ℕ
   cov = coverage s slot.cover
@@ -212,13 +212,13 @@ module _ {s : List ℕ} {slot : Slot} {glyphs : List ℕ} {h : Held} {t area : L
   source = left_at g s
 
   -- the area has ended
-  pub slot-over : {r : ℕ} → length area < at.pos → Passes (slotLeft g s slot.cover) at.pos r → LaysLeft source (slotLeft g s slot.cover) h.map t t area slot.at at area r book book
-  slot-over {r} l k = record {
-    cells = kept-all (h.map.at + h.map.mask + 1) t;
+  pub slot_over : {r : ℕ} → length area < at.pos → Passes (slot_left g s slot.cover) at.pos r → LaysLeft source (slot_left g s slot.cover) h.map t t area slot.at at area r book book
+  slot_over {r} l k = record {
+    cells = kept_all (h.map.at + h.map.mask + 1) t;
     same = refl;
     pages = refl;
     gone = k.gone;
-    stays = λ {bs = bs} e pre st. lays-over (omega (arith, k.stays e)) bs l;
+    stays = λ {bs = bs} e pre st. lays_over (omega (arith, k.stays e)) bs l;
   }
 
   module _ (l : at.pos ≤ length area) where
@@ -227,75 +227,75 @@ module _ {s : List ℕ} {slot : Slot} {glyphs : List ℕ} {h : Held} {t area : L
     stands = a.standing.stood l
 
     -- what the search for an earlier one asks
-    pub slot-few : get_or book 0 0 < 65536
-    slot-few = omega (arith, stands.booked.count, stands.booked.few)
+    pub slot_few : get_or book 0 0 < 65536
+    slot_few = omega (arith, stands.booked.count, stands.booked.few)
 
-    pub slot-first : at.first < 0x1_0000_0000_0000
-    slot-first = omega (arith, stands.laid.place, stands.low)
+    pub slot_first : at.first < 0x1_0000_0000_0000
+    slot_first = omega (arith, stands.laid.place, stands.low)
 
     -- one from the same place stands already
-    pub slot-again : {x : ℕ} {next : List ℕ} → Again book at.first slot.cover x → (x ≡ 0 → ⊥) → next ≡ sets area slot.at (bytes2 x) → LaysLeft source (slotLeft g s slot.cover) h.map t t area slot.at at next at.pos book book
-    slot-again {x} {next} w z e =
+    pub slot_again : {x : ℕ} {next : List ℕ} → Again book at.first slot.cover x → (x ≡ 0 → ⊥) → next ≡ sets area slot.at (bytes2 x) → LaysLeft source (slot_left g s slot.cover) h.map t t area slot.at at next at.pos book book
+    slot_again {x} {next} w z e =
         let y = w.found a.standing.pre stands.booked z in
-        laid-some (kept-all (h.map.at + h.map.mask + 1) t) (ap length e ∙ length-sets area slot.at (bytes2 x)) refl (left_one g cov y.is) (λ pre st. step y.words y.is pre (st l) (w.found pre (st l).booked z))
+        laid_some (kept_all (h.map.at + h.map.mask + 1) t) (ap length e ∙ length-sets area slot.at (bytes2 x)) refl (left_one g cov y.is) (λ pre st. step y.words y.is pre (st l) (w.found pre (st l).booked z))
       where
         step : (ws : List ℕ) → source slot.cover ≡ some ws → (pre : List (Option (List ℕ))) → Stood (packs book) source at.first pre area at.pos book → Repeated source pre book at.first slot.cover x
             → Lays (packs book) source at.first pre area slot.at at.pos (some ws ∷ []) next at.pos book
         step ws f pre st y =
-            let k : addedBy (packs book) pre (some y.words) ≡ [] = ap (λ (b : Bool). cond b [] y.words) y.again in
+            let k : added_by (packs book) pre (some y.words) ≡ [] = ap (λ (b : Bool). cond b [] y.words) y.again in
             subst (λ (v : List ℕ). Lays (packs book) source at.first pre area slot.at at.pos (some v ∷ []) next at.pos book) (some_same (sym y.is ∙ f))
-            (lays_one y.words (omega (arith, a.before, st.laid.place)) (extends-said (extends-none l) (sym k)) (e ∙ ap (λ (n : ℕ). sets area slot.at (bytes2 n)) y.at)
-            (omega (arith, known-near (packs book) at.first pre y.words st.near y.again)) (subst (All Word) (sym k) tt) st.low y.booked)
+            (lays_one y.words (omega (arith, a.before, st.laid.place)) (extends_said (extends_none l) (sym k)) (e ∙ ap (λ (n : ℕ). sets area slot.at (bytes2 n)) y.at)
+            (omega (arith, known_near (packs book) at.first pre y.words st.near y.again)) (subst (All Word) (sym k) tt) st.low y.booked)
 
     module _ {next : List ℕ} {k : ℕ} (m : Met (find g) cov t (h.map.at + h.map.mask + 1) next k) where
       -- no glyph is retained
-      pub slot-gone : k ≡ 0 → LaysLeft source (slotLeft g s slot.cover) h.map t next area slot.at at area 0 book book
-      slot-gone z = laid_none m.kept refl refl (news-gone g cov next (h.map.at + h.map.mask + 1) k (met-news g m) z)
+      pub slot_gone : k ≡ 0 → LaysLeft source (slot_left g s slot.cover) h.map t next area slot.at at area 0 book book
+      slot_gone z = laid_none m.kept refl refl (news_gone g cov next (h.map.at + h.map.mask + 1) k (met_news g m) z)
 
-      module _ (z : k ≡ 0 → ⊥) {mid : List ℕ} {q : ℕ} (w : Tried area at.pos (coverageWords (news next (h.map.at + h.map.mask + 1) k)) mid q) where
+      module _ (z : k ≡ 0 → ⊥) {mid : List ℕ} {q : ℕ} (w : Tried area at.pos (coverage_words (news next (h.map.at + h.map.mask + 1) k)) mid q) where
         -- the words of what is left
         abbrev words : List ℕ
-        words = coverageWords (newCoverage g cov)
+        words = coverage_words (new_coverage g cov)
 
         written : Tried area at.pos words mid q
-        written = rw (met-news g m) at w
+        written = rw (met_news g m) at w
 
-        is-left : source slot.cover ≡ some words
-        is-left = news-left g cov next (h.map.at + h.map.mask + 1) k (met-news g m) z
+        is_left : source slot.cover ≡ some words
+        is_left = news_left g cov next (h.map.at + h.map.mask + 1) k (met_news g m) z
 
-        glyphs-left : Glyphs (newCoverage g cov)
-        glyphs-left = newCoverage-glyphs g (map-good a.ready.map) cov (coverage-good s a.bytes slot.cover a.sound)
+        glyphs_left : Glyphs (new_coverage g cov)
+        glyphs_left = new_coverage_glyphs g (map_good a.ready.map) cov (coverage_good s a.bytes slot.cover a.sound)
 
         -- there is no room for them
-        pub slot-short : length mid < q → LaysLeft source (slotLeft g s slot.cover) h.map t next area slot.at at mid q book book
-        slot-short d =
-            laid-some m.kept written.same refl (left_one g cov is-left)
-            (λ pre st. lays-past (omega (arith, written.same)) (some words ∷ []) (λ f. omega (arith, written.full (omega (arith, written.same)), stands.low, words-most (newCoverage g cov) glyphs-left)))
+        pub slot_short : length mid < q → LaysLeft source (slot_left g s slot.cover) h.map t next area slot.at at mid q book book
+        slot_short d =
+            laid_some m.kept written.same refl (left_one g cov is_left)
+            (λ pre st. lays_past (omega (arith, written.same)) (some words ∷ []) (λ f. omega (arith, written.full (omega (arith, written.same)), stands.low, words_most (new_coverage g cov) glyphs_left)))
 
         module _ (d : q ≤ length mid) where
           wrote : Extends area at.pos words mid q
           wrote = written.fits (omega (arith, written.same))
 
           -- they were written, and their place is asked for
-          pub slot-placing : Placing mid slot at q book
-          slot-placing = record {
+          pub slot_placing : Placing mid slot at q book
+          slot_placing = record {
             start = omega (arith, a.before);
             behind = omega (arith, stands.laid.place);
             order = omega (arith, wrote.place);
-            low = omega (arith, wrote.place, stands.low, words-most (newCoverage g cov) glyphs-left);
+            low = omega (arith, wrote.place, stands.low, words_most (new_coverage g cov) glyphs_left);
             lies = d;
             inside = omega (arith, a.inside, written.same);
             word = a.word;
-            few = slot-few;
+            few = slot_few;
           }
 
           module _ (pre : List (Option (List ℕ))) (st : Stood (packs book) source at.first pre area at.pos book) where
             -- they are few, since each has two words or more
-            few-stand : packs book ≡ true → at.pos ≤ at.first + 65535 → length (inBook true pre) ≤ 16383
-            unfolding sharedBlocks
-            few-stand e n =
-                let ls = listed-long source (λ x b f. left-long g (coverage s x) f) book 1 0 (inBook true pre) (subst (λ (b : Bool). Listed source book 1 0 (inBook b pre)) e st.booked.listed) in
-                let p : at.pos ≡ at.first + 2 * length (blocksIn true pre) = subst (λ (b : Bool). at.pos ≡ at.first + 2 * length (blocksIn b pre)) e st.laid.place in
+            few_stand : packs book ≡ true → at.pos ≤ at.first + 65535 → length (in_book true pre) ≤ 16383
+            unfolding shared_blocks
+            few_stand e n =
+                let ls = listed_long source (λ x b f. left_long g (coverage s x) f) book 1 0 (in_book true pre) (subst (λ (b : Bool). Listed source book 1 0 (in_book b pre)) e st.booked.listed) in
+                let p : at.pos ≡ at.first + 2 * length (blocks_in true pre) = subst (λ (b : Bool). at.pos ≡ at.first + 2 * length (blocks_in b pre)) e st.laid.place in
                 omega (arith, ls, p)
 
             behind : Behind source pre words mid at.first at.pos q slot.cover book
@@ -303,43 +303,43 @@ module _ {s : List ℕ} {slot : Slot} {glyphs : List ℕ} {h : Held} {t area : L
               booked = st.booked;
               place = st.laid.place;
               end = wrote.place;
-              some_word = omega (arith, words-two (newCoverage g cov));
-              laid = λ e. subst (λ (b : Bool). Stands mid at.first (blocksIn b pre)) e (extends-stands (extends-kept st.laid (extends-keeps wrote)) st.small);
-              last = λ e. extends-stands wrote (coverage-fits (newCoverage g cov) glyphs-left);
-              from = is-left;
-              room = λ e n. omega (arith, few-stand e n, a.standing.room e);
-              few = λ e n. omega (arith, few-stand e n);
+              some_word = omega (arith, words_two (new_coverage g cov));
+              laid = λ e. subst (λ (b : Bool). Stands mid at.first (blocks_in b pre)) e (extends_stands (extends_kept st.laid (extends_keeps wrote)) st.small);
+              last = λ e. extends_stands wrote (coverage_fits (new_coverage g cov) glyphs_left);
+              from = is_left;
+              room = λ e n. omega (arith, few_stand e n, a.standing.room e);
+              few = λ e n. omega (arith, few_stand e n);
             }
 
             -- what they add
-            added : {r : ℕ} → r ≡ at.first + 2 * length (blocksIn (packs book) (pre ++ (some words ∷ []))) → place_in (packs book) at.first pre words ≤ 65535
-                → Extends area at.pos (addedBy (packs book) pre (some words)) mid r × All Word (addedBy (packs book) pre (some words)) × (r ≤ highestEnd)
-            added {r} e n = step (known (packs book) pre words) refl (omega (arith, e, st.laid.place, ap length (blocks-next (packs book) 0 pre words), length-append (blocksIn (packs book) pre) (cond (known (packs book) pre words) [] words)))
+            added : {r : ℕ} → r ≡ at.first + 2 * length (blocks_in (packs book) (pre ++ (some words ∷ []))) → place_in (packs book) at.first pre words ≤ 65535
+                → Extends area at.pos (added_by (packs book) pre (some words)) mid r × All Word (added_by (packs book) pre (some words)) × (r ≤ highest_end)
+            added {r} e n = step (known (packs book) pre words) refl (omega (arith, e, st.laid.place, ap length (blocks_next (packs book) 0 pre words), length-append (blocks_in (packs book) pre) (cond (known (packs book) pre words) [] words)))
               where
                 step : (b : Bool) → known (packs book) pre words ≡ b → r ≡ at.pos + 2 * length (cond (known (packs book) pre words) [] words)
-                    → Extends area at.pos (cond (known (packs book) pre words) [] words) mid r × All Word (cond (known (packs book) pre words) [] words) × (r ≤ highestEnd)
+                    → Extends area at.pos (cond (known (packs book) pre words) [] words) mid r × All Word (cond (known (packs book) pre words) [] words) × (r ≤ highest_end)
                 step true q f =
                     let v : r ≡ at.pos = omega (arith, rw q at f) in
-                    rw (q, v) (extends-kept (extends-none l) (extends-keeps wrote), tt, st.low)
+                    rw (q, v) (extends_kept (extends_none l) (extends_keeps wrote), tt, st.low)
                 step false x f =
                     let v : r ≡ q = rw x at f ∙ sym wrote.place in
-                    rw (x, v) (wrote, coverage-fits (newCoverage g cov) glyphs-left, omega (arith, wrote.place, place-new (packs book) at.first pre words x, st.laid.place, words-most (newCoverage g cov) glyphs-left))
+                    rw (x, v) (wrote, coverage_fits (new_coverage g cov) glyphs_left, omega (arith, wrote.place, place_new (packs book) at.first pre words x, st.laid.place, words_most (new_coverage g cov) glyphs_left))
 
-          pub slot-written : {after : List ℕ} {r : ℕ} {book₁ : List ℕ} → Points mid slot at q after r book book₁ → LaysLeft source (slotLeft g s slot.cover) h.map t next area slot.at at after r book book₁
-          slot-written {after} {r} {book₁} y = laid-some m.kept (y.same ∙ written.same) y.pages (left_one g cov is-left) (λ pre st. step pre (st l) (y.points pre words (behind pre (st l))) (dec_lt (length mid) r))
+          pub slot_written : {after : List ℕ} {r : ℕ} {book₁ : List ℕ} → Points mid slot at q after r book book₁ → LaysLeft source (slot_left g s slot.cover) h.map t next area slot.at at after r book book₁
+          slot_written {after} {r} {book₁} y = laid_some m.kept (y.same ∙ written.same) y.pages (left_one g cov is_left) (λ pre st. step pre (st l) (y.points pre words (behind pre (st l))) (dec_lt (length mid) r))
             where
               step : (pre : List (Option (List ℕ))) → Stood (packs book) source at.first pre area at.pos book → Pointed (packs book) source at.first pre words mid slot.at after r book₁ → Dec (length mid < r)
                   → Lays (packs book) source at.first pre area slot.at at.pos (some words ∷ []) after r book₁
-              step pre st v (yes x) = lays-past (omega (arith, written.same)) (some words ∷ []) (λ f. absurd (omega (arith, v.far x, fits_one (packs book) at.first pre words f)))
+              step pre st v (yes x) = lays_past (omega (arith, written.same)) (some words ∷ []) (λ f. absurd (omega (arith, v.far x, fits_one (packs book) at.first pre words f)))
               step pre st v (no x) =
                   let i : r ≤ length mid = omega arith in
                   let u = added pre st (v.end i) (v.near i) in
                   lays_one words (omega (arith, a.before, st.laid.place)) u.0 (v.put i) (v.near i) u.1 u.2 (v.booked i)
 
 -- what a row asks stays where its count is stored before it
-pub counted-asks : {s : List ℕ} {row : Row} {glyphs : List ℕ} {h : Held} {t area next : List ℕ} {at : Places} {book : List ℕ} → WritesRow s row glyphs h t area at book → 2 ≤ row.at → next ≡ sets area (row.at - 2) (bytes2 row.len) → WritesRow s row glyphs h t next at book
+pub counted_asks : {s : List ℕ} {row : Row} {glyphs : List ℕ} {h : Held} {t area next : List ℕ} {at : Places} {book : List ℕ} → WritesRow s row glyphs h t area at book → 2 ≤ row.at → next ≡ sets area (row.at - 2) (bytes2 row.len) → WritesRow s row glyphs h t next at book
 unfolding bytes2
-counted-asks {row = row} {area = area} {next} a l e =
+counted_asks {row = row} {area = area} {next} a l e =
     let xs = bytes2 row.len in
     let n : length next ≡ length area = ap length e ∙ length-sets area (row.at - 2) xs in
     record {
@@ -360,24 +360,24 @@ counted-asks {row = row} {area = area} {next} a l e =
 -- Coverages from the front.
 module _ (g : List (ℕ × ℕ)) (s : List ℕ) (slot n : ℕ) where
   -- what is left of those from the i-th on
-  abbrev pub leftFrom : ℕ → Option (List (Option (List ℕ)))
-  leftFrom i = blocksLeft g (reaches (coverage s) s 0 (slot + 2 * i) (n - i))
+  abbrev pub left_from : ℕ → Option (List (Option (List ℕ)))
+  left_from i = blocks_left g (reaches (coverage s) s 0 (slot + 2 * i) (n - i))
 
-  reaches-left : (i : ℕ) → i < n → reaches (coverage s) s 0 (slot + 2 * i) (n - i) ≡ reach (coverage s) s 0 (slot + 2 * i) ∷ reaches (coverage s) s 0 (slot + 2 * (i + 1)) (n - (i + 1))
+  reaches_left : (i : ℕ) → i < n → reaches (coverage s) s 0 (slot + 2 * i) (n - i) ≡ reach (coverage s) s 0 (slot + 2 * i) ∷ reaches (coverage s) s 0 (slot + 2 * (i + 1)) (n - (i + 1))
   unfolding reaches
-  reaches-left i h =
+  reaches_left i h =
       let e : n - i ≡ suc (n - (i + 1)) = omega arith in
       let f : slot + 2 * (i + 1) ≡ slot + 2 * i + 2 = omega arith in
       rw (e, f)
 
   module _ {i cover : ℕ} (h : i < n) (e : cover ≡ word s (slot + 2 * i)) where
-    null-left : cover ≡ 0 → leftFrom i ≡ none
-    unfolding blocksLeft blockLeft mapAll reach bind
-    null-left z = rw (reaches-left i h, ← e, eq-eqb cover 0 z)
+    null_left : cover ≡ 0 → left_from i ≡ none
+    unfolding blocks_left block_left map_all reach bind
+    null_left z = rw (reaches_left i h, ← e, eq-eqb cover 0 z)
 
-    there-left : (cover ≡ 0 → ⊥) → leftFrom i ≡ bind (blockLeft g (some (coverage s cover))) (λ b. bind (leftFrom (i + 1)) (λ bs. some (b ∷ bs)))
-    unfolding blocksLeft mapAll reach
-    there-left z = rw (reaches-left i h, ← e, ne_eqb cover 0 z, zero-add)
+    there_left : (cover ≡ 0 → ⊥) → left_from i ≡ bind (block_left g (some (coverage s cover))) (λ b. bind (left_from (i + 1)) (λ bs. some (b ∷ bs)))
+    unfolding blocks_left map_all reach
+    there_left z = rw (reaches_left i h, ← e, ne_eqb cover 0 z, zero-add)
 
 -- What the loop over a row keeps: `done` are the blocks that are laid behind those that stood, and with what is left of the others they are what is left of the row.
 pub record Rowing (g : List (ℕ × ℕ)) (s : List ℕ) (row : Row) (m : Map) (t₀ before : List ℕ) (at : Places) (book₀ t area book : List ℕ) (p i : ℕ) : Type 0 where
@@ -388,22 +388,22 @@ pub record Rowing (g : List (ℕ × ℕ)) (s : List ℕ) (row : Row) (m : Map) (
   pub start : 0 < p
   pub done : List (Option (List ℕ))
   pub count : length done ≡ i
-  pub whole : rowLeft g s row ≡ bind (leftFrom g s row.at row.len i) (λ bs. some (done ++ bs))
+  pub whole : row_left g s row ≡ bind (left_from g s row.at row.len i) (λ bs. some (done ++ bs))
   pub lays : (pre : List (Option (List ℕ))) → (at.pos ≤ length before → Stood (packs book₀) (left_at g s) at.first pre before at.pos book₀) → Lays (packs book₀) (left_at g s) at.first pre before row.at at.pos done area p book
 
-bind-some : {A : Type 0} (o : Option (List A)) → o ≡ bind o (λ bs. some ([] ++ bs))
+bind_some : {A : Type 0} (o : Option (List A)) → o ≡ bind o (λ bs. some ([] ++ bs))
 unfolding bind
-bind-some none = refl
-bind-some (some bs) = refl
+bind_some none = refl
+bind_some (some bs) = refl
 
-bind-more : {A : Type 0} (done : List A) (b : A) (o : Option (List A)) → bind (bind o (λ bs. some (b ∷ bs))) (λ bs. some (done ++ bs)) ≡ bind o (λ bs. some ((done ++ (b ∷ [])) ++ bs))
+bind_more : {A : Type 0} (done : List A) (b : A) (o : Option (List A)) → bind (bind o (λ bs. some (b ∷ bs))) (λ bs. some (done ++ bs)) ≡ bind o (λ bs. some ((done ++ (b ∷ [])) ++ bs))
 unfolding bind
-bind-more done b none = refl
-bind-more done b (some bs) = ap some (sym (append_assoc done (b ∷ []) bs))
+bind_more done b none = refl
+bind_more done b (some bs) = ap some (sym (append_assoc done (b ∷ []) bs))
 
 module _ {s : List ℕ} {row : Row} {glyphs : List ℕ} {h : Held} {t₀ before : List ℕ} {at : Places} {book₀ : List ℕ} (a : WritesRow s row glyphs h t₀ before at book₀) where
   abbrev gs : List (ℕ × ℕ)
-  gs = glyphEntries h.form glyphs
+  gs = glyph_entries h.form glyphs
 
   abbrev from : ℕ → Option (List ℕ)
   from = left_at gs s
@@ -411,75 +411,75 @@ module _ {s : List ℕ} {row : Row} {glyphs : List ℕ} {h : Held} {t₀ before 
   abbrev start : ℕ
   start = row.at
 
-  pub rowing-all : Rowing gs s row h.map t₀ before at book₀ t₀ before book₀ at.pos 0
-  rowing-all =
+  pub rowing_all : Rowing gs s row h.map t₀ before at book₀ t₀ before book₀ at.pos 0
+  rowing_all =
       let e : start + 2 * 0 ≡ start = omega arith in
       let f : row.len - 0 ≡ row.len = omega arith in
       record {
         within = omega arith;
-        cells = kept-all (h.map.at + h.map.mask + 1) t₀;
+        cells = kept_all (h.map.at + h.map.mask + 1) t₀;
         same = refl;
         pages = refl;
         start = a.start;
         done = [];
         count = refl;
-        whole = rw (e, f) (bind-some (rowLeft gs s row));
-        lays = λ pre st. lays-none st;
+        whole = rw (e, f) (bind_some (row_left gs s row));
+        lays = λ pre st. lays_none st;
       }
 
   module _ {t area book : List ℕ} {p i cover : ℕ} (c : Rowing gs s row h.map t₀ before at book₀ t area book p i) (l : i < row.len) (e : cover ≡ word s (start + 2 * i)) where
     -- a null offset
-    pub rowing-null : cover ≡ 0 → LaysLeft from (rowLeft gs s row) h.map t₀ t before start at area 0 book₀ book
+    pub rowing_null : cover ≡ 0 → LaysLeft from (row_left gs s row) h.map t₀ t before start at area 0 book₀ book
     unfolding bind
-    rowing-null z = laid_none c.cells c.same c.pages (c.whole ∙ rw (null-left gs s start row.len l e z))
+    rowing_null z = laid_none c.cells c.same c.pages (c.whole ∙ rw (null_left gs s start row.len l e z))
 
     -- the layout is the one that was asked for
     same_layout : packs book ≡ packs book₀
     same_layout = ap (λ (n : ℕ). ltb 1 n) c.pages
 
     -- what stands after what is done
-    stood-done : (pre : List (Option (List ℕ))) → (at.pos ≤ length before → Stood (packs book₀) from at.first pre before at.pos book₀) → p ≤ length area → Stood (packs book) from at.first (pre ++ c.done) area p book
-    stood-done pre st d = rw same_layout (stood-more st c.same (omega (arith, a.before, c.count)) (c.lays pre st) d)
+    stood_done : (pre : List (Option (List ℕ))) → (at.pos ≤ length before → Stood (packs book₀) from at.first pre before at.pos book₀) → p ≤ length area → Stood (packs book) from at.first (pre ++ c.done) area p book
+    stood_done pre st d = rw same_layout (stood_more st c.same (omega (arith, a.before, c.count)) (c.lays pre st) d)
 
     -- what the writing of one coverage asks
-    pub rowing-asks : (cover ≡ 0 → ⊥) → cover < 65536 → WritesSlot s (record { at = start + 2 * i; cover = cover }) glyphs h t area (record { first = at.first; pos = p }) book
-    rowing-asks z w = record {
+    pub rowing_asks : (cover ≡ 0 → ⊥) → cover < 65536 → WritesSlot s (record { at = start + 2 * i; cover = cover }) glyphs h t area (record { first = at.first; pos = p }) book
+    rowing_asks z w = record {
       bytes = a.bytes;
-      sound = sound-at a.row l e z;
+      sound = sound_at a.row l e z;
       word = w;
       ready = record { map = a.ready.map; holds = holds_kept c.cells (omega arith) a.ready.holds };
       room = rw e (omega (arith, a.bounds i l (λ q. z (e ∙ q)), a.room, c.cells.size));
       inside = omega (arith, a.inside, c.same);
       before = omega (arith, a.before);
-      standing = record { pre = a.standing.pre ++ c.done; stood = stood-done a.standing.pre a.standing.stood; room = λ k. omega (arith, a.standing.room (sym same_layout ∙ k), c.pages) };
+      standing = record { pre = a.standing.pre ++ c.done; stood = stood_done a.standing.pre a.standing.stood; room = λ k. omega (arith, a.standing.room (sym same_layout ∙ k), c.pages) };
       short = omega (arith, a.short, c.same);
       cells = omega (arith, a.cells, c.cells.size);
     }
 
-    module _ {next after pages : List ℕ} {r : ℕ} (z : cover ≡ 0 → ⊥) (d : LaysLeft from (slotLeft gs s cover) h.map t next area (start + 2 * i) (record { first = at.first; pos = p }) after r book pages) where
+    module _ {next after pages : List ℕ} {r : ℕ} (z : cover ≡ 0 → ⊥) (d : LaysLeft from (slot_left gs s cover) h.map t next area (start + 2 * i) (record { first = at.first; pos = p }) after r book pages) where
       -- what is left of the row, by what is left of this coverage
-      row_is : rowLeft gs s row ≡ bind (bind (blockLeft gs (some (coverage s cover))) (λ b. bind (leftFrom gs s start row.len (i + 1)) (λ bs. some (b ∷ bs)))) (λ bs. some (c.done ++ bs))
-      row_is = c.whole ∙ ap (λ (o : Option (List (Option (List ℕ)))). bind o (λ bs. some (c.done ++ bs))) (there-left gs s start row.len l e z)
+      row_is : row_left gs s row ≡ bind (bind (block_left gs (some (coverage s cover))) (λ b. bind (left_from gs s start row.len (i + 1)) (λ bs. some (b ∷ bs)))) (λ bs. some (c.done ++ bs))
+      row_is = c.whole ∙ ap (λ (o : Option (List (Option (List ℕ)))). bind o (λ bs. some (c.done ++ bs))) (there_left gs s start row.len l e z)
 
-      slot_is : slotLeft gs s cover ≡ bind (blockLeft gs (some (coverage s cover))) (λ b. some (b ∷ []))
-      unfolding blocksLeft mapAll bind
+      slot_is : slot_left gs s cover ≡ bind (block_left gs (some (coverage s cover))) (λ b. some (b ∷ []))
+      unfolding blocks_left map_all bind
       slot_is = refl
 
-      pub rowing-gone : r ≡ 0 → LaysLeft from (rowLeft gs s row) h.map t₀ next before start at after 0 book₀ pages
+      pub rowing_gone : r ≡ 0 → LaysLeft from (row_left gs s row) h.map t₀ next before start at after 0 book₀ pages
       unfolding bind
-      rowing-gone y = laid_none (kept_more c.cells d.cells) (d.same ∙ c.same) (d.pages ∙ c.pages)
-          (row_is ∙ step (blockLeft gs (some (coverage s cover))) (sym slot_is ∙ laid-zero (slotLeft gs s cover) d (a.standing.pre ++ c.done) (stood-done a.standing.pre a.standing.stood) c.start y))
+      rowing_gone y = laid_none (kept_more c.cells d.cells) (d.same ∙ c.same) (d.pages ∙ c.pages)
+          (row_is ∙ step (block_left gs (some (coverage s cover))) (sym slot_is ∙ laid_zero (slot_left gs s cover) d (a.standing.pre ++ c.done) (stood_done a.standing.pre a.standing.stood) c.start y))
         where
-          step : (o : Option (Option (List ℕ))) → bind o (λ b. some (b ∷ [])) ≡ none → bind (bind o (λ b. bind (leftFrom gs s start row.len (i + 1)) (λ bs. some (b ∷ bs)))) (λ bs. some (c.done ++ bs)) ≡ none
+          step : (o : Option (Option (List ℕ))) → bind o (λ b. some (b ∷ [])) ≡ none → bind (bind o (λ b. bind (left_from gs s start row.len (i + 1)) (λ bs. some (b ∷ bs)))) (λ bs. some (c.done ++ bs)) ≡ none
           step none q = refl
-          step (some b) q = absurd (some-none q)
+          step (some b) q = absurd (some_none q)
 
-      pub rowing-turn : (r ≡ 0 → ⊥) → Rowing gs s row h.map t₀ before at book₀ next after pages r (i + 1)
+      pub rowing_turn : (r ≡ 0 → ⊥) → Rowing gs s row h.map t₀ before at book₀ next after pages r (i + 1)
       unfolding bind
-      rowing-turn y = step (blockLeft gs (some (coverage s cover))) slot_is row_is
+      rowing_turn y = step (block_left gs (some (coverage s cover))) slot_is row_is
         where
-          step : (o : Option (Option (List ℕ))) → slotLeft gs s cover ≡ bind o (λ b. some (b ∷ []))
-              → rowLeft gs s row ≡ bind (bind o (λ b. bind (leftFrom gs s start row.len (i + 1)) (λ bs. some (b ∷ bs)))) (λ bs. some (c.done ++ bs))
+          step : (o : Option (Option (List ℕ))) → slot_left gs s cover ≡ bind o (λ b. some (b ∷ []))
+              → row_left gs s row ≡ bind (bind o (λ b. bind (left_from gs s start row.len (i + 1)) (λ bs. some (b ∷ bs)))) (λ bs. some (c.done ++ bs))
               → Rowing gs s row h.map t₀ before at book₀ next after pages r (i + 1)
           step none q w = absurd (y (d.gone q))
           step (some b) q w = record {
@@ -490,12 +490,12 @@ module _ {s : List ℕ} {row : Row} {glyphs : List ℕ} {h : Held} {t₀ before 
             start = omega arith;
             done = c.done ++ (b ∷ []);
             count = omega (arith, length-append c.done (b ∷ []), c.count);
-            whole = w ∙ bind-more c.done b (leftFrom gs s start row.len (i + 1));
-            lays = λ pre st. lays_more (start + 2 * i) (omega (arith, c.count)) (λ k. omega (arith, a.before, (st k).laid.place)) c.same (c.lays pre st) (rw same_layout at (d.stays q (pre ++ c.done) (stood-done pre st)));
+            whole = w ∙ bind_more c.done b (left_from gs s start row.len (i + 1));
+            lays = λ pre st. lays_more (start + 2 * i) (omega (arith, c.count)) (λ k. omega (arith, a.before, (st k).laid.place)) c.same (c.lays pre st) (rw same_layout at (d.stays q (pre ++ c.done) (stood_done pre st)));
           }
 
-  pub rowing-end : {t area book : List ℕ} {p i : ℕ} → Rowing gs s row h.map t₀ before at book₀ t area book p i → row.len ≤ i → LaysLeft from (rowLeft gs s row) h.map t₀ t before start at area p book₀ book
-  unfolding blocksLeft mapAll reaches bind
-  rowing-end {t} {area} {book} {p} {i} c l =
+  pub rowing_end : {t area book : List ℕ} {p i : ℕ} → Rowing gs s row h.map t₀ before at book₀ t area book p i → row.len ≤ i → LaysLeft from (row_left gs s row) h.map t₀ t before start at area p book₀ book
+  unfolding blocks_left map_all reaches bind
+  rowing_end {t} {area} {book} {p} {i} c l =
       let e : row.len - i ≡ 0 = omega arith in
-      laid-some c.cells c.same c.pages (rw e at c.whole ∙ ap some (append-nil c.done)) c.lays
+      laid_some c.cells c.same c.pages (rw e at c.whole ∙ ap some (append-nil c.done)) c.lays

@@ -3,18 +3,18 @@ use Rattle.std.specs.Prelude.{ℕ, ◌+◌, ◌*◌, ◌≤◌, ◌<◌, ◌≡�
 use Rattle.std.proofs.Math.Option.{Option}
 use Rattle.meaning.specs.Words.{entries}
 use Rattle.meaning.specs.Parts.{coverage}
-use Rattle.meaning.specs.Tables.{Table, reaches, coverContext}
+use Rattle.meaning.specs.Tables.{Table, reaches, cover_context}
 use Rattle.cover_parts.specs.Rows.{SoundRow}
 use Rattle.cover_parts.specs.declared.Row.{Row}
 use Rattle.cover_parts.specs.declared.CoverParts.{CoverParts}
 
 -- the coverages that a row of offsets reaches
-abbrev pub coversAt : List ℕ → Row → List (Option (List ℕ))
-coversAt s r = reaches (coverage s) s 0 r.at r.len
+abbrev pub covers_at : List ℕ → Row → List (Option (List ℕ))
+covers_at s r = reaches (coverage s) s 0 r.at r.len
 
 -- the records of a row
-abbrev pub recordsAt : List ℕ → Row → List (ℕ × ℕ)
-recordsAt s r = entries s r.at r.len
+abbrev pub records_at : List ℕ → Row → List (ℕ × ℕ)
+records_at s r = entries s r.at r.len
 
 -- where a plain context has its input and its records, and where a chained one has each part after the one before it, with its count
 pub record Plain (r : CoverParts) : Type 0 where
@@ -38,7 +38,7 @@ pub record Few (r : CoverParts) : Type 0 where
 
 -- r says where the parts of the context stand, and they are sound
 pub record IsContext (chained : Bool) (s : List ℕ) (r : CoverParts) : Type 0 where
-  pub table : coverContext chained s ≡ Table.by-cover chained (coversAt s r.back) (coversAt s r.input) (coversAt s r.ahead) (recordsAt s r.records)
+  pub table : cover_context chained s ≡ Table.by_cover chained (covers_at s r.back) (covers_at s r.input) (covers_at s r.ahead) (records_at s r.records)
   pub back : SoundRow s r.back
   pub input : SoundRow s r.input
   pub ahead : SoundRow s r.ahead

@@ -1,8 +1,8 @@
 // Where the parts of a context by coverages stand, and how many glyphs can be noted of one of its coverages.
 ghost use Rattle.std.specs.Prelude.{◌≡◌, true, false, ◌-◌};
 ghost use Rattle.std.proofs.Math.Option.{none};
-ghost use Rattle.meaning.specs.Parts.{coverageSound};
-ghost use Rattle.meaning.specs.Fault.{coversFault};
+ghost use Rattle.meaning.specs.Parts.{coverage_sound};
+ghost use Rattle.meaning.specs.Fault.{covers_fault};
 ghost use Rattle.cover_parts.specs.Parts.{IsContext};
 ghost use Rattle.cover_parts.specs.Rows.{SoundRow, MoreNotes, MostRow};
 ghost use Rattle.glyph_runs.specs.Runs.{GlyphMap};
@@ -50,7 +50,7 @@ pub struct CoverParts {
 
 // Where the parts of a plain context stand; it has neither backtrack nor lookahead.
 fn plain_parts(src: &[u8]) -> CoverParts
-    requires { coversFault false src.now ≡ none }
+    requires { covers_fault false src.now ≡ none }
     ensures { IsContext false src.now result }
 {
     let n = word_at(src, 2);
@@ -67,7 +67,7 @@ fn plain_parts(src: &[u8]) -> CoverParts
 
 // Where the parts of a chained context stand.
 fn chained_parts(src: &[u8]) -> CoverParts
-    requires { coversFault true src.now ≡ none }
+    requires { covers_fault true src.now ≡ none }
     ensures { IsContext true src.now result }
 {
     let backs = word_at(src, 2);
@@ -95,7 +95,7 @@ fn chained_parts(src: &[u8]) -> CoverParts
 
 // Where the parts of the context stand.
 pub fn cover_parts(chained: bool, src: &[u8]) -> CoverParts
-    requires { coversFault chained src.now ≡ none }
+    requires { covers_fault chained src.now ≡ none }
     ensures { IsContext chained src.now result }
 {
     if chained {
@@ -106,7 +106,7 @@ pub fn cover_parts(chained: bool, src: &[u8]) -> CoverParts
 
 // `least`, or how many glyphs can be noted of the coverage at `cover` if they are more; of a null one there are none.
 fn more_notes(src: &[u8], cover: usize, glyphs: &[u8], form: usize, least: usize) -> usize
-    requires { ((cover ≡ 0 → ⊥) → coverageSound src.now cover ≡ true) × GlyphMap form glyphs.now }
+    requires { ((cover ≡ 0 → ⊥) → coverage_sound src.now cover ≡ true) × GlyphMap form glyphs.now }
     ensures { MoreNotes form glyphs.now src.now cover least result }
 {
     if cover == 0 {

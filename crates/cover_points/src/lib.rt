@@ -1,7 +1,7 @@
 // The offset of a coverage that was written into the area, and what is noted where nothing of it is left.
 ghost use Rattle.std.specs.Prelude.{◌-◌};
-ghost use Rattle.meaning.specs.Maps.{glyphEntries};
-ghost use Rattle.cover_parts.specs.Rows.{Passes, Placing, Points, slotLeft};
+ghost use Rattle.meaning.specs.Maps.{glyph_entries};
+ghost use Rattle.cover_parts.specs.Rows.{Passes, Placing, Points, slot_left};
 ghost use Rattle.meets.specs.Either.{SeeksGlyphs};
 
 use area::{over, put};
@@ -13,7 +13,7 @@ use room::HIGHEST;
 // The place `p`, and 0 if no glyph of the coverage at `cover` is retained.
 pub fn pass_over(src: &[u8], cover: usize, glyphs: &[u8], held: Held, t: &[u32], p: usize) -> usize
     requires { SeeksGlyphs held.form src.now cover glyphs.now held.map t.now }
-    ensures { Passes (slotLeft (glyphEntries held.form glyphs.now) src.now cover) p result }
+    ensures { Passes (slot_left (glyph_entries held.form glyphs.now) src.now cover) p result }
 {
     if meets(src, cover, glyphs, held.form, held.map, t) {
         return p;

@@ -2,8 +2,8 @@
 ghost use Rattle.std.specs.Prelude.{◌-◌, ◌≤◌};
 ghost use Rattle.std.proofs.lemmas.List.Edits.{sets};
 ghost use Rattle.meaning.specs.Words.{bytes2};
-ghost use Rattle.meaning.specs.Maps.{glyphEntries};
-ghost use Rattle.cover_parts.specs.Rows.{WritesRow, left_at, rowLeft, LaysLeft};
+ghost use Rattle.meaning.specs.Maps.{glyph_entries};
+ghost use Rattle.cover_parts.specs.Rows.{WritesRow, left_at, row_left, LaysLeft};
 
 use area::put;
 use cover_parts::{Held, Places, Row, Slot};
@@ -22,7 +22,7 @@ pub fn write_row(
     book: &mut [u32],
 ) -> usize
     requires { WritesRow src.now row glyphs.now held t.old area.old places book.old }
-    ensures { LaysLeft (left_at (glyphEntries held.form glyphs.now) src.now) (rowLeft (glyphEntries held.form glyphs.now) src.now row) held.map t.old t.new area.old row.at places area.new result book.old book.new }
+    ensures { LaysLeft (left_at (glyph_entries held.form glyphs.now) src.now) (row_left (glyph_entries held.form glyphs.now) src.now row) held.map t.old t.new area.old row.at places area.new result book.old book.new }
 {
     let mut p = places.pos;
     let mut i = 0;
@@ -57,7 +57,7 @@ pub fn write_counted_row(
     book: &mut [u32],
 ) -> usize
     requires { WritesRow src.now row glyphs.now held t.old area.old places book.old × (2 ≤ row.at) }
-    ensures { LaysLeft (left_at (glyphEntries held.form glyphs.now) src.now) (rowLeft (glyphEntries held.form glyphs.now) src.now row) held.map t.old t.new (sets area.old (row.at - 2) (bytes2 row.len)) row.at places area.new result book.old book.new }
+    ensures { LaysLeft (left_at (glyph_entries held.form glyphs.now) src.now) (row_left (glyph_entries held.form glyphs.now) src.now row) held.map t.old t.new (sets area.old (row.at - 2) (bytes2 row.len)) row.at places area.new result book.old book.new }
 {
     put(area, row.at - 2, row.len);
     write_row(src, row, glyphs, held, t, area, places, book)

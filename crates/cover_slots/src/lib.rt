@@ -1,7 +1,7 @@
 // One offset of a context by coverages: what is left of the coverage that it reaches, written into the area.
 ghost use Rattle.std.specs.Prelude.{◌-◌};
-ghost use Rattle.meaning.specs.Maps.{glyphEntries};
-ghost use Rattle.cover_parts.specs.Rows.{WritesSlot, left_at, slotLeft, LaysLeft};
+ghost use Rattle.meaning.specs.Maps.{glyph_entries};
+ghost use Rattle.cover_parts.specs.Rows.{WritesSlot, left_at, slot_left, LaysLeft};
 
 use area::put;
 use cover_parts::{Held, Places, Slot};
@@ -21,7 +21,7 @@ pub fn write_slot(
     book: &mut [u32],
 ) -> usize
     requires { WritesSlot src.now slot glyphs.now held t.old area.old places book.old }
-    ensures { LaysLeft (left_at (glyphEntries held.form glyphs.now) src.now) (slotLeft (glyphEntries held.form glyphs.now) src.now slot.cover) held.map t.old t.new area.old slot.at places area.new result book.old book.new }
+    ensures { LaysLeft (left_at (glyph_entries held.form glyphs.now) src.now) (slot_left (glyph_entries held.form glyphs.now) src.now slot.cover) held.map t.old t.new area.old slot.at places area.new result book.old book.new }
 {
     if area.len() < places.pos {
         return pass_over(src, slot.cover, glyphs, held, t, places.pos);

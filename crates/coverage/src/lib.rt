@@ -1,9 +1,9 @@
 // Coverage tables: the covered glyphs in order, listed one by one (format 1) or in ranges (format 2). Checked.
 ghost use Rattle.std.specs.Prelude.{◌≡◌, true, ◌&&◌, ◌+◌, ◌*◌, ◌<◌, leb, eqb};
 ghost use Rattle.meaning.specs.Words.{triples};
-ghost use Rattle.meaning.specs.Parts.{rangesAscend, rangesCount, coverageSound};
-ghost use Rattle.meaning.specs.Fault.{coverageFault};
-ghost use Rattle.faults.specs.Fault.{faultOf};
+ghost use Rattle.meaning.specs.Parts.{ranges_ascend, ranges_count, coverage_sound};
+ghost use Rattle.meaning.specs.Fault.{coverage_fault};
+ghost use Rattle.faults.specs.Fault.{fault_of};
 
 use faults::Fault;
 use wire::{ascending, inside, word_at};
@@ -24,7 +24,7 @@ fn range_fits(low: usize, before: usize, first: usize, last: usize, index: usize
 // Whether the `n` ranges from `at` on ascend without overlap, and the index of each is the number of glyphs before it.
 fn ranges_sound(src: &[u8], at: usize, n: usize) -> bool
     requires { at + 6 * n < 0x1_0000_0000_0000_0000 }
-    ensures { result ≡ rangesAscend 0 (triples src.now at n) && rangesCount 0 (triples src.now at n) }
+    ensures { result ≡ ranges_ascend 0 (triples src.now at n) && ranges_count 0 (triples src.now at n) }
 {
     let mut low = 0;
     let mut before = 0;
@@ -45,7 +45,7 @@ fn ranges_sound(src: &[u8], at: usize, n: usize) -> bool
 // Whether the coverage at `at` lies inside the source, has format 1 or 2 and ascends.
 fn sound(src: &[u8], at: usize) -> bool
     requires { at < 0x1_0000_0000_0000 }
-    ensures { result ≡ coverageSound src.now at }
+    ensures { result ≡ coverage_sound src.now at }
 {
     if !inside(src, at, 4) {
         return false;
@@ -62,7 +62,7 @@ fn sound(src: &[u8], at: usize) -> bool
 // Where the coverage at `at` is faulty: at its start, or nowhere.
 pub fn check(src: &[u8], at: usize) -> Fault
     requires { at < 0x1_0000_0000_0000 }
-    ensures { result ≡ faultOf (coverageFault src.now at) }
+    ensures { result ≡ fault_of (coverage_fault src.now at) }
 {
     if sound(src, at) {
         return Fault::Sound;

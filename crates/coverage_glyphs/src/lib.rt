@@ -1,7 +1,7 @@
 // The glyphs of a sound coverage, counted, and read by their coverage indices.
 ghost use Rattle.std.specs.Prelude.{◌≡◌, true, ◌+◌, ◌*◌, ◌<◌, length};
 ghost use Rattle.meaning.specs.Words.{triples};
-ghost use Rattle.meaning.specs.Parts.{rangeGlyphs, coverage, coverageSound};
+ghost use Rattle.meaning.specs.Parts.{range_glyphs, coverage, coverage_sound};
 ghost use Rattle.coverage_glyphs.specs.Answers.{Counts, Gives, SoundRanges};
 
 use wire::word_at;
@@ -9,7 +9,7 @@ use wire::word_at;
 // How many glyphs the `n` ranges from `at` on cover: the last one's index says how many are before it.
 fn ranges_count(src: &[u8], at: usize, n: usize) -> usize
     requires { SoundRanges src.now at n }
-    ensures { Counts (rangeGlyphs (triples src.now at n)) result }
+    ensures { Counts (range_glyphs (triples src.now at n)) result }
 {
     if n == 0 {
         return 0;
@@ -22,7 +22,7 @@ fn ranges_count(src: &[u8], at: usize, n: usize) -> usize
 
 // How many glyphs the coverage at `at` covers.
 pub fn count(src: &[u8], at: usize) -> usize
-    requires { coverageSound src.now at ≡ true }
+    requires { coverage_sound src.now at ≡ true }
     ensures { Counts (coverage src.now at) result }
 {
     let n = word_at(src, at + 2);
@@ -34,8 +34,8 @@ pub fn count(src: &[u8], at: usize) -> usize
 
 // The glyph that has index `i` among those that the `n` ranges from `at` on cover: by halving, the last range whose own index is at most `i` holds it.
 fn range_glyph(src: &[u8], at: usize, n: usize, i: usize) -> usize
-    requires { SoundRanges src.now at n × (i < length (rangeGlyphs (triples src.now at n))) }
-    ensures { Gives (rangeGlyphs (triples src.now at n)) i result }
+    requires { SoundRanges src.now at n × (i < length (range_glyphs (triples src.now at n))) }
+    ensures { Gives (range_glyphs (triples src.now at n)) i result }
 {
     let mut lo = 0;
     let mut hi = n;
@@ -53,7 +53,7 @@ fn range_glyph(src: &[u8], at: usize, n: usize, i: usize) -> usize
 
 // The glyph that has the coverage index `i` in the coverage at `at`.
 pub fn glyph_at(src: &[u8], at: usize, i: usize) -> usize
-    requires { (coverageSound src.now at ≡ true) × (i < length (coverage src.now at)) }
+    requires { (coverage_sound src.now at ≡ true) × (i < length (coverage src.now at)) }
     ensures { Gives (coverage src.now at) i result }
 {
     let n = word_at(src, at + 2);

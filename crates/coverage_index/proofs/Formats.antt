@@ -7,43 +7,43 @@ use lib.ListN.{length}
 use lib.Dec.{eqb}
 use borrow.Author.Tests.{leb-true, eq-eqb, ne_eqb}
 use Rattle.meaning.specs.Words.{word, words, triples, inside, ascends}
-use Rattle.meaning.specs.Parts.{rangeGlyphs, rangesAscend, rangesCount, coverage, coverageSound}
+use Rattle.meaning.specs.Parts.{range_glyphs, ranges_ascend, ranges_count, coverage, coverage_sound}
 use Rattle.laws.specs.Runs.{both}
-use Rattle.coverage_index.specs.Index.{index_of, coveredOf, SoundList, SoundRanges}
+use Rattle.coverage_index.specs.Index.{index_of, covered_of, SoundList, SoundRanges}
 use Rattle.coverage_index.specs.declared.Covered.{Covered}
 
 -- what lies inside
-inside-fits : (s : List ℕ) (at n : ℕ) → inside s at n ≡ true → at + n ≤ length s
+inside_fits : (s : List ℕ) (at n : ℕ) → inside s at n ≡ true → at + n ≤ length s
 unfolding inside
-inside-fits s at n h = leb-true (at + n) (length s) h
+inside_fits s at n h = leb-true (at + n) (length s) h
 
-module _ (s : List ℕ) (at : ℕ) (h : coverageSound s at ≡ true) where
+module _ (s : List ℕ) (at : ℕ) (h : coverage_sound s at ≡ true) where
   -- the head lies inside
-  pub head-fits : at + 4 ≤ length s
-  unfolding coverageSound
-  head-fits = inside-fits s at 4 (both (inside s at 4) _ h).0
+  pub head_fits : at + 4 ≤ length s
+  unfolding coverage_sound
+  head_fits = inside_fits s at 4 (both (inside s at 4) _ h).0
 
   module _ {f n : ℕ} (ef : f ≡ word s at) (en : n ≡ word s (at + 2)) where
     -- its glyphs are listed
-    pub list-sound : f ≡ 1 → SoundList s (at + 4) n
-    unfolding coverageSound
-    list-sound e =
+    pub list_sound : f ≡ 1 → SoundList s (at + 4) n
+    unfolding coverage_sound
+    list_sound e =
         let p = both (inside s (at + 4) (2 * n)) (ascends (words s (at + 4) n)) (rw (← ef, ← en, eq-eqb f 1 e) at (both (inside s at 4) _ h).1) in
-        record { fits = inside-fits s (at + 4) (2 * n) p.0; ascend = p.1 }
+        record { fits = inside_fits s (at + 4) (2 * n) p.0; ascend = p.1 }
 
-    pub by-list : f ≡ 1 → (g : ℕ) {r : Covered} → r ≡ coveredOf (index_of (words s (at + 4) n) g) → r ≡ coveredOf (index_of (coverage s at) g)
+    pub by_list : f ≡ 1 → (g : ℕ) {r : Covered} → r ≡ covered_of (index_of (words s (at + 4) n) g) → r ≡ covered_of (index_of (coverage s at) g)
     unfolding coverage
-    by-list e g k = rw (← ef, ← en, eq-eqb f 1 e) k
+    by_list e g k = rw (← ef, ← en, eq-eqb f 1 e) k
 
     -- it has ranges
-    pub ranges-sound : (f ≡ 1 → ⊥) → SoundRanges s (at + 4) n
-    unfolding coverageSound
-    ranges-sound e =
+    pub ranges_sound : (f ≡ 1 → ⊥) → SoundRanges s (at + 4) n
+    unfolding coverage_sound
+    ranges_sound e =
         let p = both (eqb f 2) _ (rw (← ef, ← en, ne_eqb f 1 e) at (both (inside s at 4) _ h).1) in
         let q = both (inside s (at + 4) (6 * n)) _ p.1 in
-        let r = both (rangesAscend 0 (triples s (at + 4) n)) (rangesCount 0 (triples s (at + 4) n)) q.1 in
-        record { fits = inside-fits s (at + 4) (6 * n) q.0; ascend = r.0; count = r.1 }
+        let r = both (ranges_ascend 0 (triples s (at + 4) n)) (ranges_count 0 (triples s (at + 4) n)) q.1 in
+        record { fits = inside_fits s (at + 4) (6 * n) q.0; ascend = r.0; count = r.1 }
 
-    pub by-ranges : (f ≡ 1 → ⊥) → (g : ℕ) {r : Covered} → r ≡ coveredOf (index_of (rangeGlyphs (triples s (at + 4) n)) g) → r ≡ coveredOf (index_of (coverage s at) g)
+    pub by_ranges : (f ≡ 1 → ⊥) → (g : ℕ) {r : Covered} → r ≡ covered_of (index_of (range_glyphs (triples s (at + 4) n)) g) → r ≡ covered_of (index_of (coverage s at) g)
     unfolding coverage
-    by-ranges e g k = rw (← ef, ← en, ne_eqb f 1 e) k
+    by_ranges e g k = rw (← ef, ← en, ne_eqb f 1 e) k

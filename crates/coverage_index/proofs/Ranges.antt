@@ -9,41 +9,41 @@ use native.Mathlib.Omega.{arith}
 use lib.Dec.{eqb}
 use borrow.Author.Tests.{eqb-true, eq-eqb, ne_eqb}
 use Rattle.meaning.specs.Words.{word, triples, up_from, bind}
-use Rattle.meaning.specs.Parts.{span, rangeGlyphs, rangesAscend, rangesCount}
+use Rattle.meaning.specs.Parts.{span, range_glyphs, ranges_ascend, ranges_count}
 use Rattle.laws.specs.Runs.{both}
 use Rattle.halving.specs.Rising.{Reached}
-use Rattle.halving.specs.Columns.{first_range, ranges-least, ranges_apart, end-place}
-use Rattle.coverage_index.specs.Index.{index_of, coveredOf, SoundRanges}
+use Rattle.halving.specs.Columns.{first_range, ranges_least, ranges_apart, end_place}
+use Rattle.coverage_index.specs.Index.{index_of, covered_of, SoundRanges}
 use Rattle.coverage_index.specs.declared.Covered.TheVariants.{At, Not}
 
 -- an index among the others, after n that are not the glyph
 unfoldable past : ℕ → Option ℕ → Option ℕ
 past n o = bind o (λ i. some (n + i))
 
-past-none : (o : Option ℕ) → o ≡ past 0 o
+past_none : (o : Option ℕ) → o ≡ past 0 o
 unfolding bind past
-past-none none = refl
-past-none (some i) = ap some (omega arith)
+past_none none = refl
+past_none (some i) = ap some (omega arith)
 
 past_more : (n : ℕ) (o : Option ℕ) → bind (past n o) (λ i. some (suc i)) ≡ past (suc n) o
 unfolding bind past
 past_more n none = refl
 past_more n (some i) = ap some (omega arith)
 
-past-some : (n i j : ℕ) → n + i ≡ j → past n (some i) ≡ some j
+past_some : (n i j : ℕ) → n + i ≡ j → past n (some i) ≡ some j
 unfolding bind past
-past-some n i j e = ap some e
+past_some n i j e = ap some e
 
-past-not : (n : ℕ) → past n none ≡ none
+past_not : (n : ℕ) → past n none ≡ none
 unfolding bind past
-past-not n = refl
+past_not n = refl
 
 -- a run that has not the glyph, and others after it
-run-apart : (a n : ℕ) (rest : List ℕ) (g : ℕ) → ((k : ℕ) → k < n → a + k ≡ g → ⊥) → index_of (up_from a n ++ rest) g ≡ past n (index_of rest g)
+run_apart : (a n : ℕ) (rest : List ℕ) (g : ℕ) → ((k : ℕ) → k < n → a + k ≡ g → ⊥) → index_of (up_from a n ++ rest) g ≡ past n (index_of rest g)
 unfolding index_of up_from
-run-apart a zero rest g h = past-none (index_of rest g)
-run-apart a (suc n) rest g h =
-    rw (ne_eqb a g (λ e. h 0 (omega arith) (omega arith)), run-apart (a + 1) n rest g (λ k l e. h (suc k) (omega arith) (omega arith))) (past_more n (index_of rest g))
+run_apart a zero rest g h = past_none (index_of rest g)
+run_apart a (suc n) rest g h =
+    rw (ne_eqb a g (λ e. h 0 (omega arith) (omega arith)), run_apart (a + 1) n rest g (λ k l e. h (suc k) (omega arith) (omega arith))) (past_more n (index_of rest g))
 
 -- a run that has it
 run_holds : (a n : ℕ) (rest : List ℕ) (g d : ℕ) → d < n → g ≡ a + d → index_of (up_from a n ++ rest) g ≡ some d
@@ -58,49 +58,49 @@ run_holds a (suc n) rest g (suc d) h e =
 
 module _ (s : List ℕ) where
   -- the number of the first range, and those of the others
-  first_count : (at n before : ℕ) → rangesCount before (triples s at (suc n)) ≡ true
-      → (word s (at + 4) ≡ before) × (rangesCount (before + (word s (at + 2) + 1 - word s at)) (triples s (at + 6) n) ≡ true)
-  unfolding triples rangesCount
+  first_count : (at n before : ℕ) → ranges_count before (triples s at (suc n)) ≡ true
+      → (word s (at + 4) ≡ before) × (ranges_count (before + (word s (at + 2) + 1 - word s at)) (triples s (at + 6) n) ≡ true)
+  unfolding triples ranges_count
   first_count at n before c =
       let t = both (eqb (word s (at + 4)) before) _ c in
       (eqb-true (word s (at + 4)) before t.0, t.1)
 
   -- none is below the first
-  count-least : (k n at before : ℕ) → k < n → rangesCount before (triples s at n) ≡ true → before ≤ word s (at + 6 * k + 4)
-  count-least k zero at before l c = absurd (omega arith)
-  count-least zero (suc n) at before l c =
+  count_least : (k n at before : ℕ) → k < n → ranges_count before (triples s at n) ≡ true → before ≤ word s (at + 6 * k + 4)
+  count_least k zero at before l c = absurd (omega arith)
+  count_least zero (suc n) at before l c =
       let e : at + 6 * 0 + 4 ≡ at + 4 = omega arith in
       rw e (omega (arith, (first_count at n before c).0))
-  count-least (suc k) (suc n) at before l c =
+  count_least (suc k) (suc n) at before l c =
       let e : at + 6 * suc k ≡ at + 6 + 6 * k = omega arith in
-      rw e (omega (arith, count-least k n (at + 6) (before + (word s (at + 2) + 1 - word s at)) (omega arith) (first_count at n before c).1))
+      rw e (omega (arith, count_least k n (at + 6) (before + (word s (at + 2) + 1 - word s at)) (omega arith) (first_count at n before c).1))
 
   module _ (g : ℕ) where
     -- the first range has not the glyph, or it has
-    first-apart : (at n : ℕ) → ((k : ℕ) → k < word s (at + 2) + 1 - word s at → word s at + k ≡ g → ⊥)
-        → index_of (rangeGlyphs (triples s at (suc n))) g ≡ past (word s (at + 2) + 1 - word s at) (index_of (rangeGlyphs (triples s (at + 6) n)) g)
-    unfolding triples rangeGlyphs span
-    first-apart at n h = run-apart (word s at) (word s (at + 2) + 1 - word s at) (rangeGlyphs (triples s (at + 6) n)) g h
+    first_apart : (at n : ℕ) → ((k : ℕ) → k < word s (at + 2) + 1 - word s at → word s at + k ≡ g → ⊥)
+        → index_of (range_glyphs (triples s at (suc n))) g ≡ past (word s (at + 2) + 1 - word s at) (index_of (range_glyphs (triples s (at + 6) n)) g)
+    unfolding triples range_glyphs span
+    first_apart at n h = run_apart (word s at) (word s (at + 2) + 1 - word s at) (range_glyphs (triples s (at + 6) n)) g h
 
-    first-has : (at n : ℕ) → word s at ≤ g → g ≤ word s (at + 2) → index_of (rangeGlyphs (triples s at (suc n))) g ≡ some (g - word s at)
-    unfolding triples rangeGlyphs span
-    first-has at n h l = run_holds (word s at) (word s (at + 2) + 1 - word s at) (rangeGlyphs (triples s (at + 6) n)) g (g - word s at) (omega arith) (omega arith)
+    first_has : (at n : ℕ) → word s at ≤ g → g ≤ word s (at + 2) → index_of (range_glyphs (triples s at (suc n))) g ≡ some (g - word s at)
+    unfolding triples range_glyphs span
+    first_has at n h l = run_holds (word s at) (word s (at + 2) + 1 - word s at) (range_glyphs (triples s (at + 6) n)) g (g - word s at) (omega arith) (omega arith)
 
-    nothing-there : (at : ℕ) → index_of (rangeGlyphs (triples s at 0)) g ≡ none
-    unfolding triples rangeGlyphs index_of
-    nothing-there at = refl
+    nothing_there : (at : ℕ) → index_of (range_glyphs (triples s at 0)) g ≡ none
+    unfolding triples range_glyphs index_of
+    nothing_there at = refl
 
     -- the glyph stands in the k-th range
-    in-range : (k n at low before : ℕ) → k < n → rangesAscend low (triples s at n) ≡ true → rangesCount before (triples s at n) ≡ true
+    in_range : (k n at low before : ℕ) → k < n → ranges_ascend low (triples s at n) ≡ true → ranges_count before (triples s at n) ≡ true
         → word s (at + 6 * k) ≤ g → g ≤ word s (at + 6 * k + 2)
-        → (i : ℕ) → before + i ≡ word s (at + 6 * k + 4) + (g - word s (at + 6 * k)) → index_of (rangeGlyphs (triples s at n)) g ≡ some i
-    in-range k zero at low before d h c l m i q = absurd (omega arith)
-    in-range zero (suc n) at low before d h c l m i q =
+        → (i : ℕ) → before + i ≡ word s (at + 6 * k + 4) + (g - word s (at + 6 * k)) → index_of (range_glyphs (triples s at n)) g ≡ some i
+    in_range k zero at low before d h c l m i q = absurd (omega arith)
+    in_range zero (suc n) at low before d h c l m i q =
         let e : at + 6 * 0 ≡ at = omega arith in
         let q' = rw e at q in
         let j : i ≡ g - word s at = omega (arith, (first_count at n before c).0) in
-        rw j (first-has at n (rw e at l) (rw e at m))
-    in-range (suc k) (suc n) at low before d h c l m i q =
+        rw j (first_has at n (rw e at l) (rw e at m))
+    in_range (suc k) (suc n) at low before d h c l m i q =
         let e : at + 6 * suc k ≡ at + 6 + 6 * k = omega arith in
         let z = word s (at + 2) + 1 in
         let w = z - word s at in
@@ -108,22 +108,22 @@ module _ (s : List ℕ) where
         let t = (first_count at n before c).1 in
         let q' : before + i ≡ word s (at + 6 + 6 * k + 4) + (g - word s (at + 6 + 6 * k)) = rw e at q in
         let l' : word s (at + 6 + 6 * k) ≤ g = rw e at l in
-        let b : before + w ≤ word s (at + 6 + 6 * k + 4) = count-least k n (at + 6) (before + w) (omega arith) t in
-        first-apart at n (λ j u v. omega (arith, (ranges-least s k n (at + 6) z (omega arith) f.others).0))
-        ∙ ap (past w) (in-range k n (at + 6) z (before + w) (omega arith) f.others t l' (rw e at m) (i - w) (omega arith))
-        ∙ past-some w (i - w) i (omega arith)
+        let b : before + w ≤ word s (at + 6 + 6 * k + 4) = count_least k n (at + 6) (before + w) (omega arith) t in
+        first_apart at n (λ j u v. omega (arith, (ranges_least s k n (at + 6) z (omega arith) f.others).0))
+        ∙ ap (past w) (in_range k n (at + 6) z (before + w) (omega arith) f.others t l' (rw e at m) (i - w) (omega arith))
+        ∙ past_some w (i - w) i (omega arith)
 
     -- no range has it
-    in-gap : (n at low : ℕ) → rangesAscend low (triples s at n) ≡ true → ((k : ℕ) → k < n → word s (at + 6 * k) ≤ g → g ≤ word s (at + 6 * k + 2) → ⊥)
-        → index_of (rangeGlyphs (triples s at n)) g ≡ none
-    in-gap zero at low h m = nothing-there at
-    in-gap (suc n) at low h m =
+    in_gap : (n at low : ℕ) → ranges_ascend low (triples s at n) ≡ true → ((k : ℕ) → k < n → word s (at + 6 * k) ≤ g → g ≤ word s (at + 6 * k + 2) → ⊥)
+        → index_of (range_glyphs (triples s at n)) g ≡ none
+    in_gap zero at low h m = nothing_there at
+    in_gap (suc n) at low h m =
         let w = word s (at + 2) + 1 - word s at in
         let e : at + 6 * 0 ≡ at = omega arith in
         let here : word s at ≤ g → g ≤ word s (at + 2) → ⊥ = rw e at (m 0 (omega arith)) in
-        first-apart at n (λ k u v. here (omega arith) (omega (arith, (first_range s at n low h).order)))
-        ∙ ap (past w) (in-gap n (at + 6) (word s (at + 2) + 1) (first_range s at n low h).others (λ k l. let d : at + 6 * suc k ≡ at + 6 + 6 * k = omega arith in rw d at (m (suc k) (omega arith))))
-        ∙ past-not w
+        first_apart at n (λ k u v. here (omega arith) (omega (arith, (first_range s at n low h).order)))
+        ∙ ap (past w) (in_gap n (at + 6) (word s (at + 2) + 1) (first_range s at n low h).others (λ k l. let d : at + 6 * suc k ≡ at + 6 + 6 * k = omega arith in rw d at (m (suc k) (omega arith))))
+        ∙ past_not w
 
 module _ {s : List ℕ} {at n g i : ℕ} (h : SoundRanges s at n) (k : Reached s (at + 2) 6 n 0 g i) where
   -- the ranges before the i-th end before the glyph; if the i-th begins after it, or there is none, no range has it
@@ -131,20 +131,20 @@ module _ {s : List ℕ} {at n g i : ℕ} (h : SoundRanges s at n) (k : Reached s
   gap up j l a b = step (dec_lt j i) (dec_lt i j)
     where
       step : Dec (j < i) → Dec (i < j) → ⊥
-      step (yes c) d = omega (arith, end-place s at j, k.below j (omega arith) c)
-      step (no c) (yes d) = omega (arith, up (omega arith), (ranges-least s i n at 0 (omega arith) h.ascend).1, ranges_apart s i j n at 0 d l h.ascend)
+      step (yes c) d = omega (arith, end_place s at j, k.below j (omega arith) c)
+      step (no c) (yes d) = omega (arith, up (omega arith), (ranges_least s i n at 0 (omega arith) h.ascend).1, ranges_apart s i j n at 0 d l h.ascend)
       step (no c) (no d) =
           let q : j ≡ i = omega arith in
           let w : word s (at + 6 * i) ≤ g = rw q at a in
           omega (arith, w, up (omega arith))
 
   -- the answer: no range is left, the i-th begins after the glyph, or it holds it
-  pub range_none : n ≤ i → Not ≡ coveredOf (index_of (rangeGlyphs (triples s at n)) g)
-  range_none l = rw (in-gap s g n at 0 h.ascend (gap (λ a. absurd (omega arith))))
+  pub range_none : n ≤ i → Not ≡ covered_of (index_of (range_glyphs (triples s at n)) g)
+  range_none l = rw (in_gap s g n at 0 h.ascend (gap (λ a. absurd (omega arith))))
 
   module _ {first : ℕ} (l : i < n) (e : first ≡ word s (at + 6 * i)) where
-    pub range-gap : g < first → Not ≡ coveredOf (index_of (rangeGlyphs (triples s at n)) g)
-    range-gap a = rw (in-gap s g n at 0 h.ascend (gap (λ b. omega arith)))
+    pub range_gap : g < first → Not ≡ covered_of (index_of (range_glyphs (triples s at n)) g)
+    range_gap a = rw (in_gap s g n at 0 h.ascend (gap (λ b. omega arith)))
 
-    pub range-in : {x : ℕ} → first ≤ g → x ≡ word s (at + 6 * i + 4) → At (x + (g - first)) ≡ coveredOf (index_of (rangeGlyphs (triples s at n)) g)
-    range-in {x} a f = rw (in-range s g i n at 0 0 l h.ascend h.count (omega arith) (omega (arith, end-place s at i, k.above l)) (x + (g - first)) (omega arith))
+    pub range_in : {x : ℕ} → first ≤ g → x ≡ word s (at + 6 * i + 4) → At (x + (g - first)) ≡ covered_of (index_of (range_glyphs (triples s at n)) g)
+    range_in {x} a f = rw (in_range s g i n at 0 0 l h.ascend h.count (omega arith) (omega (arith, end_place s at i, k.above l)) (x + (g - first)) (omega arith))

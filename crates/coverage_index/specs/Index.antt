@@ -3,7 +3,7 @@ use Rattle.std.specs.Prelude.{ℕ, suc, ◌+◌, ◌*◌, ◌≤◌, ◌≡◌, 
 use Rattle.std.proofs.Common.{sym, ◌∙◌}
 use Rattle.std.proofs.Math.Option.{Option, none, some}
 use Rattle.meaning.specs.Words.{words, triples, ascends, member, is_some, bind}
-use Rattle.meaning.specs.Parts.{rangesAscend, rangesCount}
+use Rattle.meaning.specs.Parts.{ranges_ascend, ranges_count}
 use Rattle.meaning.specs.Matching.{set_at}
 use Rattle.coverage_index.specs.declared.Covered.{Covered}
 use Rattle.coverage_index.specs.declared.Covered.TheVariants.{At, Not}
@@ -14,17 +14,17 @@ index_of [] g = none
 index_of (c ∷ cov) g = cond (eqb c g) (some 0) (bind (index_of cov g) (λ i. some (suc i)))
 
 -- the answer that stands for an index, if there is one
-abbrev pub coveredOf : Option ℕ → Covered
-coveredOf (some i) = At i
-coveredOf none = Not
+abbrev pub covered_of : Option ℕ → Covered
+covered_of (some i) = At i
+covered_of none = Not
 
-pub is_at : (o : Option ℕ) {r : Covered} {i : ℕ} → r ≡ At i → r ≡ coveredOf o → o ≡ some i
+pub is_at : (o : Option ℕ) {r : Covered} {i : ℕ} → r ≡ At i → r ≡ covered_of o → o ≡ some i
 is_at (some x) e f = cc
 is_at none e f = cc
 
-pub is-not : (o : Option ℕ) {r : Covered} → r ≡ Not → r ≡ coveredOf o → o ≡ none
-is-not (some x) e f = cc
-is-not none e f = refl
+pub is_not : (o : Option ℕ) {r : Covered} → r ≡ Not → r ≡ covered_of o → o ≡ none
+is_not (some x) e f = cc
+is_not none e f = refl
 
 -- n glyphs that are listed from `at` on lie inside and ascend
 pub record SoundList (s : List ℕ) (at n : ℕ) : Type 0 where
@@ -34,39 +34,39 @@ pub record SoundList (s : List ℕ) (at n : ℕ) : Type 0 where
 -- n ranges from `at` on lie inside, ascend without overlap, and each index is the number of glyphs before its range
 pub record SoundRanges (s : List ℕ) (at n : ℕ) : Type 0 where
   pub fits : at + 6 * n ≤ length s
-  pub ascend : rangesAscend 0 (triples s at n) ≡ true
-  pub count : rangesCount 0 (triples s at n) ≡ true
+  pub ascend : ranges_ascend 0 (triples s at n) ≡ true
+  pub count : ranges_count 0 (triples s at n) ≡ true
 
 -- What is chosen by the index.
 
 -- an answer by the place after, for the rest of a list
-bind-suc : {A : Type 0} (o : Option ℕ) (f : ℕ → Option A) → bind (bind o (λ i. some (suc i))) f ≡ bind o (λ i. f (suc i))
+bind_suc : {A : Type 0} (o : Option ℕ) (f : ℕ → Option A) → bind (bind o (λ i. some (suc i))) f ≡ bind o (λ i. f (suc i))
 unfolding bind
-bind-suc none f = refl
-bind-suc (some i) f = refl
+bind_suc none f = refl
+bind_suc (some i) f = refl
 
-bind-none : {A : Type 0} (o : Option ℕ) (f : ℕ → Option A) → ((i : ℕ) → f i ≡ none) → none ≡ bind o f
+bind_none : {A : Type 0} (o : Option ℕ) (f : ℕ → Option A) → ((i : ℕ) → f i ≡ none) → none ≡ bind o f
 unfolding bind
-bind-none none f h = refl
-bind-none (some i) f h = sym (h i)
+bind_none none f h = refl
+bind_none (some i) f h = sym (h i)
 
 -- a set of a coverage index
-pub set-index : {A : Type 0} (cov : List ℕ) (sets : List (Option A)) (g : ℕ) → set_at cov sets g ≡ bind (index_of cov g) (λ i. get_or sets i none)
+pub set_index : {A : Type 0} (cov : List ℕ) (sets : List (Option A)) (g : ℕ) → set_at cov sets g ≡ bind (index_of cov g) (λ i. get_or sets i none)
 unfolding set_at index_of bind
-set-index [] sets g = refl
-set-index (c ∷ cov) [] g = bind-none (index_of (c ∷ cov) g) (λ i. get_or [] i none) (λ i. refl)
-set-index (c ∷ cov) (s ∷ sets) g = step (eqb c g) (set-index cov sets g)
+set_index [] sets g = refl
+set_index (c ∷ cov) [] g = bind_none (index_of (c ∷ cov) g) (λ i. get_or [] i none) (λ i. refl)
+set_index (c ∷ cov) (s ∷ sets) g = step (eqb c g) (set_index cov sets g)
   where
     step : (b : Bool) → set_at cov sets g ≡ bind (index_of cov g) (λ i. get_or sets i none)
         → cond b s (set_at cov sets g) ≡ bind (cond b (some 0) (bind (index_of cov g) (λ i. some (suc i)))) (λ i. get_or (s ∷ sets) i none)
     step true h = refl
-    step false h = h ∙ sym (bind-suc (index_of cov g) (λ i. get_or (s ∷ sets) i none))
+    step false h = h ∙ sym (bind_suc (index_of cov g) (λ i. get_or (s ∷ sets) i none))
 
 -- a glyph is covered if it has an index
-pub member-index : (cov : List ℕ) (g : ℕ) → member g cov ≡ is_some (index_of cov g)
+pub member_index : (cov : List ℕ) (g : ℕ) → member g cov ≡ is_some (index_of cov g)
 unfolding member index_of bind is_some
-member-index [] g = refl
-member-index (c ∷ cov) g = step (eqb c g) (member-index cov g)
+member_index [] g = refl
+member_index (c ∷ cov) g = step (eqb c g) (member_index cov g)
   where
     kept : (o : Option ℕ) → is_some o ≡ is_some (bind o (λ i. some (suc i)))
     kept none = refl

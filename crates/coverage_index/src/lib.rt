@@ -1,8 +1,8 @@
 // The coverage index of a glyph: its place among the covered glyphs, found by halving.
 ghost use Rattle.std.specs.Prelude.{◌≡◌, true, ◌<◌};
 ghost use Rattle.meaning.specs.Words.{words, triples};
-ghost use Rattle.meaning.specs.Parts.{rangeGlyphs, coverage, coverageSound};
-ghost use Rattle.coverage_index.specs.Index.{index_of, coveredOf, SoundList, SoundRanges};
+ghost use Rattle.meaning.specs.Parts.{range_glyphs, coverage, coverage_sound};
+ghost use Rattle.coverage_index.specs.Index.{index_of, covered_of, SoundList, SoundRanges};
 
 use halving::reach;
 use wire::word_inside;
@@ -17,7 +17,7 @@ pub enum Covered {
 // The index of a glyph among the `n` glyphs that are listed from `at` on: the first that is not below it decides.
 fn list_index(src: &[u8], at: usize, n: usize, glyph: usize) -> Covered
     requires { SoundList src.now at n }
-    ensures { result ≡ coveredOf (index_of (words src.now at n) glyph) }
+    ensures { result ≡ covered_of (index_of (words src.now at n) glyph) }
 {
     let i = reach(src, at, 2, n, 0, 0, glyph);
     if n <= i {
@@ -32,7 +32,7 @@ fn list_index(src: &[u8], at: usize, n: usize, glyph: usize) -> Covered
 // The index of a glyph among those that the `n` ranges from `at` on cover: the first range that ends at the glyph or later decides.
 fn range_index(src: &[u8], at: usize, n: usize, glyph: usize) -> Covered
     requires { SoundRanges src.now at n × (glyph < 65536) }
-    ensures { result ≡ coveredOf (index_of (rangeGlyphs (triples src.now at n)) glyph) }
+    ensures { result ≡ covered_of (index_of (range_glyphs (triples src.now at n)) glyph) }
 {
     let i = reach(src, at + 2, 6, n, 0, 0, glyph);
     if n <= i {
@@ -47,8 +47,8 @@ fn range_index(src: &[u8], at: usize, n: usize, glyph: usize) -> Covered
 
 // The coverage index of a glyph in the sound coverage at `at`.
 pub fn index_of(src: &[u8], at: usize, glyph: usize) -> Covered
-    requires { (coverageSound src.now at ≡ true) × (glyph < 65536) }
-    ensures { result ≡ coveredOf (index_of (coverage src.now at) glyph) }
+    requires { (coverage_sound src.now at ≡ true) × (glyph < 65536) }
+    ensures { result ≡ covered_of (index_of (coverage src.now at) glyph) }
 {
     let n = word_inside(src, at + 2);
     if word_inside(src, at) == 1 {

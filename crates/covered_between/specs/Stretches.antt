@@ -12,6 +12,6 @@ unfoldable pub stretches : List ℕ → ℕ → List (ℕ × ℕ × ℕ)
 stretches s at = cond (eqb (word s at) 1) (ones (word s (at + 2)) (words s (at + 6) (word s (at + 4)))) (triples s (at + 4) (word s (at + 2)))
 
 -- one of these glyphs is from a to z
-unfoldable pub anyBetween : ℕ → ℕ → List ℕ → Bool
-anyBetween a z [] = false
-anyBetween a z (g ∷ gs) = (leb a g && leb g z) || anyBetween a z gs
+unfoldable pub any_between : ℕ → ℕ → List ℕ → Bool
+any_between a z [] = false
+any_between a z (g ∷ gs) = (leb a g && leb g z) || any_between a z gs

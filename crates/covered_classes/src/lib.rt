@@ -1,7 +1,7 @@
 // The classes that covered glyphs hold, marked by a bit each.
 ghost use Rattle.std.specs.Prelude.{◌≡◌, ◌+◌, ◌-◌, ◌≤◌, ◌<◌, length};
 ghost use Rattle.area.specs.Part.{notes};
-ghost use Rattle.covered_classes.specs.Covered.{firstClass, Passes, Coverable, Met, Covered};
+ghost use Rattle.covered_classes.specs.Covered.{first_class, Passes, Coverable, Met, Covered};
 
 use bits::{clear_bits, put_bit};
 use fold::entry;
@@ -24,7 +24,7 @@ fn pass_below(t: &[u32], list: usize, n: usize, from: usize, new: usize) -> usiz
 // The class of the k-th of the `n` listed cells from `list` on, if that is of the new number `new`; else class 0, which is not listed.
 fn class_at(t: &[u32], list: usize, n: usize, k: usize, new: usize) -> usize
     requires { list + n ≤ length t.now }
-    ensures { result ≡ firstClass new (notes t.now (list + k) (n - k)) }
+    ensures { result ≡ first_class new (notes t.now (list + k) (n - k)) }
 {
     if n <= k {
         return 0;

@@ -1,14 +1,14 @@
 // Format 3 of contexts and chained contexts: coverages for backtrack, input and lookahead, and records; cut in one walk, from the source into the area.
 ghost use Rattle.std.specs.Prelude.{true, ◌+◌, ◌-◌, ◌*◌, ◌≤◌, ◌<◌, length};
-ghost use Rattle.meaning.specs.Maps.{mapEntries, glyphEntries};
+ghost use Rattle.meaning.specs.Maps.{map_entries, glyph_entries};
 ghost use Rattle.cover_contexts.specs.Context.{MostNotes};
 ghost use Rattle.cover_parts.specs.Rows.{SoundRow};
 ghost use Rattle.glyph_runs.specs.Runs.{GlyphMap};
-ghost use Rattle.cover_layouts.specs.Cutting.{HandsOver, Cuts, CutsInto, Sound, enoughCells};
-ghost use Rattle.meaning.specs.Tables.{coverContext};
+ghost use Rattle.cover_layouts.specs.Cutting.{HandsOver, Cuts, CutsInto, Sound, enough_cells};
+ghost use Rattle.meaning.specs.Tables.{cover_context};
 ghost use Rattle.meaning.specs.Cut.{cut};
-ghost use Rattle.meaning.specs.Subset.{writtenIn};
-ghost use Rattle.room.specs.Laid.{enoughArea};
+ghost use Rattle.meaning.specs.Subset.{written_in};
+ghost use Rattle.room.specs.Laid.{enough_area};
 ghost use Rattle.tried.specs.Tries.{Tries};
 
 use cover_contexts::Cells;
@@ -88,7 +88,7 @@ fn cut_in(
     out: &mut [u8],
 ) -> Tried
     requires { Sound chained marks.form src.now glyphs.now lookups.now × (length t.old ≤ 0x1_0000_0000) × (length area.old ≤ 0x1_0000_0000) }
-    ensures { Tries (length t.old < enoughCells) (length area.old < enoughArea) result out.old out.new (writtenIn marks.layout out.old (cut (glyphEntries marks.form glyphs.now) (mapEntries lookups.now) (coverContext chained src.now))) }
+    ensures { Tries (length t.old < enough_cells) (length area.old < enough_area) result out.old out.new (written_in marks.layout out.old (cut (glyph_entries marks.form glyphs.now) (map_entries lookups.now) (cover_context chained src.now))) }
 {
     let l = lay(lookups, t, 0);
     if l.mask == 0 {
@@ -121,7 +121,7 @@ pub fn by_cover(
     out: &mut [u8],
 ) -> Tried
     requires { Sound chained marks.form src.now glyphs.now lookups.now }
-    ensures { Tries (length t.old < enoughCells) (length area.old < enoughArea) result out.old out.new (writtenIn marks.layout out.old (cut (glyphEntries marks.form glyphs.now) (mapEntries lookups.now) (coverContext chained src.now))) }
+    ensures { Tries (length t.old < enough_cells) (length area.old < enough_area) result out.old out.new (written_in marks.layout out.old (cut (glyph_entries marks.form glyphs.now) (map_entries lookups.now) (cover_context chained src.now))) }
 {
     let cells = least(t.len(), CELLS);
     let bytes = least(area.len(), AREA);

@@ -1,11 +1,11 @@
 // What is left of a sound source, with the work space: lent, or our own in few sizes.
 ghost use Rattle.std.specs.Prelude.{◌≡◌, true, false, ◌<◌};
-ghost use Rattle.meaning.specs.Maps.{mapEntries, glyphEntries};
+ghost use Rattle.meaning.specs.Maps.{map_entries, glyph_entries};
 ghost use Rattle.meaning.specs.Tables.{table};
 ghost use Rattle.meaning.specs.Cut.{cut};
-ghost use Rattle.meaning.specs.Subset.{writtenIn};
-ghost use Rattle.room.specs.Laid.{outcomeOf};
-ghost use Rattle.cut_sizes.specs.Cutting.{Sound, pairsByClass, UnlessShort, NeverShort};
+ghost use Rattle.meaning.specs.Subset.{written_in};
+ghost use Rattle.room.specs.Laid.{outcome_of};
+ghost use Rattle.cut_sizes.specs.Cutting.{Sound, pairs_by_class, UnlessShort, NeverShort};
 
 use cut_kinds::cut_in;
 use cut_sizes::{
@@ -39,7 +39,7 @@ fn pair_bytes() -> [u8; LIMIT] {
 // With little scratch, which is enough for most tables of a small font.
 fn in_little(marks: Marks, src: &[u8], glyphs: &[u8], lookups: &[u8], out: &mut [u8]) -> Tried
     requires { Sound marks.kind marks.form src.now glyphs.now lookups.now }
-    ensures { UnlessShort result out.old out.new (writtenIn marks.layout out.old (cut (glyphEntries marks.form glyphs.now) (mapEntries lookups.now) (table marks.kind src.now))) }
+    ensures { UnlessShort result out.old out.new (written_in marks.layout out.old (cut (glyph_entries marks.form glyphs.now) (map_entries lookups.now) (table marks.kind src.now))) }
 {
     let mut t = [0u32; LITTLE_CELLS];
     let mut area = [0u8; LITTLE_BYTES];
@@ -57,7 +57,7 @@ fn in_some(
     out: &mut [u8],
 ) -> Tried
     requires { Sound marks.kind marks.form src.now glyphs.now lookups.now }
-    ensures { UnlessShort result out.old out.new (writtenIn marks.layout out.old (cut (glyphEntries marks.form glyphs.now) (mapEntries lookups.now) (table marks.kind src.now))) }
+    ensures { UnlessShort result out.old out.new (written_in marks.layout out.old (cut (glyph_entries marks.form glyphs.now) (map_entries lookups.now) (table marks.kind src.now))) }
 {
     if rounds != 0 {
         return in_some(marks, src, glyphs, lookups, rounds - 1, out);
@@ -77,7 +77,7 @@ fn in_more(
     out: &mut [u8],
 ) -> Tried
     requires { Sound marks.kind marks.form src.now glyphs.now lookups.now }
-    ensures { UnlessShort result out.old out.new (writtenIn marks.layout out.old (cut (glyphEntries marks.form glyphs.now) (mapEntries lookups.now) (table marks.kind src.now))) }
+    ensures { UnlessShort result out.old out.new (written_in marks.layout out.old (cut (glyph_entries marks.form glyphs.now) (map_entries lookups.now) (table marks.kind src.now))) }
 {
     if rounds != 0 {
         return in_more(marks, src, glyphs, lookups, rounds - 1, out);
@@ -97,7 +97,7 @@ fn in_much(
     out: &mut [u8],
 ) -> Tried
     requires { Sound marks.kind marks.form src.now glyphs.now lookups.now }
-    ensures { UnlessShort result out.old out.new (writtenIn marks.layout out.old (cut (glyphEntries marks.form glyphs.now) (mapEntries lookups.now) (table marks.kind src.now))) }
+    ensures { UnlessShort result out.old out.new (written_in marks.layout out.old (cut (glyph_entries marks.form glyphs.now) (map_entries lookups.now) (table marks.kind src.now))) }
 {
     if rounds != 0 {
         return in_much(marks, src, glyphs, lookups, rounds - 1, out);
@@ -116,8 +116,8 @@ fn in_all_but_class_pairs(
     rounds: usize,
     out: &mut [u8],
 ) -> Tried
-    requires { Sound marks.kind marks.form src.now glyphs.now lookups.now × (pairsByClass marks.kind src.now ≡ false) }
-    ensures { NeverShort result out.old out.new (writtenIn marks.layout out.old (cut (glyphEntries marks.form glyphs.now) (mapEntries lookups.now) (table marks.kind src.now))) }
+    requires { Sound marks.kind marks.form src.now glyphs.now lookups.now × (pairs_by_class marks.kind src.now ≡ false) }
+    ensures { NeverShort result out.old out.new (written_in marks.layout out.old (cut (glyph_entries marks.form glyphs.now) (map_entries lookups.now) (table marks.kind src.now))) }
 {
     if rounds != 0 {
         return in_all_but_class_pairs(marks, src, glyphs, lookups, rounds - 1, out);
@@ -136,8 +136,8 @@ fn in_class_pairs(
     rounds: usize,
     out: &mut [u8],
 ) -> Tried
-    requires { Sound marks.kind marks.form src.now glyphs.now lookups.now × (pairsByClass marks.kind src.now ≡ true) }
-    ensures { NeverShort result out.old out.new (writtenIn marks.layout out.old (cut (glyphEntries marks.form glyphs.now) (mapEntries lookups.now) (table marks.kind src.now))) }
+    requires { Sound marks.kind marks.form src.now glyphs.now lookups.now × (pairs_by_class marks.kind src.now ≡ true) }
+    ensures { NeverShort result out.old out.new (written_in marks.layout out.old (cut (glyph_entries marks.form glyphs.now) (map_entries lookups.now) (table marks.kind src.now))) }
 {
     if rounds != 0 {
         return in_class_pairs(marks, src, glyphs, lookups, rounds - 1, out);
@@ -150,7 +150,7 @@ fn in_class_pairs(
 // With scratch that is enough for any source of this kind and format.
 fn in_most(marks: Marks, src: &[u8], glyphs: &[u8], lookups: &[u8], out: &mut [u8]) -> Tried
     requires { Sound marks.kind marks.form src.now glyphs.now lookups.now }
-    ensures { NeverShort result out.old out.new (writtenIn marks.layout out.old (cut (glyphEntries marks.form glyphs.now) (mapEntries lookups.now) (table marks.kind src.now))) }
+    ensures { NeverShort result out.old out.new (written_in marks.layout out.old (cut (glyph_entries marks.form glyphs.now) (map_entries lookups.now) (table marks.kind src.now))) }
 {
     if pairs_by_class(marks.kind, src) {
         return in_class_pairs(marks, src, glyphs, lookups, glyphs.len() % 2, out);
@@ -168,7 +168,7 @@ fn in_size(
     out: &mut [u8],
 ) -> Tried
     requires { Sound marks.kind marks.form src.now glyphs.now lookups.now }
-    ensures { UnlessShort result out.old out.new (writtenIn marks.layout out.old (cut (glyphEntries marks.form glyphs.now) (mapEntries lookups.now) (table marks.kind src.now))) }
+    ensures { UnlessShort result out.old out.new (written_in marks.layout out.old (cut (glyph_entries marks.form glyphs.now) (map_entries lookups.now) (table marks.kind src.now))) }
 {
     match size {
         0 => in_little(marks, src, glyphs, lookups, out),
@@ -181,7 +181,7 @@ fn in_size(
 // What is left of a sound source of this kind, handed over if there is room, with scratch of our own: of the size that is likely to do, and the next one where that is too short.
 pub fn cut_own(marks: Marks, src: &[u8], glyphs: &[u8], lookups: &[u8], out: &mut [u8]) -> Laid
     requires { Sound marks.kind marks.form src.now glyphs.now lookups.now }
-    ensures { outcomeOf result out.new ≡ writtenIn marks.layout out.old (cut (glyphEntries marks.form glyphs.now) (mapEntries lookups.now) (table marks.kind src.now)) }
+    ensures { outcome_of result out.new ≡ written_in marks.layout out.old (cut (glyph_entries marks.form glyphs.now) (map_entries lookups.now) (table marks.kind src.now)) }
 {
     let mut size = likely_size(marks.kind, src, glyphs, marks.form, lookups);
     while size < 4 {
@@ -207,7 +207,7 @@ pub fn cut_lent(
     out: &mut [u8],
 ) -> Laid
     requires { Sound marks.kind marks.form src.now glyphs.now lookups.now }
-    ensures { outcomeOf result out.new ≡ writtenIn marks.layout out.old (cut (glyphEntries marks.form glyphs.now) (mapEntries lookups.now) (table marks.kind src.now)) }
+    ensures { outcome_of result out.new ≡ written_in marks.layout out.old (cut (glyph_entries marks.form glyphs.now) (map_entries lookups.now) (table marks.kind src.now)) }
 {
     let Tried::Became(laid) = cut_in(marks, src, glyphs, lookups, t, area, out) else {
         return cut_own(marks, src, glyphs, lookups, out);

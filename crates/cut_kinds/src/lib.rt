@@ -1,12 +1,12 @@
 // What is left of a sound source, by its kind and its format, with lent scratch.
 ghost use Rattle.std.specs.Prelude.{true, false, [], ◌<◌, length};
-ghost use Rattle.meaning.specs.Maps.{mapEntries, glyphEntries};
-ghost use Rattle.meaning.specs.Tables.{context, pairTable, table};
+ghost use Rattle.meaning.specs.Maps.{map_entries, glyph_entries};
+ghost use Rattle.meaning.specs.Tables.{context, pair_table, table};
 ghost use Rattle.meaning.specs.Cut.{cut};
-ghost use Rattle.meaning.specs.Subset.{writtenIn};
-ghost use Rattle.room.specs.Laid.{enoughArea};
+ghost use Rattle.meaning.specs.Subset.{written_in};
+ghost use Rattle.room.specs.Laid.{enough_area};
 ghost use Rattle.tried.specs.Tries.{Tries};
-ghost use Rattle.cut_sizes.specs.Cutting.{SoundContext, SoundPairs, Sound, otherCells, cells_for, bytesFor};
+ghost use Rattle.cut_sizes.specs.Cutting.{SoundContext, SoundPairs, Sound, other_cells, cells_for, bytes_for};
 
 use by_glyph::{contexts, ligatures};
 use class_contexts::by_class;
@@ -30,7 +30,7 @@ fn context_in(
     out: &mut [u8],
 ) -> Tried
     requires { SoundContext chained marks.form src.now glyphs.now lookups.now }
-    ensures { Tries (length t.old < otherCells) (length area.old < enoughArea) result out.old out.new (writtenIn marks.layout out.old (cut (glyphEntries marks.form glyphs.now) (mapEntries lookups.now) (context chained src.now))) }
+    ensures { Tries (length t.old < other_cells) (length area.old < enough_area) result out.old out.new (written_in marks.layout out.old (cut (glyph_entries marks.form glyphs.now) (map_entries lookups.now) (context chained src.now))) }
 {
     let format = word_at(src, 0);
     match format {
@@ -50,7 +50,7 @@ fn pairs_in(
     out: &mut [u8],
 ) -> Tried
     requires { SoundPairs marks.form src.now glyphs.now }
-    ensures { Tries (length t.old < cells_for 4 src.now) (length area.old < bytesFor 4 src.now) result out.old out.new (writtenIn marks.layout out.old (cut (glyphEntries marks.form glyphs.now) [] (pairTable src.now))) }
+    ensures { Tries (length t.old < cells_for 4 src.now) (length area.old < bytes_for 4 src.now) result out.old out.new (written_in marks.layout out.old (cut (glyph_entries marks.form glyphs.now) [] (pair_table src.now))) }
 {
     let format = word_at(src, 0);
     match format {
@@ -71,7 +71,7 @@ pub fn cut_in(
     out: &mut [u8],
 ) -> Tried
     requires { Sound marks.kind marks.form src.now glyphs.now lookups.now }
-    ensures { Tries (length t.old < cells_for marks.kind src.now) (length area.old < bytesFor marks.kind src.now) result out.old out.new (writtenIn marks.layout out.old (cut (glyphEntries marks.form glyphs.now) (mapEntries lookups.now) (table marks.kind src.now))) }
+    ensures { Tries (length t.old < cells_for marks.kind src.now) (length area.old < bytes_for marks.kind src.now) result out.old out.new (written_in marks.layout out.old (cut (glyph_entries marks.form glyphs.now) (map_entries lookups.now) (table marks.kind src.now))) }
 {
     let kind = marks.kind;
     match kind {

@@ -1,13 +1,13 @@
 // Tables of sets by covered glyph, for sets that have no value formats: the retained covered glyphs are noted in cells, and what is left of the table is written.
 ghost use Rattle.std.specs.Prelude.{◌≡◌, false, ◌+◌, ◌≤◌, ◌<◌, length, eqb};
 ghost use Rattle.meaning.specs.Words.{word};
-ghost use Rattle.meaning.specs.Maps.{glyphEntries};
-ghost use Rattle.room.specs.Laid.{enoughArea};
-ghost use Rattle.placed_sets.specs.Sorts.{isPairs};
-ghost use Rattle.placed_sets.specs.Kept.{Ready, keptIn};
+ghost use Rattle.meaning.specs.Maps.{glyph_entries};
+ghost use Rattle.room.specs.Laid.{enough_area};
+ghost use Rattle.placed_sets.specs.Sorts.{is_pairs};
+ghost use Rattle.placed_sets.specs.Kept.{Ready, kept_in};
 ghost use Rattle.kept_header.specs.Table.{table_of};
 ghost use Rattle.kept_header.specs.Answers.{Answered};
-ghost use Rattle.cut_sets.specs.Asked.{SoundSets, behind, MapsLaid, keptFrom};
+ghost use Rattle.cut_sets.specs.Asked.{SoundSets, behind, MapsLaid, kept_from};
 
 use kept_rules::Maps;
 use kept_sets::Notes;
@@ -33,8 +33,8 @@ fn write_shared(
     area: &mut [u8],
     out: &mut [u8],
 ) -> Tried
-    requires { Ready sort src.now t.old maps notes.at notes.count × (length area.old ≤ enoughArea) × (isPairs sort ≡ false) }
-    ensures { Answered ⊥ out.old (table_of (eqb notes.packing 1) sort (keptIn sort src.now t.old maps notes.at notes.count)) (length area.old) result out.new }
+    requires { Ready sort src.now t.old maps notes.at notes.count × (length area.old ≤ enough_area) × (is_pairs sort ≡ false) }
+    ensures { Answered ⊥ out.old (table_of (eqb notes.packing 1) sort (kept_in sort src.now t.old maps notes.at notes.count)) (length area.old) result out.new }
 {
     if rounds != 0 {
         return write_shared(sort, src, t, notes, maps, rounds - 1, area, out);
@@ -54,8 +54,8 @@ pub fn cut_sets(
     area: &mut [u8],
     out: &mut [u8],
 ) -> Tried
-    requires { SoundSets sort src.now × MapsLaid marks.form glyphs.now t.old maps × (length area.old ≤ enoughArea) × (word src.now 2 ≡ 0 → ⊥) × (isPairs sort ≡ false) }
-    ensures { Answered (length t.old ≤ behind maps + 65536) out.old (table_of (eqb marks.layout 1) sort (keptFrom sort src.now (glyphEntries marks.form glyphs.now) t.old maps)) (length area.old) result out.new }
+    requires { SoundSets sort src.now × MapsLaid marks.form glyphs.now t.old maps × (length area.old ≤ enough_area) × (word src.now 2 ≡ 0 → ⊥) × (is_pairs sort ≡ false) }
+    ensures { Answered (length t.old ≤ behind maps + 65536) out.old (table_of (eqb marks.layout 1) sort (kept_from sort src.now (glyph_entries marks.form glyphs.now) t.old maps)) (length area.old) result out.new }
 {
     let cover = word_inside(src, 2);
     let notes = maps.lookups.at + maps.lookups.mask + 1;

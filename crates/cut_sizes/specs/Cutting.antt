@@ -2,13 +2,13 @@
 use Rattle.std.specs.Prelude.{ℕ, ◌≤◌, ◌<◌, ◌≡◌, Bool, true, cond, ◌&&◌, not, List, length, eqb}
 use Rattle.std.proofs.Math.Option.{none}
 use Rattle.meaning.specs.Words.{word}
-use Rattle.meaning.specs.Maps.{goodLookups}
+use Rattle.meaning.specs.Maps.{good_lookups}
 use Rattle.glyph_runs.specs.Runs.{GlyphMap}
-use Rattle.meaning.specs.Fault.{contextFault, fault}
+use Rattle.meaning.specs.Fault.{context_fault, fault}
 use Rattle.meaning.specs.Subset.{Outcome, limit}
 use Rattle.tried.specs.Tries.{Tries}
 use Rattle.tried.specs.declared.Tried.{Tried}
-use Rattle.room.specs.Laid.{enoughArea}
+use Rattle.room.specs.Laid.{enough_area}
 use Rattle.cover_layouts.specs.Cutting as covers
 use Rattle.pair_classes.specs.Cutting as classPairs
 
@@ -17,14 +17,14 @@ pub record Sound (kind form : ℕ) (s glyphs lookups : List ℕ) : Type 0 where
   pub sound : fault kind s ≡ none
   pub source : length s ≤ limit
   pub map : GlyphMap form glyphs
-  pub lookups-good : goodLookups lookups ≡ true
+  pub lookups_good : good_lookups lookups ≡ true
 
 -- the same of a context
 pub record SoundContext (chained : Bool) (form : ℕ) (s glyphs lookups : List ℕ) : Type 0 where
-  pub sound : contextFault chained s ≡ none
+  pub sound : context_fault chained s ≡ none
   pub source : length s ≤ limit
   pub map : GlyphMap form glyphs
-  pub lookups-good : goodLookups lookups ≡ true
+  pub lookups_good : good_lookups lookups ≡ true
 
 -- and of a pair table
 pub record SoundPairs (form : ℕ) (s glyphs : List ℕ) : Type 0 where
@@ -33,26 +33,26 @@ pub record SoundPairs (form : ℕ) (s glyphs : List ℕ) : Type 0 where
   pub map : GlyphMap form glyphs
 
 -- the cells that are enough for a pair table by classes, and those that are for any other source
-abbrev pub classPairCells : ℕ
-classPairCells = classPairs.enoughCells
+abbrev pub class_pair_cells : ℕ
+class_pair_cells = classPairs.enough_cells
 
-abbrev pub otherCells : ℕ
-otherCells = covers.enoughCells
+abbrev pub other_cells : ℕ
+other_cells = covers.enough_cells
 
--- the bytes of area that are enough for a pair table by classes, as many as the limit; `enoughArea` are for any other source
-abbrev pub classPairBytes : ℕ
-classPairBytes = 262144
+-- the bytes of area that are enough for a pair table by classes, as many as the limit; `enough_area` are for any other source
+abbrev pub class_pair_bytes : ℕ
+class_pair_bytes = 262144
 
 -- a source of this kind is a pair table by classes
-unfoldable pub pairsByClass : ℕ → List ℕ → Bool
-pairsByClass kind s = eqb kind 4 && not (eqb (word s 0) 1)
+unfoldable pub pairs_by_class : ℕ → List ℕ → Bool
+pairs_by_class kind s = eqb kind 4 && not (eqb (word s 0) 1)
 
 -- the cells and the bytes of area that are enough for a source, by its kind and its format
 unfoldable pub cells_for : ℕ → List ℕ → ℕ
-cells_for kind s = cond (pairsByClass kind s) classPairCells otherCells
+cells_for kind s = cond (pairs_by_class kind s) class_pair_cells other_cells
 
-unfoldable pub bytesFor : ℕ → List ℕ → ℕ
-bytesFor kind s = cond (pairsByClass kind s) classPairBytes enoughArea
+unfoldable pub bytes_for : ℕ → List ℕ → ℕ
+bytes_for kind s = cond (pairs_by_class kind s) class_pair_bytes enough_area
 
 -- the answer's outcome is `made`; or the scratch was too short, and the buffer is untouched
 pub record UnlessShort (r : Tried) (before after : List ℕ) (made : Outcome) : Type 0 where

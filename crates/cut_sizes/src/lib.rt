@@ -1,6 +1,6 @@
 // The sizes of scratch: those that are enough for any source, those that our own comes in, and which of these a source is likely to need.
 ghost use Rattle.std.specs.Prelude.{◌≡◌, false, ◌≤◌, ◌<◌};
-ghost use Rattle.cut_sizes.specs.Cutting.{pairsByClass};
+ghost use Rattle.cut_sizes.specs.Cutting.{pairs_by_class};
 
 use fold_pairs::cells;
 use room::AREA;
@@ -33,7 +33,7 @@ pub const MUCH_BYTES: usize = 65536;
 
 // Whether a source of this kind is a pair table by classes.
 pub fn pairs_by_class(kind: usize, src: &[u8]) -> bool
-    ensures { result ≡ pairsByClass kind src.now }
+    ensures { result ≡ pairs_by_class kind src.now }
 {
     if kind != 4 {
         return false;

@@ -7,12 +7,12 @@ use Rattle.std.proofs.Common.{◌∙◌, true≢false, arith}
 use Rattle.std.proofs.Math.Bool.{true, false, cond}
 use Rattle.std.proofs.Math.Option.{Option}
 use borrow.Author.Tests.{eqb-true, eqb-false, eq-eqb, ne_eqb}
-use Rattle.meaning.specs.Parts.{classIn}
-use Rattle.meaning.specs.Matching.{inClass}
+use Rattle.meaning.specs.Parts.{class_in}
+use Rattle.meaning.specs.Matching.{in_class}
 use Rattle.laws.specs.Through.{Opt}
 use Rattle.laws.specs.PartsBack.{Classes}
-use Rattle.differences.specs.Content.{classRuns?}
-use Rattle.difference_laws.specs.Classes.{same_class}
+use Rattle.differences.specs.Content.{class_runs?}
+use Rattle.difference_laws.specs.Classes.{same_class_lem}
 
 -- the lowest of the first n ids that holds the class c, plus 1; 0 if none does
 unfoldable pub lowest : (ℕ → ℕ) → ℕ → ℕ → ℕ
@@ -25,8 +25,8 @@ strays of other n c zero = false
 strays of other n c (suc m) = (eqb (of m) c && not (eqb (lowest of c n) (lowest other (other m) n))) || strays of other n c m
 
 -- the number of a class: 0 if none of the n ids holds it; its lowest id plus 1 if it doesn't stray; else `more` on top of that
-unfoldable pub classNumber : ℕ → (ℕ → ℕ) → (ℕ → ℕ) → ℕ → ℕ → ℕ
-classNumber more of other n c = cond (eqb (lowest of c n) 0) 0 (cond (strays of other n c n) (lowest of c n + more) (lowest of c n))
+unfoldable pub class_number : ℕ → (ℕ → ℕ) → (ℕ → ℕ) → ℕ → ℕ → ℕ
+class_number more of other n c = cond (eqb (lowest of c n) 0) 0 (cond (strays of other n c n) (lowest of c n + more) (lowest of c n))
 
 -- the same of the first n ids hold c on one side and d on the other
 abbrev pub Alike : (ℕ → ℕ) → (ℕ → ℕ) → ℕ → ℕ → ℕ → Type 0
@@ -34,20 +34,20 @@ Alike of other n c d = (g : ℕ) → g < n → eqb (of g) c ≡ eqb (other g) d
 
 -- The lowest id.
 
-pub lowest-within : (of : ℕ → ℕ) (c n : ℕ) → lowest of c n ≤ n
+pub lowest_within : (of : ℕ → ℕ) (c n : ℕ) → lowest of c n ≤ n
 unfolding lowest
-lowest-within of c zero = omega arith
-lowest-within of c (suc n) = go (eqb (lowest of c n) 0) (eqb (of n) c) (lowest-within of c n)
+lowest_within of c zero = omega arith
+lowest_within of c (suc n) = go (eqb (lowest of c n) 0) (eqb (of n) c) (lowest_within of c n)
   where
     go : (s t : Bool) → lowest of c n ≤ n → cond s (cond t (suc n) 0) (lowest of c n) ≤ suc n
     go true true h = omega arith
     go true false h = omega arith
     go false t h = omega arith
 
-lowest-holds : (of : ℕ → ℕ) (c n f : ℕ) → lowest of c n ≡ suc f → of f ≡ c
+lowest_holds : (of : ℕ → ℕ) (c n f : ℕ) → lowest of c n ≡ suc f → of f ≡ c
 unfolding lowest
-lowest-holds of c zero f h = absurd (omega arith)
-lowest-holds of c (suc n) f h = go (eqb (lowest of c n) 0) (eqb (of n) c) refl h (lowest-holds of c n f)
+lowest_holds of c zero f h = absurd (omega arith)
+lowest_holds of c (suc n) f h = go (eqb (lowest of c n) 0) (eqb (of n) c) refl h (lowest_holds of c n f)
   where
     go : (s t : Bool) → eqb (of n) c ≡ t → cond s (cond t (suc n) 0) (lowest of c n) ≡ suc f → (lowest of c n ≡ suc f → of f ≡ c) → of f ≡ c
     go true true e q k = let z : n ≡ f = omega arith in ap of (sym z) ∙ eqb-true (of n) c e
@@ -55,10 +55,10 @@ lowest-holds of c (suc n) f h = go (eqb (lowest of c n) 0) (eqb (of n) c) refl h
     go false t e q k = k q
 
 -- a held class has a lowest id
-pub lowest-held : (of : ℕ → ℕ) (c n g : ℕ) → g < n → of g ≡ c → lowest of c n ≡ 0 → ⊥
+pub lowest_held : (of : ℕ → ℕ) (c n g : ℕ) → g < n → of g ≡ c → lowest of c n ≡ 0 → ⊥
 unfolding lowest
-lowest-held of c zero g h e z = omega arith
-lowest-held of c (suc n) g h e z = go (eqb (lowest of c n) 0) (eqb (of n) c) refl refl z (lowest-held of c n g)
+lowest_held of c zero g h e z = omega arith
+lowest_held of c (suc n) g h e z = go (eqb (lowest of c n) 0) (eqb (of n) c) refl refl z (lowest_held of c n g)
   where
     go : (s t : Bool) → eqb (lowest of c n) 0 ≡ s → eqb (of n) c ≡ t → cond s (cond t (suc n) 0) (lowest of c n) ≡ 0 → (g < n → of g ≡ c → lowest of c n ≡ 0 → ⊥) → ⊥
     go true true p q w k = omega arith
@@ -68,26 +68,26 @@ lowest-held of c (suc n) g h e z = go (eqb (lowest of c n) 0) (eqb (of n) c) ref
         other y = eqb-false (of n) c q (ap of (sym y) ∙ e)
     go false t p q w k = eqb-false (lowest of c n) 0 p w
 
-lowest-alike : (of other : ℕ → ℕ) (n c d : ℕ) → Alike of other n c d → lowest of c n ≡ lowest other d n
+lowest_alike : (of other : ℕ → ℕ) (n c d : ℕ) → Alike of other n c d → lowest of c n ≡ lowest other d n
 unfolding lowest
-lowest-alike of other zero c d h = refl
-lowest-alike of other (suc n) c d h = rw (h n (omega arith), lowest-alike of other n c d (λ g k. h g (omega arith)))
+lowest_alike of other zero c d h = refl
+lowest_alike of other (suc n) c d h = rw (h n (omega arith), lowest_alike of other n c d (λ g k. h g (omega arith)))
 
 -- Straying.
 
-stray-not : (of other : ℕ → ℕ) (n c m : ℕ) → ((g : ℕ) → g < m → of g ≡ c → lowest of c n ≡ lowest other (other g) n) → strays of other n c m ≡ false
+stray_not : (of other : ℕ → ℕ) (n c m : ℕ) → ((g : ℕ) → g < m → of g ≡ c → lowest of c n ≡ lowest other (other g) n) → strays of other n c m ≡ false
 unfolding strays
-stray-not of other n c zero h = refl
-stray-not of other n c (suc m) h = rw (stray-not of other n c m (λ g k. h g (omega arith))) (go (eqb (of m) c) refl)
+stray_not of other n c zero h = refl
+stray_not of other n c (suc m) h = rw (stray_not of other n c m (λ g k. h g (omega arith))) (go (eqb (of m) c) refl)
   where
     go : (t : Bool) → eqb (of m) c ≡ t → (t && not (eqb (lowest of c n) (lowest other (other m) n))) || false ≡ false
     go true e = rw (eq-eqb (lowest of c n) (lowest other (other m) n) (h m (omega arith) (eqb-true (of m) c e)))
     go false e = refl
 
-not-stray : (of other : ℕ → ℕ) (n c m g : ℕ) → strays of other n c m ≡ false → g < m → of g ≡ c → lowest of c n ≡ lowest other (other g) n
+not_stray : (of other : ℕ → ℕ) (n c m g : ℕ) → strays of other n c m ≡ false → g < m → of g ≡ c → lowest of c n ≡ lowest other (other g) n
 unfolding strays
-not-stray of other n c zero g s h e = absurd (omega arith)
-not-stray of other n c (suc m) g s h e = go (eqb g m) refl (either (eqb (of m) c && not (eqb (lowest of c n) (lowest other (other m) n))) (strays of other n c m) s) (not-stray of other n c m g)
+not_stray of other n c zero g s h e = absurd (omega arith)
+not_stray of other n c (suc m) g s h e = go (eqb g m) refl (either (eqb (of m) c && not (eqb (lowest of c n) (lowest other (other m) n))) (strays of other n c m) s) (not_stray of other n c m g)
   where
     either : (a b : Bool) → a || b ≡ false → (a ≡ false) × (b ≡ false)
     either true b q = absurd (true≢false q)
@@ -118,98 +118,98 @@ tests_agree a b c d f k = go (eqb a c) (eqb b d) refl refl
 met : (of other : ℕ → ℕ) (n c d f : ℕ) → lowest of c n ≡ suc f → lowest other d n ≡ suc f → strays of other n c n ≡ false → strays other of n d n ≡ false → Alike of other n c d
 met of other n c d f p q s t g h =
     tests_agree (of g) (other g) c d
-    (λ e. sym (lowest-holds other (other g) n f (sym (not-stray of other n c n g s h e) ∙ p)) ∙ lowest-holds other d n f q)
-    (λ e. sym (lowest-holds of (of g) n f (sym (not-stray other of n d n g t h e) ∙ q)) ∙ lowest-holds of c n f p)
+    (λ e. sym (lowest_holds other (other g) n f (sym (not_stray of other n c n g s h e) ∙ p)) ∙ lowest_holds other d n f q)
+    (λ e. sym (lowest_holds of (of g) n f (sym (not_stray other of n d n g t h e) ∙ q)) ∙ lowest_holds of c n f p)
 
-none-held : (of other : ℕ → ℕ) (n c d : ℕ) → lowest of c n ≡ 0 → lowest other d n ≡ 0 → Alike of other n c d
-none-held of other n c d p q g h = tests_agree (of g) (other g) c d (λ e. absurd (lowest-held of c n g h e p)) (λ e. absurd (lowest-held other d n g h e q))
+none_held : (of other : ℕ → ℕ) (n c d : ℕ) → lowest of c n ≡ 0 → lowest other d n ≡ 0 → Alike of other n c d
+none_held of other n c d p q g h = tests_agree (of g) (other g) c d (λ e. absurd (lowest_held of c n g h e p)) (λ e. absurd (lowest_held other d n g h e q))
 
-not-zero : (a : ℕ) → eqb (suc a) 0 ≡ false
-not-zero a = ne_eqb (suc a) 0 (λ q. omega arith)
+not_zero : (a : ℕ) → eqb (suc a) 0 ≡ false
+not_zero a = ne_eqb (suc a) 0 (λ q. omega arith)
 
 -- a class that no id holds does not stray
-pub unheld-stays : (of other : ℕ → ℕ) (n c : ℕ) → lowest of c n ≡ 0 → strays of other n c n ≡ false
-unheld-stays of other n c z = stray-not of other n c n (λ g h e. absurd (lowest-held of c n g h e z))
+pub unheld_stays : (of other : ℕ → ℕ) (n c : ℕ) → lowest of c n ≡ 0 → strays of other n c n ≡ false
+unheld_stays of other n c z = stray_not of other n c n (λ g h e. absurd (lowest_held of c n g h e z))
 
 -- numbers are small
-pub number-within : (more : ℕ) (of other : ℕ → ℕ) (n c : ℕ) → classNumber more of other n c ≤ n + more
-unfolding classNumber
-number-within more of other n c = go (eqb (lowest of c n) 0) (strays of other n c n) (lowest-within of c n)
+pub number_within : (more : ℕ) (of other : ℕ → ℕ) (n c : ℕ) → class_number more of other n c ≤ n + more
+unfolding class_number
+number_within more of other n c = go (eqb (lowest of c n) 0) (strays of other n c n) (lowest_within of c n)
   where
     go : (s t : Bool) → lowest of c n ≤ n → cond s 0 (cond t (lowest of c n + more) (lowest of c n)) ≤ n + more
     go true t h = omega arith
     go false true h = omega arith
     go false false h = omega arith
 
--- `class-numbers`: two classes of the two sides have one number exactly if they are alike, where the left adds n to the number of a class that strays and the right 2 * n.
+-- `class_numbers`: two classes of the two sides have one number exactly if they are alike, where the left adds n to the number of a class that strays and the right 2 * n.
 module _ (of other : ℕ → ℕ) (n c d : ℕ) where
-  numbers-alike : classNumber n of other n c ≡ classNumber (n + n) other of n d → Alike of other n c d
-  unfolding classNumber
-  numbers-alike h = go (lowest of c n) (lowest other d n) (strays of other n c n) (strays other of n d n) refl refl refl refl h
+  numbers_alike : class_number n of other n c ≡ class_number (n + n) other of n d → Alike of other n c d
+  unfolding class_number
+  numbers_alike h = go (lowest of c n) (lowest other d n) (strays of other n c n) (strays other of n d n) refl refl refl refl h
     where
       go : (a b : ℕ) (s t : Bool) → lowest of c n ≡ a → lowest other d n ≡ b → strays of other n c n ≡ s → strays other of n d n ≡ t
           → cond (eqb a 0) 0 (cond s (a + n) a) ≡ cond (eqb b 0) 0 (cond t (b + (n + n)) b) → Alike of other n c d
-      go zero zero s t p q x y e = none-held of other n c d p q
-      go zero (suc b) s true p q x y e = let k = rw (not-zero b) at e in absurd (omega arith)
-      go zero (suc b) s false p q x y e = let k = rw (not-zero b) at e in absurd (omega arith)
-      go (suc a) zero true t p q x y e = let k = rw (not-zero a) at e in absurd (omega arith)
-      go (suc a) zero false t p q x y e = let k = rw (not-zero a) at e in absurd (omega arith)
-      go (suc a) (suc b) true true p q x y e = let k = rw (not-zero a, not-zero b) at e in absurd (omega (arith, lowest-within of c n, lowest-within other d n))
-      go (suc a) (suc b) true false p q x y e = let k = rw (not-zero a, not-zero b) at e in absurd (omega (arith, lowest-within of c n, lowest-within other d n))
-      go (suc a) (suc b) false true p q x y e = let k = rw (not-zero a, not-zero b) at e in absurd (omega (arith, lowest-within of c n, lowest-within other d n))
-      go (suc a) (suc b) false false p q x y e = let k = rw (not-zero a, not-zero b) at e in met of other n c d a p (q ∙ sym k) x y
+      go zero zero s t p q x y e = none_held of other n c d p q
+      go zero (suc b) s true p q x y e = let k = rw (not_zero b) at e in absurd (omega arith)
+      go zero (suc b) s false p q x y e = let k = rw (not_zero b) at e in absurd (omega arith)
+      go (suc a) zero true t p q x y e = let k = rw (not_zero a) at e in absurd (omega arith)
+      go (suc a) zero false t p q x y e = let k = rw (not_zero a) at e in absurd (omega arith)
+      go (suc a) (suc b) true true p q x y e = let k = rw (not_zero a, not_zero b) at e in absurd (omega (arith, lowest_within of c n, lowest_within other d n))
+      go (suc a) (suc b) true false p q x y e = let k = rw (not_zero a, not_zero b) at e in absurd (omega (arith, lowest_within of c n, lowest_within other d n))
+      go (suc a) (suc b) false true p q x y e = let k = rw (not_zero a, not_zero b) at e in absurd (omega (arith, lowest_within of c n, lowest_within other d n))
+      go (suc a) (suc b) false false p q x y e = let k = rw (not_zero a, not_zero b) at e in met of other n c d a p (q ∙ sym k) x y
 
-  alike-numbers : Alike of other n c d → classNumber n of other n c ≡ classNumber (n + n) other of n d
-  unfolding classNumber
-  alike-numbers h =
+  alike_numbers : Alike of other n c d → class_number n of other n c ≡ class_number (n + n) other of n d
+  unfolding class_number
+  alike_numbers h =
       rw (
-        stray-not of other n c n (λ g k e. lowest-alike of other n c d h ∙ ap (λ (x : ℕ). lowest other x n) (sym (eqb-true (other g) d (sym (h g k) ∙ eq-eqb (of g) c e)))),
-        stray-not other of n d n (λ g k e. sym (lowest-alike of other n c d h) ∙ ap (λ (x : ℕ). lowest of x n) (sym (eqb-true (of g) c (h g k ∙ eq-eqb (other g) d e)))),
-        lowest-alike of other n c d h,
+        stray_not of other n c n (λ g k e. lowest_alike of other n c d h ∙ ap (λ (x : ℕ). lowest other x n) (sym (eqb-true (other g) d (sym (h g k) ∙ eq-eqb (of g) c e)))),
+        stray_not other of n d n (λ g k e. sym (lowest_alike of other n c d h) ∙ ap (λ (x : ℕ). lowest of x n) (sym (eqb-true (of g) c (h g k ∙ eq-eqb (other g) d e)))),
+        lowest_alike of other n c d h,
       )
 
-  pub class-numbers : (classNumber n of other n c ≡ classNumber (n + n) other of n d → Alike of other n c d) × (Alike of other n c d → classNumber n of other n c ≡ classNumber (n + n) other of n d)
-  class-numbers = (numbers-alike, alike-numbers)
+  pub class_numbers : (class_number n of other n c ≡ class_number (n + n) other of n d → Alike of other n c d) × (Alike of other n c d → class_number n of other n c ≡ class_number (n + n) other of n d)
+  class_numbers = (numbers_alike, alike_numbers)
 
--- `own-numbers`: the same of two classes of one side.
+-- `own_numbers`: the same of two classes of one side.
 module _ (of other : ℕ → ℕ) (n more : ℕ) (large : n ≤ more) (c d : ℕ) where
-  own-alike : classNumber more of other n c ≡ classNumber more of other n d → Alike of of n c d
-  unfolding classNumber
-  own-alike h = go (lowest of c n) (lowest of d n) (strays of other n c n) (strays of other n d n) refl refl h
+  own_alike : class_number more of other n c ≡ class_number more of other n d → Alike of of n c d
+  unfolding class_number
+  own_alike h = go (lowest of c n) (lowest of d n) (strays of other n c n) (strays of other n d n) refl refl h
     where
       equal : (a : ℕ) → lowest of c n ≡ suc a → lowest of d n ≡ suc a → Alike of of n c d
-      equal a p q g k = ap (eqb (of g)) (sym (lowest-holds of c n a p) ∙ lowest-holds of d n a q)
+      equal a p q g k = ap (eqb (of g)) (sym (lowest_holds of c n a p) ∙ lowest_holds of d n a q)
 
       go : (a b : ℕ) (s t : Bool) → lowest of c n ≡ a → lowest of d n ≡ b → cond (eqb a 0) 0 (cond s (a + more) a) ≡ cond (eqb b 0) 0 (cond t (b + more) b) → Alike of of n c d
-      go zero zero s t p q e = none-held of of n c d p q
-      go zero (suc b) s true p q e = let k = rw (not-zero b) at e in absurd (omega arith)
-      go zero (suc b) s false p q e = let k = rw (not-zero b) at e in absurd (omega arith)
-      go (suc a) zero true t p q e = let k = rw (not-zero a) at e in absurd (omega arith)
-      go (suc a) zero false t p q e = let k = rw (not-zero a) at e in absurd (omega arith)
-      go (suc a) (suc b) true true p q e = let k = rw (not-zero a, not-zero b) at e in equal a p (let z : b ≡ a = omega arith in q ∙ ap suc z)
-      go (suc a) (suc b) true false p q e = let k = rw (not-zero a, not-zero b) at e in absurd (omega (arith, lowest-within of c n, lowest-within of d n, large))
-      go (suc a) (suc b) false true p q e = let k = rw (not-zero a, not-zero b) at e in absurd (omega (arith, lowest-within of c n, lowest-within of d n, large))
-      go (suc a) (suc b) false false p q e = let k = rw (not-zero a, not-zero b) at e in equal a p (q ∙ sym k)
+      go zero zero s t p q e = none_held of of n c d p q
+      go zero (suc b) s true p q e = let k = rw (not_zero b) at e in absurd (omega arith)
+      go zero (suc b) s false p q e = let k = rw (not_zero b) at e in absurd (omega arith)
+      go (suc a) zero true t p q e = let k = rw (not_zero a) at e in absurd (omega arith)
+      go (suc a) zero false t p q e = let k = rw (not_zero a) at e in absurd (omega arith)
+      go (suc a) (suc b) true true p q e = let k = rw (not_zero a, not_zero b) at e in equal a p (let z : b ≡ a = omega arith in q ∙ ap suc z)
+      go (suc a) (suc b) true false p q e = let k = rw (not_zero a, not_zero b) at e in absurd (omega (arith, lowest_within of c n, lowest_within of d n, large))
+      go (suc a) (suc b) false true p q e = let k = rw (not_zero a, not_zero b) at e in absurd (omega (arith, lowest_within of c n, lowest_within of d n, large))
+      go (suc a) (suc b) false false p q e = let k = rw (not_zero a, not_zero b) at e in equal a p (q ∙ sym k)
 
-  alike-own : Alike of of n c d → classNumber more of other n c ≡ classNumber more of other n d
-  unfolding classNumber
-  alike-own h = go (lowest of c n) refl
+  alike_own : Alike of of n c d → class_number more of other n c ≡ class_number more of other n d
+  unfolding class_number
+  alike_own h = go (lowest of c n) refl
     where
       go : (a : ℕ) → lowest of c n ≡ a → cond (eqb (lowest of c n) 0) 0 (cond (strays of other n c n) (lowest of c n + more) (lowest of c n)) ≡ cond (eqb (lowest of d n) 0) 0 (cond (strays of other n d n) (lowest of d n + more) (lowest of d n))
-      go zero p = rw (p, sym (lowest-alike of of n c d h) ∙ p)
+      go zero p = rw (p, sym (lowest_alike of of n c d h) ∙ p)
       go (suc a) p =
-          let z = sym (lowest-holds of c n a p) ∙ lowest-holds of d n a (sym (lowest-alike of of n c d h) ∙ p) in
+          let z = sym (lowest_holds of c n a p) ∙ lowest_holds of d n a (sym (lowest_alike of of n c d h) ∙ p) in
           ap (λ (x : ℕ). cond (eqb (lowest of x n) 0) 0 (cond (strays of other n x n) (lowest of x n + more) (lowest of x n))) z
 
-  pub own-numbers : (classNumber more of other n c ≡ classNumber more of other n d → Alike of of n c d) × (Alike of of n c d → classNumber more of other n c ≡ classNumber more of other n d)
-  own-numbers = (own-alike, alike-own)
+  pub own_numbers : (class_number more of other n c ≡ class_number more of other n d → Alike of of n c d) × (Alike of of n c d → class_number more of other n c ≡ class_number more of other n d)
+  own_numbers = (own_alike, alike_own)
 
 -- Of two class tables, which may be null: the numbers are equal exactly if the contents of the classes are.
-pub class-content : (t u : Option (List (ℕ × ℕ))) → Opt Classes t → Opt Classes u → (c d : ℕ)
-    → (classNumber 65536 (classIn t) (classIn u) 65536 c ≡ classNumber 131072 (classIn u) (classIn t) 65536 d → classRuns? t c ≡ classRuns? u d)
-    × (classRuns? t c ≡ classRuns? u d → classNumber 65536 (classIn t) (classIn u) 65536 c ≡ classNumber 131072 (classIn u) (classIn t) 65536 d)
-unfolding inClass
-class-content t u k l c d =
-    let n = class-numbers (classIn t) (classIn u) 65536 c d in
-    let s = same_class t u k l c d in
+pub class_content : (t u : Option (List (ℕ × ℕ))) → Opt Classes t → Opt Classes u → (c d : ℕ)
+    → (class_number 65536 (class_in t) (class_in u) 65536 c ≡ class_number 131072 (class_in u) (class_in t) 65536 d → class_runs? t c ≡ class_runs? u d)
+    × (class_runs? t c ≡ class_runs? u d → class_number 65536 (class_in t) (class_in u) 65536 c ≡ class_number 131072 (class_in u) (class_in t) 65536 d)
+unfolding in_class
+class_content t u k l c d =
+    let n = class_numbers (class_in t) (class_in u) 65536 c d in
+    let s = same_class_lem t u k l c d in
     ((λ e. s.1 (n.0 e)), λ e. n.1 (s.0 e))

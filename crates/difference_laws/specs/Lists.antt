@@ -14,10 +14,10 @@ use Rattle.meaning.specs.Words.{member, up_from}
 use Rattle.laws.specs.Runs.{Up}
 use Rattle.laws.specs.Stands.{All}
 use Rattle.differences.specs.Content.{Says, Content}
-use Rattle.differences.specs.Entries.{Entry, each, beside, keys_of, atKey, byKey, countSame, ranked, partner, leftRule, rightRule, ifThere, atRank, longer, ruleEntries, atField, pairEntries, sameSays, firstEntries, wholeEntries, formatEntry, differences}
-use Rattle.difference_laws.specs.Equal.{tells-says}
+use Rattle.differences.specs.Entries.{Entry, each, beside, keys_of, at_key, by_key, count_same, ranked, partner, left_rule, right_rule, if_there, at_rank, longer, rule_entries, at_field, pair_entries, same_says, first_entries, whole_entries, format_entry, differences}
+use Rattle.difference_laws.specs.Equal.{tells_says}
 use Rattle.difference_laws.specs.Pairing.{found, finds}
-use Rattle.difference_laws.specs.Walks.{or_right, or_cases, keys-left, keys-right, keys-up, member-up, up-member, up-from, longer-left, longer-right, ranked-in}
+use Rattle.difference_laws.specs.Walks.{or_right, or_cases, keys_left, keys_right, keys_up, member_up, up_member, up_from_lem, longer_left, longer_right, ranked_in}
 use Rattle.differences.specs.Differs.{In, Paired, RuleDiffers, KeyDiffers, ValueDiffers, PairDiffers, FirstDiffers, Differs, Precedes, InOrder, Lists}
 
 -- Two lists in order with the same entries are equal.
@@ -36,12 +36,12 @@ asymmetric e f (inr (a, inl b)) (inr (c, inr d)) = omega (arith, d.0)
 asymmetric e f (inr (a, inr b)) (inr (c, inl d)) = omega (arith, b.0)
 asymmetric e f (inr (a, inr b)) (inr (c, inr d)) = omega (arith, b.1, d.1)
 
-pub same-members : (es fs : List Entry) → InOrder es → InOrder fs → ((e : Entry) → In e es → In e fs) → ((e : Entry) → In e fs → In e es) → es ≡ fs
-same-members [] [] a b h k = refl
-same-members [] (f ∷ fs) a b h k = absurd (k f (inl refl))
-same-members (e ∷ es) [] a b h k = absurd (h e (inl refl))
-same-members (e ∷ es) (f ∷ fs) a b h k =
-    ap₂ (λ (x : Entry) (y : List Entry). x ∷ y) heads (same-members es fs a.1 b.1 forth back)
+pub same_members : (es fs : List Entry) → InOrder es → InOrder fs → ((e : Entry) → In e es → In e fs) → ((e : Entry) → In e fs → In e es) → es ≡ fs
+same_members [] [] a b h k = refl
+same_members [] (f ∷ fs) a b h k = absurd (k f (inl refl))
+same_members (e ∷ es) [] a b h k = absurd (h e (inl refl))
+same_members (e ∷ es) (f ∷ fs) a b h k =
+    ap₂ (λ (x : Entry) (y : List Entry). x ∷ y) heads (same_members es fs a.1 b.1 forth back)
   where
     heads : e ≡ f
     heads = go (h e (inl refl)) (k f (inl refl))
@@ -68,14 +68,14 @@ same-members (e ∷ es) (f ∷ fs) a b h k =
 -- Walks: what is listed.
 
 module _ {A : Type 0} (x : A) where
-  in-front : (a b : List A) → In x a → In x (a ++ b)
-  in-front [] b i = absurd i
-  in-front (y ∷ a) b (inl e) = inl e
-  in-front (y ∷ a) b (inr i) = inr (in-front a b i)
+  in_front : (a b : List A) → In x a → In x (a ++ b)
+  in_front [] b i = absurd i
+  in_front (y ∷ a) b (inl e) = inl e
+  in_front (y ∷ a) b (inr i) = inr (in_front a b i)
 
-  in-back : (a b : List A) → In x b → In x (a ++ b)
-  in-back [] b i = i
-  in-back (y ∷ a) b i = inr (in-back a b i)
+  in_back : (a b : List A) → In x b → In x (a ++ b)
+  in_back [] b i = i
+  in_back (y ∷ a) b i = inr (in_back a b i)
 
   in_either : (a b : List A) → In x (a ++ b) → In x a ⊎ In x b
   in_either [] b i = inr i
@@ -83,11 +83,11 @@ module _ {A : Type 0} (x : A) where
   in_either (y ∷ a) b (inr i) = ⊎_elim (λ j. inl (inr j)) (λ j. inr j) (in_either a b i)
 
 module _ (f : ℕ → List Entry) (e : Entry) where
-  in-each : (ks : List ℕ) (k : ℕ) → member k ks ≡ true → In e (f k) → In e (each f ks)
+  in_each : (ks : List ℕ) (k : ℕ) → member k ks ≡ true → In e (f k) → In e (each f ks)
   unfolding each member
-  in-each [] k m i = absurd (true≢false (sym m))
-  in-each (a ∷ ks) k m i =
-      or_cases (eqb a k) (member k ks) m (λ q. in-front e (f a) (each f ks) (rw (eqb-true a k q) i)) (λ q. in-back e (f a) (each f ks) (in-each ks k q i))
+  in_each [] k m i = absurd (true≢false (sym m))
+  in_each (a ∷ ks) k m i =
+      or_cases (eqb a k) (member k ks) m (λ q. in_front e (f a) (each f ks) (rw (eqb-true a k q) i)) (λ q. in_back e (f a) (each f ks) (in_each ks k q i))
 
   each_in : (ks : List ℕ) → In e (each f ks) → (k : ℕ) × (member k ks ≡ true) × In e (f k)
   unfolding each member
@@ -113,9 +113,9 @@ unfolding each
 each_all P f h [] = tt
 each_all P f h (k ∷ ks) = all_append P (f k) (each f ks) (h k) (each_all P f h ks)
 
-order-append : (a b : List Entry) → InOrder a → InOrder b → All (λ e. All (Precedes e) b) a → InOrder (a ++ b)
-order-append [] b h k p = k
-order-append (e ∷ a) b h k p = (all_append (Precedes e) a b h.0 p.0, order-append a b h.1 k p.1)
+order_append : (a b : List Entry) → InOrder a → InOrder b → All (λ e. All (Precedes e) b) a → InOrder (a ++ b)
+order_append [] b h k p = k
+order_append (e ∷ a) b h k p = (all_append (Precedes e) a b h.0 p.0, order_append a b h.1 k p.1)
 
 -- where the entries of each number are told by it, and those of a lower number precede
 module _ (R : ℕ → Entry → Type 0) (apart : (k n : ℕ) (e f : Entry) → k < n → R k e → R n f → Precedes e f) (f : ℕ → List Entry) (told : (k : ℕ) → All (R k) (f k)) (order : (k : ℕ) → InOrder (f k)) where
@@ -126,96 +126,96 @@ module _ (R : ℕ → Entry → Type 0) (apart : (k n : ℕ) (e f : Entry) → k
       all_append (λ e. (n : ℕ) × (low ≤ n) × R n e) (f k) (each f ks) (all_both (R k) _ (λ e q. (k, u.0, q)) (f k) (told k))
       (all_both (λ e. (n : ℕ) × (k + 1 ≤ n) × R n e) _ (λ e q. (q.0, omega (arith, u.0, q.1), q.2)) (each f ks) (later (k + 1) ks u.1))
 
-  each-order : (low : ℕ) (ks : List ℕ) → Up low ks → InOrder (each f ks)
+  each_order : (low : ℕ) (ks : List ℕ) → Up low ks → InOrder (each f ks)
   unfolding each
-  each-order low [] u = tt
-  each-order low (k ∷ ks) u =
-      order-append (f k) (each f ks) (order k) (each-order (k + 1) ks u.1)
+  each_order low [] u = tt
+  each_order low (k ∷ ks) u =
+      order_append (f k) (each f ks) (order k) (each_order (k + 1) ks u.1)
       (all_both (R k) _ (λ e q. all_both (λ h. (n : ℕ) × (k + 1 ≤ n) × R n h) (Precedes e) (λ h p. apart k p.0 e h (omega (arith, p.1)) q p.2) (each f ks) (later (k + 1) ks u.1)) (f k) (told k))
 
 -- Rules.
 
 module _ (g : ℕ) (l r : List Says) where
   -- what is paired is found, from either side
-  paired-left : (i j : ℕ) (p : Paired l r i j) → partner sameSays l r i p.rule ≡ some j
+  paired_left : (i j : ℕ) (p : Paired l r i j) → partner same_says l r i p.rule ≡ some j
   unfolding partner
-  paired-left i j p = rw p.before (finds tells-says p.rule r j p.on-right)
+  paired_left i j p = rw p.before (finds tells_says p.rule r j p.on_right)
 
-  paired-right : (i j : ℕ) (p : Paired l r i j) → partner sameSays r l j p.rule ≡ some i
+  paired_right : (i j : ℕ) (p : Paired l r i j) → partner same_says r l j p.rule ≡ some i
   unfolding partner
-  paired-right i j p = rw (← p.before) (finds tells-says p.rule l i p.on-left)
+  paired_right i j p = rw (← p.before) (finds tells_says p.rule l i p.on_left)
 
   -- what is found is paired
-  left-paired : (i j : ℕ) (x : Says) → ranked l i ≡ some x → partner sameSays l r i x ≡ some j → Paired l r i j
+  left_paired : (i j : ℕ) (x : Says) → ranked l i ≡ some x → partner same_says l r i x ≡ some j → Paired l r i j
   unfolding partner
-  left-paired i j x h e = let f = found tells-says x (countSame sameSays x (take i l)) r j e in record { rule = x; on-left = h; on-right = f.0; before = sym f.1 }
+  left_paired i j x h e = let f = found tells_says x (count_same same_says x (take i l)) r j e in record { rule = x; on_left = h; on_right = f.0; before = sym f.1 }
 
-  right-paired : (i j : ℕ) (y : Says) → ranked r j ≡ some y → partner sameSays r l j y ≡ some i → Paired l r i j
+  right_paired : (i j : ℕ) (y : Says) → ranked r j ≡ some y → partner same_says r l j y ≡ some i → Paired l r i j
   unfolding partner
-  right-paired i j y h e = let f = found tells-says y (countSame sameSays y (take j r)) l i e in record { rule = y; on-left = f.0; on-right = h; before = f.1 }
+  right_paired i j y h e = let f = found tells_says y (count_same same_says y (take j r)) l i e in record { rule = y; on_left = f.0; on_right = h; before = f.1 }
 
-  left-part : ℕ → List Entry
-  left-part i = ifThere (λ x. leftRule g i (partner sameSays l r i x)) (ranked l i)
+  left_part : ℕ → List Entry
+  left_part i = if_there (λ x. left_rule g i (partner same_says l r i x)) (ranked l i)
 
-  right-part : ℕ → List Entry
-  right-part i = ifThere (λ x. rightRule g i (partner sameSays r l i x)) (ranked r i)
+  right_part : ℕ → List Entry
+  right_part i = if_there (λ x. right_rule g i (partner same_says r l i x)) (ranked r i)
 
-  rules-only : (e : Entry) → In e (ruleEntries sameSays g l r) → RuleDiffers g l r e
-  unfolding ruleEntries atRank ifThere leftRule rightRule left-part right-part
-  rules-only e k =
-      let p = each_in (atRank sameSays g l r) e (up_from 0 (longer (length l) (length r))) k in
-      ⊎_elim (on-left p.0 (ranked l p.0) refl) (on-right p.0 (ranked r p.0) refl) (in_either e (left-part p.0) (right-part p.0) p.2)
+  rules_only : (e : Entry) → In e (rule_entries same_says g l r) → RuleDiffers g l r e
+  unfolding rule_entries at_rank if_there left_rule right_rule left_part right_part
+  rules_only e k =
+      let p = each_in (at_rank same_says g l r) e (up_from 0 (longer (length l) (length r))) k in
+      ⊎_elim (on_left p.0 (ranked l p.0) refl) (on_right p.0 (ranked r p.0) refl) (in_either e (left_part p.0) (right_part p.0) p.2)
     where
-      on-left : (i : ℕ) (o : Option Says) → ranked l i ≡ o → In e (ifThere (λ x. leftRule g i (partner sameSays l r i x)) o) → RuleDiffers g l r e
-      on-left i none h k = absurd k
-      on-left i (some x) h k = go (partner sameSays l r i x) refl k
+      on_left : (i : ℕ) (o : Option Says) → ranked l i ≡ o → In e (if_there (λ x. left_rule g i (partner same_says l r i x)) o) → RuleDiffers g l r e
+      on_left i none h k = absurd k
+      on_left i (some x) h k = go (partner same_says l r i x) refl k
         where
-          go : (o : Option ℕ) → partner sameSays l r i x ≡ o → In e (leftRule g i o) → RuleDiffers g l r e
+          go : (o : Option ℕ) → partner same_says l r i x ≡ o → In e (left_rule g i o) → RuleDiffers g l r e
           go none q (inl z) =
-              RuleDiffers.left-only i x h (λ j p. none-ne-some j (sym q ∙ ap (partner sameSays l r i) (some-injective x p.rule (sym h ∙ p.on-left)) ∙ paired-left i j p)) (sym z)
+              RuleDiffers.left_only i x h (λ j p. none-ne-some j (sym q ∙ ap (partner same_says l r i) (some-injective x p.rule (sym h ∙ p.on_left)) ∙ paired_left i j p)) (sym z)
           go none q (inr z) = absurd z
           go (some j) q z = moves (eqb i j) refl z
             where
               moves : (b : Bool) → eqb i j ≡ b → In e (cond {A = List Entry} b [] (record { sort = 4; side = 0; first = g; rank = i; left = i; right = j } ∷ [])) → RuleDiffers g l r e
               moves true w z = absurd z
-              moves false w (inl z) = RuleDiffers.moved i j (left-paired i j x h q) (eqb-false i j w) (sym z)
+              moves false w (inl z) = RuleDiffers.moved i j (left_paired i j x h q) (eqb-false i j w) (sym z)
               moves false w (inr z) = absurd z
 
-      on-right : (j : ℕ) (o : Option Says) → ranked r j ≡ o → In e (ifThere (λ x. rightRule g j (partner sameSays r l j x)) o) → RuleDiffers g l r e
-      on-right j none h k = absurd k
-      on-right j (some y) h k = go (partner sameSays r l j y) refl k
+      on_right : (j : ℕ) (o : Option Says) → ranked r j ≡ o → In e (if_there (λ x. right_rule g j (partner same_says r l j x)) o) → RuleDiffers g l r e
+      on_right j none h k = absurd k
+      on_right j (some y) h k = go (partner same_says r l j y) refl k
         where
-          go : (o : Option ℕ) → partner sameSays r l j y ≡ o → In e (rightRule g j o) → RuleDiffers g l r e
+          go : (o : Option ℕ) → partner same_says r l j y ≡ o → In e (right_rule g j o) → RuleDiffers g l r e
           go none q (inl z) =
-              RuleDiffers.right-only j y h (λ i p. none-ne-some i (sym q ∙ ap (partner sameSays r l j) (some-injective y p.rule (sym h ∙ p.on-right)) ∙ paired-right i j p)) (sym z)
+              RuleDiffers.right_only j y h (λ i p. none-ne-some i (sym q ∙ ap (partner same_says r l j) (some-injective y p.rule (sym h ∙ p.on_right)) ∙ paired_right i j p)) (sym z)
           go none q (inr z) = absurd z
           go (some i) q z = absurd z
 
-  rules-all : (e : Entry) → RuleDiffers g l r e → In e (ruleEntries sameSays g l r)
-  unfolding ruleEntries atRank ifThere leftRule rightRule left-part right-part
-  rules-all e (RuleDiffers.left-only i x h alone q) =
-      in-each (atRank sameSays g l r) e (up_from 0 n) i (member-up 0 n i (omega arith) (omega (arith, longer-left (length l) (length r) i (ranked-in l i x h))))
-      (in-front e (left-part i) (right-part i) (rw h (go (partner sameSays l r i x) refl)))
+  rules_all : (e : Entry) → RuleDiffers g l r e → In e (rule_entries same_says g l r)
+  unfolding rule_entries at_rank if_there left_rule right_rule left_part right_part
+  rules_all e (RuleDiffers.left_only i x h alone q) =
+      in_each (at_rank same_says g l r) e (up_from 0 n) i (member_up 0 n i (omega arith) (omega (arith, longer_left (length l) (length r) i (ranked_in l i x h))))
+      (in_front e (left_part i) (right_part i) (rw h (go (partner same_says l r i x) refl)))
     where
       n : ℕ
       n = longer (length l) (length r)
 
-      go : (o : Option ℕ) → partner sameSays l r i x ≡ o → In e (leftRule g i o)
+      go : (o : Option ℕ) → partner same_says l r i x ≡ o → In e (left_rule g i o)
       go none w = inl (sym q)
-      go (some j) w = absurd (alone j (left-paired i j x h w))
-  rules-all e (RuleDiffers.right-only j y h alone q) =
-      in-each (atRank sameSays g l r) e (up_from 0 n) j (member-up 0 n j (omega arith) (omega (arith, longer-right (length l) (length r) j (ranked-in r j y h))))
-      (in-back e (left-part j) (right-part j) (rw h (go (partner sameSays r l j y) refl)))
+      go (some j) w = absurd (alone j (left_paired i j x h w))
+  rules_all e (RuleDiffers.right_only j y h alone q) =
+      in_each (at_rank same_says g l r) e (up_from 0 n) j (member_up 0 n j (omega arith) (omega (arith, longer_right (length l) (length r) j (ranked_in r j y h))))
+      (in_back e (left_part j) (right_part j) (rw h (go (partner same_says r l j y) refl)))
     where
       n : ℕ
       n = longer (length l) (length r)
 
-      go : (o : Option ℕ) → partner sameSays r l j y ≡ o → In e (rightRule g j o)
+      go : (o : Option ℕ) → partner same_says r l j y ≡ o → In e (right_rule g j o)
       go none w = inl (sym q)
-      go (some i) w = absurd (alone i (right-paired i j y h w))
-  rules-all e (RuleDiffers.moved i j p ne q) =
-      in-each (atRank sameSays g l r) e (up_from 0 n) i (member-up 0 n i (omega arith) (omega (arith, longer-left (length l) (length r) i (ranked-in l i p.rule p.on-left))))
-      (in-front e (left-part i) (right-part i) (rw (p.on-left, paired-left i j p, ne_eqb i j ne) (inl (sym q))))
+      go (some i) w = absurd (alone i (right_paired i j y h w))
+  rules_all e (RuleDiffers.moved i j p ne q) =
+      in_each (at_rank same_says g l r) e (up_from 0 n) i (member_up 0 n i (omega arith) (omega (arith, longer_left (length l) (length r) i (ranked_in l i p.rule p.on_left))))
+      (in_front e (left_part i) (right_part i) (rw (p.on_left, paired_left i j p, ne_eqb i j ne) (inl (sym q))))
     where
       n : ℕ
       n = longer (length l) (length r)
@@ -224,15 +224,15 @@ module _ (g : ℕ) (l r : List Says) where
   OfRank : ℕ → Entry → Type 0
   OfRank i e = (e.first ≡ g) × (e.rank ≡ i)
 
-  rules-told : (i : ℕ) → All (OfRank i) (atRank sameSays g l r i)
-  unfolding atRank ifThere leftRule rightRule OfRank left-part right-part
-  rules-told i = all_append (OfRank i) (left-part i) (right-part i) (on-left (ranked l i)) (on-right (ranked r i))
+  rules_told : (i : ℕ) → All (OfRank i) (at_rank same_says g l r i)
+  unfolding at_rank if_there left_rule right_rule OfRank left_part right_part
+  rules_told i = all_append (OfRank i) (left_part i) (right_part i) (on_left (ranked l i)) (on_right (ranked r i))
     where
-      on-left : (o : Option Says) → All (OfRank i) (ifThere (λ x. leftRule g i (partner sameSays l r i x)) o)
-      on-left none = tt
-      on-left (some x) = go (partner sameSays l r i x)
+      on_left : (o : Option Says) → All (OfRank i) (if_there (λ x. left_rule g i (partner same_says l r i x)) o)
+      on_left none = tt
+      on_left (some x) = go (partner same_says l r i x)
         where
-          go : (o : Option ℕ) → All (OfRank i) (leftRule g i o)
+          go : (o : Option ℕ) → All (OfRank i) (left_rule g i o)
           go none = ((refl, refl), tt)
           go (some j) = moves (eqb i j)
             where
@@ -240,19 +240,19 @@ module _ (g : ℕ) (l r : List Says) where
               moves true = tt
               moves false = ((refl, refl), tt)
 
-      on-right : (o : Option Says) → All (OfRank i) (ifThere (λ x. rightRule g i (partner sameSays r l i x)) o)
-      on-right none = tt
-      on-right (some x) = go (partner sameSays r l i x)
+      on_right : (o : Option Says) → All (OfRank i) (if_there (λ x. right_rule g i (partner same_says r l i x)) o)
+      on_right none = tt
+      on_right (some x) = go (partner same_says r l i x)
         where
-          go : (o : Option ℕ) → All (OfRank i) (rightRule g i o)
+          go : (o : Option ℕ) → All (OfRank i) (right_rule g i o)
           go none = ((refl, refl), tt)
           go (some j) = tt
 
-  rules-in-order : (i : ℕ) → InOrder (atRank sameSays g l r i)
-  unfolding atRank ifThere leftRule rightRule left-part right-part
-  rules-in-order i = go (ranked l i) (ranked r i)
+  rules_in_order : (i : ℕ) → InOrder (at_rank same_says g l r i)
+  unfolding at_rank if_there left_rule right_rule left_part right_part
+  rules_in_order i = go (ranked l i) (ranked r i)
     where
-      alone : (o : Option ℕ) → InOrder (leftRule g i o)
+      alone : (o : Option ℕ) → InOrder (left_rule g i o)
       alone none = (tt, tt)
       alone (some j) = moves (eqb i j)
         where
@@ -260,7 +260,7 @@ module _ (g : ℕ) (l r : List Says) where
           moves true = tt
           moves false = (tt, tt)
 
-      two : (o p : Option ℕ) → InOrder (leftRule g i o ++ rightRule g i p)
+      two : (o p : Option ℕ) → InOrder (left_rule g i o ++ right_rule g i p)
       two none none = ((inr (refl, inr (refl, omega arith)), tt), (tt, tt))
       two none (some k) = (tt, tt)
       two (some j) none = moves (eqb i j)
@@ -278,36 +278,36 @@ module _ (g : ℕ) (l r : List Says) where
       ends [] h = tt
       ends (e ∷ es) h = (all_append (Precedes e) es [] h.0 tt, ends es h.1)
 
-      right : (p : Option ℕ) → InOrder (rightRule g i p)
+      right : (p : Option ℕ) → InOrder (right_rule g i p)
       right none = (tt, tt)
       right (some j) = tt
 
-      go : (o p : Option Says) → InOrder (ifThere (λ x. leftRule g i (partner sameSays l r i x)) o ++ ifThere (λ x. rightRule g i (partner sameSays r l i x)) p)
+      go : (o p : Option Says) → InOrder (if_there (λ x. left_rule g i (partner same_says l r i x)) o ++ if_there (λ x. right_rule g i (partner same_says r l i x)) p)
       go none none = tt
-      go none (some y) = right (partner sameSays r l i y)
-      go (some x) none = ends (leftRule g i (partner sameSays l r i x)) (alone (partner sameSays l r i x))
-      go (some x) (some y) = two (partner sameSays l r i x) (partner sameSays r l i y)
+      go none (some y) = right (partner same_says r l i y)
+      go (some x) none = ends (left_rule g i (partner same_says l r i x)) (alone (partner same_says l r i x))
+      go (some x) (some y) = two (partner same_says l r i x) (partner same_says r l i y)
 
-  rules-order : InOrder (ruleEntries sameSays g l r)
-  unfolding ruleEntries OfRank
-  rules-order =
-      each-order OfRank (λ k n e f h a b. inr (a.0 ∙ sym b.0, inl (omega (arith, a.1, b.1)))) (atRank sameSays g l r) rules-told rules-in-order 0 (up_from 0 (longer (length l) (length r))) (up-from 0 (longer (length l) (length r)))
+  rules_order : InOrder (rule_entries same_says g l r)
+  unfolding rule_entries OfRank
+  rules_order =
+      each_order OfRank (λ k n e f h a b. inr (a.0 ∙ sym b.0, inl (omega (arith, a.1, b.1)))) (at_rank same_says g l r) rules_told rules_in_order 0 (up_from 0 (longer (length l) (length r))) (up_from_lem 0 (longer (length l) (length r)))
 
-  rules-first : All (λ e. e.first ≡ g) (ruleEntries sameSays g l r)
-  unfolding ruleEntries OfRank
-  rules-first = each_all (λ e. e.first ≡ g) (atRank sameSays g l r) (λ i. all_both (OfRank i) _ (λ e q. q.0) (atRank sameSays g l r i) (rules-told i)) (up_from 0 (longer (length l) (length r)))
+  rules_first : All (λ e. e.first ≡ g) (rule_entries same_says g l r)
+  unfolding rule_entries OfRank
+  rules_first = each_all (λ e. e.first ≡ g) (at_rank same_says g l r) (λ i. all_both (OfRank i) _ (λ e q. q.0) (at_rank same_says g l r i) (rules_told i)) (up_from 0 (longer (length l) (length r)))
 
 -- By key.
 
 module _ {A : Type 0} (only : ℕ → ℕ → Entry) (both : ℕ → A → A → List Entry) (Both : ℕ → A → A → Entry → Type 0) (l r : List (ℕ × A)) where
   at : ℕ → List Entry
-  at k = atKey (only k) (both k) (beside l k) (beside r k)
+  at k = at_key (only k) (both k) (beside l k) (beside r k)
 
-  keys-only : ((k : ℕ) (a b : A) (e : Entry) → In e (both k a b) → Both k a b e) → (e : Entry) → In e (byKey only both l r) → KeyDiffers only Both l r e
-  unfolding byKey atKey at
-  keys-only says e i = let p = each_in at e (keys_of l r) i in go p.0 (beside l p.0) (beside r p.0) refl refl p.2
+  keys_only : ((k : ℕ) (a b : A) (e : Entry) → In e (both k a b) → Both k a b e) → (e : Entry) → In e (by_key only both l r) → KeyDiffers only Both l r e
+  unfolding by_key at_key at
+  keys_only says e i = let p = each_in at e (keys_of l r) i in go p.0 (beside l p.0) (beside r p.0) refl refl p.2
     where
-      go : (k : ℕ) (x y : Option A) → beside l k ≡ x → beside r k ≡ y → In e (atKey (only k) (both k) x y) → KeyDiffers only Both l r e
+      go : (k : ℕ) (x y : Option A) → beside l k ≡ x → beside r k ≡ y → In e (at_key (only k) (both k) x y) → KeyDiffers only Both l r e
       go k none none a b z = absurd z
       go k (some x) none a b (inl z) = KeyDiffers.in_left k x a b (sym z)
       go k (some x) none a b (inr z) = absurd z
@@ -315,49 +315,49 @@ module _ {A : Type 0} (only : ℕ → ℕ → Entry) (both : ℕ → A → A →
       go k none (some y) a b (inr z) = absurd z
       go k (some x) (some y) a b z = KeyDiffers.in_both k x y a b (says k x y e z)
 
-  keys-all : ((k : ℕ) (a b : A) (e : Entry) → Both k a b e → In e (both k a b)) → (e : Entry) → KeyDiffers only Both l r e → In e (byKey only both l r)
-  unfolding byKey atKey at
-  keys-all says e (KeyDiffers.in_left k x a b z) = in-each at e (keys_of l r) k (keys-left l r k x a) (rw (a, b) (inl (sym z)))
-  keys-all says e (KeyDiffers.in_right k y a b z) = in-each at e (keys_of l r) k (keys-right l r k y b) (rw (a, b) (inl (sym z)))
-  keys-all says e (KeyDiffers.in_both k x y a b z) = in-each at e (keys_of l r) k (keys-left l r k x a) (rw (a, b) (says k x y e z))
+  keys_all : ((k : ℕ) (a b : A) (e : Entry) → Both k a b e → In e (both k a b)) → (e : Entry) → KeyDiffers only Both l r e → In e (by_key only both l r)
+  unfolding by_key at_key at
+  keys_all says e (KeyDiffers.in_left k x a b z) = in_each at e (keys_of l r) k (keys_left l r k x a) (rw (a, b) (inl (sym z)))
+  keys_all says e (KeyDiffers.in_right k y a b z) = in_each at e (keys_of l r) k (keys_right l r k y b) (rw (a, b) (inl (sym z)))
+  keys_all says e (KeyDiffers.in_both k x y a b z) = in_each at e (keys_of l r) k (keys_left l r k x a) (rw (a, b) (says k x y e z))
 
   -- where each entry is told by its key
   module _ (R : ℕ → Entry → Type 0) (apart : (k n : ℕ) (e f : Entry) → k < n → R k e → R n f → Precedes e f)
       (one : (k side : ℕ) → R k (only k side)) (two : (k : ℕ) (a b : A) → All (R k) (both k a b)) (order : (k : ℕ) (a b : A) → InOrder (both k a b)) where
-    keys-told : (k : ℕ) → All (R k) (at k)
-    unfolding atKey at
-    keys-told k = go (beside l k) (beside r k)
+    keys_told : (k : ℕ) → All (R k) (at k)
+    unfolding at_key at
+    keys_told k = go (beside l k) (beside r k)
       where
-        go : (x y : Option A) → All (R k) (atKey (only k) (both k) x y)
+        go : (x y : Option A) → All (R k) (at_key (only k) (both k) x y)
         go none none = tt
         go (some x) none = (one k 0, tt)
         go none (some y) = (one k 1, tt)
         go (some x) (some y) = two k x y
 
-    keys-in-order : (k : ℕ) → InOrder (at k)
-    unfolding atKey at
-    keys-in-order k = go (beside l k) (beside r k)
+    keys_in_order : (k : ℕ) → InOrder (at k)
+    unfolding at_key at
+    keys_in_order k = go (beside l k) (beside r k)
       where
-        go : (x y : Option A) → InOrder (atKey (only k) (both k) x y)
+        go : (x y : Option A) → InOrder (at_key (only k) (both k) x y)
         go none none = tt
         go (some x) none = (tt, tt)
         go none (some y) = (tt, tt)
         go (some x) (some y) = order k x y
 
-    keys-order : InOrder (byKey only both l r)
-    unfolding byKey at
-    keys-order = each-order R apart at keys-told keys-in-order 0 (keys_of l r) (keys-up l r)
+    keys_order : InOrder (by_key only both l r)
+    unfolding by_key at
+    keys_order = each_order R apart at keys_told keys_in_order 0 (keys_of l r) (keys_up l r)
 
-    keys-each : (P : Entry → Type 0) → ((k : ℕ) (e : Entry) → R k e → P e) → All P (byKey only both l r)
-    unfolding byKey at
-    keys-each P h = each_all P at (λ k. all_both (R k) P (h k) (at k) (keys-told k)) (keys_of l r)
+    keys_each : (P : Entry → Type 0) → ((k : ℕ) (e : Entry) → R k e → P e) → All P (by_key only both l r)
+    unfolding by_key at
+    keys_each P h = each_all P at (λ k. all_both (R k) P (h k) (at k) (keys_told k)) (keys_of l r)
 
 -- Values and pairs.
 
 module _ (g second : ℕ) (a b : List ℕ) where
-  values-only : (e : Entry) → In e (each (atField g second a b) (up_from 0 8)) → ValueDiffers g second a b e
-  unfolding atField
-  values-only e i = let p = each_in (atField g second a b) e (up_from 0 8) i in go p.0 (up-member 0 8 p.0 p.1) (eqb (get_or a p.0 0) (get_or b p.0 0)) refl p.2
+  values_only : (e : Entry) → In e (each (at_field g second a b) (up_from 0 8)) → ValueDiffers g second a b e
+  unfolding at_field
+  values_only e i = let p = each_in (at_field g second a b) e (up_from 0 8) i in go p.0 (up_member 0 8 p.0 p.1) (eqb (get_or a p.0 0) (get_or b p.0 0)) refl p.2
     where
       go : (f : ℕ) → f < 0 + 8 → (t : Bool) → eqb (get_or a f 0) (get_or b f 0) ≡ t
           → In e (cond {A = List Entry} t [] (record { sort = 6; side = f; first = g; rank = second; left = get_or a f 0; right = get_or b f 0 } ∷ [])) → ValueDiffers g second a b e
@@ -365,58 +365,58 @@ module _ (g second : ℕ) (a b : List ℕ) where
       go f h false q (inl z) = record { field = f; eight = omega arith; changed = eqb-false (get_or a f 0) (get_or b f 0) q; is = sym z }
       go f h false q (inr z) = absurd z
 
-  values-all : (e : Entry) → ValueDiffers g second a b e → In e (each (atField g second a b) (up_from 0 8))
-  unfolding atField
-  values-all e d =
-      in-each (atField g second a b) e (up_from 0 8) d.field (member-up 0 8 d.field (omega arith) (omega (arith, d.eight)))
+  values_all : (e : Entry) → ValueDiffers g second a b e → In e (each (at_field g second a b) (up_from 0 8))
+  unfolding at_field
+  values_all e d =
+      in_each (at_field g second a b) e (up_from 0 8) d.field (member_up 0 8 d.field (omega arith) (omega (arith, d.eight)))
       (rw (ne_eqb (get_or a d.field 0) (get_or b d.field 0) d.changed) (inl (sym d.is)))
 
   OfField : ℕ → Entry → Type 0
   OfField f e = (e.first ≡ g) × (e.rank ≡ second) × (e.side ≡ f)
 
-  values-told : (f : ℕ) → All (OfField f) (atField g second a b f)
-  unfolding atField OfField
-  values-told f = go (eqb (get_or a f 0) (get_or b f 0))
+  values_told : (f : ℕ) → All (OfField f) (at_field g second a b f)
+  unfolding at_field OfField
+  values_told f = go (eqb (get_or a f 0) (get_or b f 0))
     where
       go : (t : Bool) → All (OfField f) (cond {A = List Entry} t [] (record { sort = 6; side = f; first = g; rank = second; left = get_or a f 0; right = get_or b f 0 } ∷ []))
       go true = tt
       go false = ((refl, refl, refl), tt)
 
-  values-in-order : (f : ℕ) → InOrder (atField g second a b f)
-  unfolding atField
-  values-in-order f = go (eqb (get_or a f 0) (get_or b f 0))
+  values_in_order : (f : ℕ) → InOrder (at_field g second a b f)
+  unfolding at_field
+  values_in_order f = go (eqb (get_or a f 0) (get_or b f 0))
     where
       go : (t : Bool) → InOrder (cond {A = List Entry} t [] (record { sort = 6; side = f; first = g; rank = second; left = get_or a f 0; right = get_or b f 0 } ∷ []))
       go true = tt
       go false = (tt, tt)
 
-  values-order : InOrder (each (atField g second a b) (up_from 0 8))
+  values_order : InOrder (each (at_field g second a b) (up_from 0 8))
   unfolding OfField
-  values-order =
-      each-order OfField (λ k n e f h x y. inr (x.0 ∙ sym y.0, inr (x.1 ∙ sym y.1, omega (arith, x.2, y.2)))) (atField g second a b) values-told values-in-order 0 (up_from 0 8) (up-from 0 8)
+  values_order =
+      each_order OfField (λ k n e f h x y. inr (x.0 ∙ sym y.0, inr (x.1 ∙ sym y.1, omega (arith, x.2, y.2)))) (at_field g second a b) values_told values_in_order 0 (up_from 0 8) (up_from_lem 0 8)
 
-  values-second : All (λ e. (e.first ≡ g) × (e.rank ≡ second)) (each (atField g second a b) (up_from 0 8))
+  values_second : All (λ e. (e.first ≡ g) × (e.rank ≡ second)) (each (at_field g second a b) (up_from 0 8))
   unfolding OfField
-  values-second = each_all (λ e. (e.first ≡ g) × (e.rank ≡ second)) (atField g second a b) (λ f. all_both (OfField f) _ (λ e q. (q.0, q.1)) (atField g second a b f) (values-told f)) (up_from 0 8)
+  values_second = each_all (λ e. (e.first ≡ g) × (e.rank ≡ second)) (at_field g second a b) (λ f. all_both (OfField f) _ (λ e q. (q.0, q.1)) (at_field g second a b f) (values_told f)) (up_from 0 8)
 
 module _ (g : ℕ) (l r : List (ℕ × List ℕ)) where
-  pairs-only : (e : Entry) → In e (pairEntries g l r) → PairDiffers g l r e
-  unfolding pairEntries
-  pairs-only = keys-only _ _ (ValueDiffers g) l r (λ s a b. values-only g s a b)
+  pairs_only : (e : Entry) → In e (pair_entries g l r) → PairDiffers g l r e
+  unfolding pair_entries
+  pairs_only = keys_only _ _ (ValueDiffers g) l r (λ s a b. values_only g s a b)
 
-  pairs-all : (e : Entry) → PairDiffers g l r e → In e (pairEntries g l r)
-  unfolding pairEntries
-  pairs-all = keys-all _ _ (ValueDiffers g) l r (λ s a b. values-all g s a b)
+  pairs_all : (e : Entry) → PairDiffers g l r e → In e (pair_entries g l r)
+  unfolding pair_entries
+  pairs_all = keys_all _ _ (ValueDiffers g) l r (λ s a b. values_all g s a b)
 
-  pairs-order : InOrder (pairEntries g l r)
-  unfolding pairEntries
-  pairs-order =
-      keys-order _ _ (ValueDiffers g) l r (λ s e. (e.first ≡ g) × (e.rank ≡ s)) (λ k n e f h x y. inr (x.0 ∙ sym y.0, inl (omega (arith, x.1, y.1)))) (λ s side. (refl, refl)) (λ s a b. values-second g s a b) (λ s a b. values-order g s a b)
+  pairs_order : InOrder (pair_entries g l r)
+  unfolding pair_entries
+  pairs_order =
+      keys_order _ _ (ValueDiffers g) l r (λ s e. (e.first ≡ g) × (e.rank ≡ s)) (λ k n e f h x y. inr (x.0 ∙ sym y.0, inl (omega (arith, x.1, y.1)))) (λ s side. (refl, refl)) (λ s a b. values_second g s a b) (λ s a b. values_order g s a b)
 
-  pairs_first : All (λ e. e.first ≡ g) (pairEntries g l r)
-  unfolding pairEntries
+  pairs_first : All (λ e. e.first ≡ g) (pair_entries g l r)
+  unfolding pair_entries
   pairs_first =
-      keys-each _ _ (ValueDiffers g) l r (λ s e. (e.first ≡ g) × (e.rank ≡ s)) (λ k n e f h x y. inr (x.0 ∙ sym y.0, inl (omega (arith, x.1, y.1)))) (λ s side. (refl, refl)) (λ s a b. values-second g s a b) (λ s a b. values-order g s a b)
+      keys_each _ _ (ValueDiffers g) l r (λ s e. (e.first ≡ g) × (e.rank ≡ s)) (λ k n e f h x y. inr (x.0 ∙ sym y.0, inl (omega (arith, x.1, y.1)))) (λ s side. (refl, refl)) (λ s a b. values_second g s a b) (λ s a b. values_order g s a b)
       (λ e. e.first ≡ g) (λ k e q. q.0)
 
 -- First glyphs.
@@ -424,55 +424,55 @@ module _ (g : ℕ) (l r : List (ℕ × List ℕ)) where
 module _ {A : Type 0} (both : ℕ → List A → List A → List Entry) (Both : ℕ → List A → List A → Entry → Type 0)
     (says-only : (g : ℕ) (a b : List A) (e : Entry) → In e (both g a b) → Both g a b e) (Says-All : (g : ℕ) (a b : List A) (e : Entry) → Both g a b e → In e (both g a b))
     (first : (g : ℕ) (a b : List A) → All (λ e. e.first ≡ g) (both g a b)) (order : (g : ℕ) (a b : List A) → InOrder (both g a b)) (l r : List (ℕ × List A)) where
-  firsts-only : (e : Entry) → In e (firstEntries both l r) → FirstDiffers Both l r e
-  unfolding firstEntries
-  firsts-only = keys-only _ both Both l r says-only
+  firsts_only : (e : Entry) → In e (first_entries both l r) → FirstDiffers Both l r e
+  unfolding first_entries
+  firsts_only = keys_only _ both Both l r says-only
 
-  firsts-all : (e : Entry) → FirstDiffers Both l r e → In e (firstEntries both l r)
-  unfolding firstEntries
-  firsts-all = keys-all _ both Both l r Says-All
+  firsts_all : (e : Entry) → FirstDiffers Both l r e → In e (first_entries both l r)
+  unfolding first_entries
+  firsts_all = keys_all _ both Both l r Says-All
 
-  firsts-order : InOrder (firstEntries both l r)
-  unfolding firstEntries
-  firsts-order = keys-order _ both Both l r (λ g e. e.first ≡ g) (λ k n e f h x y. inl (omega arith)) (λ g side. refl) first order
+  firsts_order : InOrder (first_entries both l r)
+  unfolding first_entries
+  firsts_order = keys_order _ both Both l r (λ g e. e.first ≡ g) (λ k n e f h x y. inl (omega arith)) (λ g side. refl) first order
 
 -- Contents.
 
 -- the one entry of two formats
-formats : (f h : ℕ) (D : Entry → Type 0) → ((e : Entry) → D e → e ≡ formatEntry f h) → ((e : Entry) → e ≡ formatEntry f h → D e)
-    → InOrder (formatEntry f h ∷ []) × ((e : Entry) → D e → In e (formatEntry f h ∷ [])) × ((e : Entry) → In e (formatEntry f h ∷ []) → D e)
+formats : (f h : ℕ) (D : Entry → Type 0) → ((e : Entry) → D e → e ≡ format_entry f h) → ((e : Entry) → e ≡ format_entry f h → D e)
+    → InOrder (format_entry f h ∷ []) × ((e : Entry) → D e → In e (format_entry f h ∷ [])) × ((e : Entry) → In e (format_entry f h ∷ []) → D e)
 formats f h D to from = ((tt, tt), (λ e d. inl (sym (to e d))), λ e i. from e (⊎_elim (λ q. sym q) (λ q. absurd q) i))
 
-two_formats : (f h : ℕ) (l r : Content) → ((e : Entry) → Differs l r e → e ≡ formatEntry f h) → ((e : Entry) → e ≡ formatEntry f h → Differs l r e) → Lists l r (formatEntry f h ∷ [])
+two_formats : (f h : ℕ) (l r : Content) → ((e : Entry) → Differs l r e → e ≡ format_entry f h) → ((e : Entry) → e ≡ format_entry f h → Differs l r e) → Lists l r (format_entry f h ∷ [])
 two_formats f h l r to from = let p = formats f h (Differs l r) to from in record { ordered = p.0; all = p.1; only = p.2 }
 
 -- `differences` lists the exact differences of two contents.
-pub differences-lists : (l r : Content) → Lists l r (differences l r)
-unfolding differences wholeEntries
-differences-lists (Content.rules f l) (Content.rules h r) = go (eqb f h) refl
+pub differences_lists : (l r : Content) → Lists l r (differences l r)
+unfolding differences whole_entries
+differences_lists (Content.rules f l) (Content.rules h r) = go (eqb f h) refl
   where
-    go : (b : Bool) → eqb f h ≡ b → Lists (Content.rules f l) (Content.rules h r) (cond b (firstEntries (ruleEntries sameSays) l r) (formatEntry f h ∷ []))
+    go : (b : Bool) → eqb f h ≡ b → Lists (Content.rules f l) (Content.rules h r) (cond b (first_entries (rule_entries same_says) l r) (format_entry f h ∷ []))
     go true q = record {
-      ordered = firsts-order (ruleEntries sameSays) RuleDiffers rules-only rules-all rules-first rules-order l r;
-      all = λ e d. ⊎_elim (λ k. firsts-all (ruleEntries sameSays) RuleDiffers rules-only rules-all rules-first rules-order l r e k.1) (λ k. absurd (k.0 (eqb-true f h q))) d;
-      only = λ e i. inl (eqb-true f h q, firsts-only (ruleEntries sameSays) RuleDiffers rules-only rules-all rules-first rules-order l r e i);
+      ordered = firsts_order (rule_entries same_says) RuleDiffers rules_only rules_all rules_first rules_order l r;
+      all = λ e d. ⊎_elim (λ k. firsts_all (rule_entries same_says) RuleDiffers rules_only rules_all rules_first rules_order l r e k.1) (λ k. absurd (k.0 (eqb-true f h q))) d;
+      only = λ e i. inl (eqb-true f h q, firsts_only (rule_entries same_says) RuleDiffers rules_only rules_all rules_first rules_order l r e i);
     }
     go false q =
         let p = formats f h (Differs (Content.rules f l) (Content.rules h r)) (λ e d. ⊎_elim (λ k. absurd (eqb-false f h q k.0)) (λ k. k.1) d) (λ e k. inr (eqb-false f h q, k)) in
         record { ordered = p.0; all = p.1; only = p.2 }
-differences-lists (Content.whole x) (Content.whole y) = record { ordered = rules-order 0 (x ∷ []) (y ∷ []); all = rules-all 0 (x ∷ []) (y ∷ []); only = rules-only 0 (x ∷ []) (y ∷ []) }
-differences-lists (Content.pairs l) (Content.pairs r) = record {
-  ordered = firsts-order pairEntries PairDiffers pairs-only pairs-all pairs_first pairs-order l r;
-  all = firsts-all pairEntries PairDiffers pairs-only pairs-all pairs_first pairs-order l r;
-  only = firsts-only pairEntries PairDiffers pairs-only pairs-all pairs_first pairs-order l r;
+differences_lists (Content.whole x) (Content.whole y) = record { ordered = rules_order 0 (x ∷ []) (y ∷ []); all = rules_all 0 (x ∷ []) (y ∷ []); only = rules_only 0 (x ∷ []) (y ∷ []) }
+differences_lists (Content.pairs l) (Content.pairs r) = record {
+  ordered = firsts_order pair_entries PairDiffers pairs_only pairs_all pairs_first pairs_order l r;
+  all = firsts_all pair_entries PairDiffers pairs_only pairs_all pairs_first pairs_order l r;
+  only = firsts_only pair_entries PairDiffers pairs_only pairs_all pairs_first pairs_order l r;
 }
-differences-lists (Content.rules f l) (Content.whole y) = two_formats f 3 (Content.rules f l) (Content.whole y) (λ e d. d) (λ e d. d)
-differences-lists (Content.rules f l) (Content.pairs r) = two_formats f 1 (Content.rules f l) (Content.pairs r) (λ e d. d) (λ e d. d)
-differences-lists (Content.whole x) (Content.rules h r) = two_formats 3 h (Content.whole x) (Content.rules h r) (λ e d. d) (λ e d. d)
-differences-lists (Content.whole x) (Content.pairs r) = two_formats 3 1 (Content.whole x) (Content.pairs r) (λ e d. d) (λ e d. d)
-differences-lists (Content.pairs l) (Content.rules h r) = two_formats 1 h (Content.pairs l) (Content.rules h r) (λ e d. d) (λ e d. d)
-differences-lists (Content.pairs l) (Content.whole y) = two_formats 1 3 (Content.pairs l) (Content.whole y) (λ e d. d) (λ e d. d)
+differences_lists (Content.rules f l) (Content.whole y) = two_formats f 3 (Content.rules f l) (Content.whole y) (λ e d. d) (λ e d. d)
+differences_lists (Content.rules f l) (Content.pairs r) = two_formats f 1 (Content.rules f l) (Content.pairs r) (λ e d. d) (λ e d. d)
+differences_lists (Content.whole x) (Content.rules h r) = two_formats 3 h (Content.whole x) (Content.rules h r) (λ e d. d) (λ e d. d)
+differences_lists (Content.whole x) (Content.pairs r) = two_formats 3 1 (Content.whole x) (Content.pairs r) (λ e d. d) (λ e d. d)
+differences_lists (Content.pairs l) (Content.rules h r) = two_formats 1 h (Content.pairs l) (Content.rules h r) (λ e d. d) (λ e d. d)
+differences_lists (Content.pairs l) (Content.whole y) = two_formats 1 3 (Content.pairs l) (Content.whole y) (λ e d. d) (λ e d. d)
 
 -- Two lists of the exact differences are equal: each entry is fixed, with the rules that are paired.
-pub lists-once : (l r : Content) (es fs : List Entry) → Lists l r es → Lists l r fs → es ≡ fs
-lists-once l r es fs a b = same-members es fs a.ordered b.ordered (λ e i. b.all e (a.only e i)) (λ e i. a.all e (b.only e i))
+pub lists_once : (l r : Content) (es fs : List Entry) → Lists l r es → Lists l r fs → es ≡ fs
+lists_once l r es fs a b = same_members es fs a.ordered b.ordered (λ e i. b.all e (a.only e i)) (λ e i. a.all e (b.only e i))

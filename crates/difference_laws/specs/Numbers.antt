@@ -5,14 +5,14 @@ use Rattle.std.proofs.Common.{sym, ◌∙◌, eqb-true, eq-eqb}
 use Rattle.std.proofs.Math.Bool.{true, false, cond}
 use Rattle.std.proofs.Math.Option.{Option, none, some, get_or, some-injective, none-ne-some}
 use mathlib.Core.List.{List, [], ◌∷◌, ◌++◌}
-use Rattle.differences.specs.Entries.{oneOn, rankSame, ranked}
+use Rattle.differences.specs.Entries.{one_on, rank_same, ranked}
 use Rattle.difference_laws.specs.Equal.{Tells}
-use Rattle.difference_laws.specs.Pairing.{one_on, found}
+use Rattle.difference_laws.specs.Pairing.{one_on_lem, found}
 
 module _ {A : Type 0} (same : A → A → Bool) where
   -- the rank of a content's equal among those that came first, if there is one
   unfoldable pub number_in : List A → A → Option ℕ
-  number_in came x = rankSame same x 0 came
+  number_in came x = rank_same same x 0 came
 
   -- it, where there is one
   unfoldable pub number : List A → A → ℕ
@@ -24,35 +24,35 @@ module _ {A : Type 0} (same : A → A → Bool) where
 
   -- `numbers_stay`: a number stays when more come
   pub numbers_stay : (came more : List A) (x : A) (k : ℕ) → number_in came x ≡ some k → number_in (came ++ more) x ≡ some k
-  unfolding number_in rankSame oneOn
+  unfolding number_in rank_same one_on
   numbers_stay [] more x k h = absurd (none-ne-some _ h)
   numbers_stay (a ∷ came) more x k h = go (same x a) h (numbers_stay came more x)
     where
-      go : (b : Bool) → cond b (some 0) (oneOn (rankSame same x 0 came)) ≡ some k → ((j : ℕ) → rankSame same x 0 came ≡ some j → rankSame same x 0 (came ++ more) ≡ some j)
-          → cond b (some 0) (oneOn (rankSame same x 0 (came ++ more))) ≡ some k
+      go : (b : Bool) → cond b (some 0) (one_on (rank_same same x 0 came)) ≡ some k → ((j : ℕ) → rank_same same x 0 came ≡ some j → rank_same same x 0 (came ++ more) ≡ some j)
+          → cond b (some 0) (one_on (rank_same same x 0 (came ++ more))) ≡ some k
       go true q f = q
-      go false q f = let p = one_on (rankSame same x 0 came) k q in ap oneOn (f p.0 p.1) ∙ ap {B = Option ℕ} some (sym p.2)
+      go false q f = let p = one_on_lem (rank_same same x 0 came) k q in ap one_on (f p.0 p.1) ∙ ap {B = Option ℕ} some (sym p.2)
 
   module _ (t : Tells same) where
-    -- `numbers-new`: one that has none yet gets the next
-    pub numbers-new : (came : List A) (x : A) → number_in came x ≡ none → number_in (came ++ (x ∷ [])) x ≡ some (length came)
-    unfolding number_in rankSame oneOn
-    numbers-new [] x h = rw (t.itself x)
-    numbers-new (a ∷ came) x h = go (same x a) h (numbers-new came x)
+    -- `numbers_new`: one that has none yet gets the next
+    pub numbers_new : (came : List A) (x : A) → number_in came x ≡ none → number_in (came ++ (x ∷ [])) x ≡ some (length came)
+    unfolding number_in rank_same one_on
+    numbers_new [] x h = rw (t.itself x)
+    numbers_new (a ∷ came) x h = go (same x a) h (numbers_new came x)
       where
-        go : (b : Bool) → cond b (some 0) (oneOn (rankSame same x 0 came)) ≡ none → (rankSame same x 0 came ≡ none → rankSame same x 0 (came ++ (x ∷ [])) ≡ some (length came))
-            → cond b (some 0) (oneOn (rankSame same x 0 (came ++ (x ∷ [])))) ≡ some (suc (length came))
+        go : (b : Bool) → cond b (some 0) (one_on (rank_same same x 0 came)) ≡ none → (rank_same same x 0 came ≡ none → rank_same same x 0 (came ++ (x ∷ [])) ≡ some (length came))
+            → cond b (some 0) (one_on (rank_same same x 0 (came ++ (x ∷ [])))) ≡ some (suc (length came))
         go true q f = absurd (none-ne-some _ (sym q))
-        go false q f = ap oneOn (f (not_on (rankSame same x 0 came) q))
+        go false q f = ap one_on (f (not_on (rank_same same x 0 came) q))
           where
-            not_on : (o : Option ℕ) → oneOn o ≡ none → o ≡ none
+            not_on : (o : Option ℕ) → one_on o ≡ none → o ≡ none
             not_on none z = refl
             not_on (some j) z = absurd (none-ne-some _ (sym z))
 
-    -- `numbers-tell`: of contents that have numbers the numbers are equal exactly if the contents are
-    pub numbers-tell : (came : List A) (x y : A) → Numbered came x → Numbered came y → same x y ≡ eqb (number came x) (number came y)
+    -- `numbers_tell`: of contents that have numbers the numbers are equal exactly if the contents are
+    pub numbers_tell : (came : List A) (x y : A) → Numbered came x → Numbered came y → same x y ≡ eqb (number came x) (number came y)
     unfolding number_in number
-    numbers-tell came x y p q = go (same x y) (eqb (number came x) (number came y)) refl refl
+    numbers_tell came x y p q = go (same x y) (eqb (number came x) (number came y)) refl refl
       where
         is : (z : A) (w : Numbered came z) → number came z ≡ w.0
         is z w = ap (λ (o : Option ℕ). get_or o 0) w.1

@@ -1,12 +1,12 @@
 // The fields of a pair record that stay: those that some surviving pair of the sets that notes name has nonzero.
 ghost use Rattle.std.specs.Prelude.{◌≡◌, ◌+◌, ◌*◌, ◌<◌, ◌≤◌, length};
 ghost use Rattle.meaning.specs.Words.{word};
-ghost use Rattle.meaning.specs.Tables.{fieldCount};
-ghost use Rattle.meaning.specs.Cut.{keepIf};
+ghost use Rattle.meaning.specs.Tables.{field_count};
+ghost use Rattle.meaning.specs.Cut.{keep_if};
 ghost use Rattle.cell_maps.specs.Cells.{Inside};
 ghost use Rattle.area.specs.Part.{notes};
-ghost use Rattle.numbers.specs.Entries.{entriesIn};
-ghost use Rattle.field_uses.specs.Used.{setUses, usedIn, NamesSets};
+ghost use Rattle.numbers.specs.Entries.{entries_in};
+ghost use Rattle.field_uses.specs.Used.{set_uses, used_in, NamesSets};
 ghost use Rattle.field_uses.specs.New.{format_in};
 
 use cell_maps::Map;
@@ -17,7 +17,7 @@ use wire::word_inside;
 // Whether some surviving pair of the set at `at`, whose records are `size` bytes long, has a value at `place` that is not 0; a null offset reaches no set.
 fn set_uses(src: &[u8], at: usize, size: usize, place: usize, t: &[u32], glyphs: Map) -> bool
     requires { ((at ≡ 0 → ⊥) → at + 2 + size * word src.now at ≤ length src.now) × (place + 2 ≤ size) × Inside t.now glyphs }
-    ensures { result ≡ setUses (entriesIn t.now glyphs) src.now size place at }
+    ensures { result ≡ set_uses (entries_in t.now glyphs) src.now size place at }
 {
     if at == 0 {
         return false;
@@ -28,7 +28,7 @@ fn set_uses(src: &[u8], at: usize, size: usize, place: usize, t: &[u32], glyphs:
 // The same of the sets that the `n` notes from `at` on name by their coverage index. At the place 0 there is no field.
 fn uses(src: &[u8], size: usize, place: usize, t: &[u32], at: usize, n: usize, glyphs: Map) -> bool
     requires { NamesSets src.now t.now at n size × (place + 2 ≤ size) × Inside t.now glyphs }
-    ensures { result ≡ usedIn (entriesIn t.now glyphs) src.now size place (notes t.now at n) }
+    ensures { result ≡ used_in (entries_in t.now glyphs) src.now size place (notes t.now at n) }
 {
     if place == 0 {
         return false;
@@ -57,7 +57,7 @@ fn bit_kept(
     glyphs: Map,
 ) -> usize
     requires { NamesSets src.now t.now at n size × (place + 2 ≤ size) × Inside t.now glyphs }
-    ensures { (result ≡ keepIf (usedIn (entriesIn t.now glyphs) src.now size place (notes t.now at n)) k) × (result ≤ k) }
+    ensures { (result ≡ keep_if (used_in (entries_in t.now glyphs) src.now size place (notes t.now at n)) k) × (result ≤ k) }
 {
     if uses(src, size, place, t, at, n, glyphs) {
         return k;
@@ -76,8 +76,8 @@ pub fn new_format(
     n: usize,
     glyphs: Map,
 ) -> usize
-    requires { NamesSets src.now t.now at n size × (start ≤ 18) × (2 ≤ size) × (start + 2 * fieldCount f ≤ size) × Inside t.now glyphs }
-    ensures { result ≡ format_in (entriesIn t.now glyphs) src.now size start f (notes t.now at n) }
+    requires { NamesSets src.now t.now at n size × (start ≤ 18) × (2 ≤ size) × (start + 2 * field_count f ≤ size) × Inside t.now glyphs }
+    ensures { result ≡ format_in (entries_in t.now glyphs) src.now size start f (notes t.now at n) }
 {
     let a = bit_kept(src, size, field_place(start, f, 1), 1, t, at, n, glyphs);
     let b = bit_kept(src, size, field_place(start, f, 2), 2, t, at, n, glyphs);

@@ -4,10 +4,10 @@ use Rattle.std.proofs.Common.{arith, le-leb, leb-true}
 use Rattle.meaning.specs.Job.{Part}
 
 -- a part ends at this place or before it; an empty one may start there
-unfoldable pub endsBy : Part → ℕ → Bool
-endsBy p end = leb (p.start + p.len) end
+unfoldable pub ends_by : Part → ℕ → Bool
+ends_by p end = leb (p.start + p.len) end
 
 -- and then by any later place
-pub ends-later : (p : Part) {end later : ℕ} → end ≤ later → endsBy p end ≡ true → endsBy p later ≡ true
-unfolding endsBy
-ends-later p {end} {later} h e = le-leb (p.start + p.len) later (omega (arith, leb-true (p.start + p.len) end e))
+pub ends_later : (p : Part) {end later : ℕ} → end ≤ later → ends_by p end ≡ true → ends_by p later ≡ true
+unfolding ends_by
+ends_later p {end} {later} h e = le-leb (p.start + p.len) later (omega (arith, leb-true (p.start + p.len) end e))

@@ -1,6 +1,6 @@
 // Glyph maps in cells: a listed map of pairs or of runs, laid.
 ghost use Rattle.std.specs.Prelude.{◌≡◌, true, ◌+◌, ◌*◌, ◌/◌, ◌<◌};
-ghost use Rattle.meaning.specs.Maps.{goodRuns, goodGlyphMap};
+ghost use Rattle.meaning.specs.Maps.{good_runs, good_glyph_map};
 ghost use Rattle.cell_maps.specs.Runs.{LaidRuns, LaidGlyphs};
 
 use cell_maps::Map;
@@ -12,7 +12,7 @@ const RUNS: usize = 16383;
 
 // The listed runs, laid into `t` from `at` on pair by pair: a folded table with a cell for each number. The mask is 0 where there is no room.
 fn spread_runs(list: &[u8], t: &mut [u32], at: usize) -> Map
-    requires { (at < 0x1_0000_0000_0000) × (goodRuns list.now ≡ true) }
+    requires { (at < 0x1_0000_0000_0000) × (good_runs list.now ≡ true) }
     ensures { LaidRuns list.now t.old t.new at result }
 {
     if t.len() < at + 65536 {
@@ -30,7 +30,7 @@ fn spread_runs(list: &[u8], t: &mut [u32], at: usize) -> Map
 
 // The listed runs, laid into `t` from `at` on: as runs, or pair by pair if they are too many for that. The mask is 0 where there is no room.
 fn lay_runs(list: &[u8], t: &mut [u32], at: usize) -> Map
-    requires { (at < 0x1_0000_0000_0000) × (goodRuns list.now ≡ true) }
+    requires { (at < 0x1_0000_0000_0000) × (good_runs list.now ≡ true) }
     ensures { LaidRuns list.now t.old t.new at result }
 {
     let n = list.len() / 6;
@@ -53,7 +53,7 @@ fn lay_runs(list: &[u8], t: &mut [u32], at: usize) -> Map
 
 // A good glyph map in the form with this mark, 6 for runs and pairs for any other, laid into `t` from `at` on. The mask is 0 where there is no room.
 pub fn lay_glyphs(list: &[u8], form: usize, t: &mut [u32], at: usize) -> Map
-    requires { (at < 0x1_0000_0000_0000) × (goodGlyphMap form list.now ≡ true) }
+    requires { (at < 0x1_0000_0000_0000) × (good_glyph_map form list.now ≡ true) }
     ensures { LaidGlyphs form list.now t.old t.new at result }
 {
     if form == 6 {

@@ -13,11 +13,11 @@ use lib.Seq.{get_or-set_same, get_or-set_other, take-suc, take_all, get_or-take,
 use lib.Bits.{bit_and}
 use borrow.Author.Tests.{eq-eqb, ne_eqb}
 use Rattle.meaning.specs.Words.{find, word, ascends, keys}
-use Rattle.meaning.specs.Maps.{mapEntries}
-use Rattle.laws.specs.Left.{entries-length, entries_at}
-use Rattle.laws.specs.Ascends.{ascends-rise, find_none, map-length, map-key}
-use Rattle.cell_maps.specs.Cells.{cell_of, cell_at, Inside, Odd, Holds, Kept, kept-all, kept_more, kept_set, holds-none}
-use Rattle.cell_maps.specs.Laid.{Power, power-twice, power-near, power-even, Next, taken, Added, added-kept, added-holds, added-clash, LaidIn, Laid}
+use Rattle.meaning.specs.Maps.{map_entries}
+use Rattle.laws.specs.Left.{entries_length, entries_at}
+use Rattle.laws.specs.Ascends.{ascends_rise, find_none, map_length, map_key}
+use Rattle.cell_maps.specs.Cells.{cell_of, cell_at, Inside, Odd, Holds, Kept, kept_all, kept_more, kept_set, holds_none}
+use Rattle.cell_maps.specs.Laid.{Power, power_twice, power_near, power_even, Next, taken, Added, added_kept, added_holds, added_clash, LaidIn, Laid}
 use Rattle.cell_maps.specs.declared.Map.{Map}
 
 -- What the loop of `clear` keeps: the cells from the first up to i hold 0, and those before are as before.
@@ -30,11 +30,11 @@ pub record Clearing (t₀ t : List ℕ) (m : Map) (i : ℕ) : Type 0 where
   pub zeros : (j : ℕ) → m.at ≤ j → j < i → get_or t j 0 ≡ 0
 
 module _ {t₀ : List ℕ} {m : Map} where
-  pub clearing-all : Inside t₀ m × Odd m → Clearing t₀ t₀ m m.at
-  clearing-all k = record { inside = k.0; odd = k.1; from = omega arith; within = omega arith; kept = kept-all m.at t₀; zeros = λ j a b. absurd (omega arith) }
+  pub clearing_all : Inside t₀ m × Odd m → Clearing t₀ t₀ m m.at
+  clearing_all k = record { inside = k.0; odd = k.1; from = omega arith; within = omega arith; kept = kept_all m.at t₀; zeros = λ j a b. absurd (omega arith) }
 
-  pub clearing-next : {t : List ℕ} {i : ℕ} → Clearing t₀ t m i → i < m.at + m.mask + 1 → Clearing t₀ (set t i 0) m (i + 1)
-  clearing-next {t} {i} c h = record {
+  pub clearing_next : {t : List ℕ} {i : ℕ} → Clearing t₀ t m i → i < m.at + m.mask + 1 → Clearing t₀ (set t i 0) m (i + 1)
+  clearing_next {t} {i} c h = record {
     inside = c.inside;
     odd = c.odd;
     from = omega (arith, c.from);
@@ -49,10 +49,10 @@ module _ {t₀ : List ℕ} {m : Map} where
           let e : j ≡ i = omega arith in
           rw e (get_or-set_same t i 0 0 (omega (arith, c.kept.size, c.inside.within)))
 
-  pub clearing-end : {t : List ℕ} {i : ℕ} → Clearing t₀ t m i → m.at + m.mask + 1 ≤ i
+  pub clearing_end : {t : List ℕ} {i : ℕ} → Clearing t₀ t m i → m.at + m.mask + 1 ≤ i
       → Holds (set t m.at 65536) m [] × Kept m.at t₀ (set t m.at 65536)
-  clearing-end {t} {i} c h = (
-    holds-none
+  clearing_end {t} {i} c h = (
+    holds_none
         (record { within = omega (arith, length-set t m.at 65536, c.kept.size, c.inside.within) })
         c.odd
         (get_or-set_same t m.at 65536 0 (omega (arith, c.kept.size, c.inside.within)))
@@ -76,82 +76,82 @@ pub record Doubling (n p : ℕ) : Type 0 where
   pub least : 2 < p → p < 2 * n
   pub few : n ≤ 65536 → p ≤ 65536
 
-pub doubling-two : (n : ℕ) → Doubling n 2
-doubling-two n = record { two = record { exponent = 0; power = refl }; least = λ h. absurd (omega arith); few = λ h. omega arith }
+pub doubling_two : (n : ℕ) → Doubling n 2
+doubling_two n = record { two = record { exponent = 0; power = refl }; least = λ h. absurd (omega arith); few = λ h. omega arith }
 
-pub doubling-next : {n p : ℕ} → Doubling n p → p < n → Doubling n (2 * p)
-doubling-next w h = record { two = power-twice w.two; least = λ l. omega arith; few = λ l. power-near w.two (omega arith) }
+pub doubling_next : {n p : ℕ} → Doubling n p → p < n → Doubling n (2 * p)
+doubling_next w h = record { two = power_twice w.two; least = λ l. omega arith; few = λ l. power_near w.two (omega arith) }
 
-pub doubling-end : {n p : ℕ} → Doubling n p → n ≤ p → Next n p
-doubling-end w h = record { two = w.two; enough = h; least = w.least; few = w.few }
+pub doubling_end : {n p : ℕ} → Doubling n p → n ≤ p → Next n p
+doubling_end w h = record { two = w.two; enough = h; least = w.least; few = w.few }
 
 -- A listed map's entries, as many as there are and one of them.
-entry-count : (m : List ℕ) → length (mapEntries m) ≡ length m / 4
-unfolding mapEntries
-entry-count m = entries-length m 0 (length m / 4)
+entry_count : (m : List ℕ) → length (map_entries m) ≡ length m / 4
+unfolding map_entries
+entry_count m = entries_length m 0 (length m / 4)
 
-entry_at : (m : List ℕ) (i : ℕ) → i < length m / 4 → get_or (mapEntries m) i (0, 0) ≡ (word m (4 * i), word m (4 * i + 2))
-unfolding mapEntries
+entry_at : (m : List ℕ) (i : ℕ) → i < length m / 4 → get_or (map_entries m) i (0, 0) ≡ (word m (4 * i), word m (4 * i + 2))
+unfolding map_entries
 entry_at m i h = rw zero-add at (entries_at m 0 (length m / 4) i h)
 
 -- the first i entries and the next
 entry_more : (m : List ℕ) (i : ℕ) {old new : ℕ} → i < length m / 4 → old ≡ word m (4 * i) → new ≡ word m (4 * i + 2)
-    → take i (mapEntries m) ++ ((old, new) ∷ []) ≡ take (i + 1) (mapEntries m)
+    → take i (map_entries m) ++ ((old, new) ∷ []) ≡ take (i + 1) (map_entries m)
 entry_more m i {old} {new} h eo en =
-    let e : (old, new) ≡ get_or (mapEntries m) i (0, 0) = rw (eo, en) (sym (entry_at m i h)) in
-    ap (λ (x : ℕ × ℕ). take i (mapEntries m) ++ (x ∷ [])) e ∙ sym (take-suc (mapEntries m) i (0, 0) (rw (entry-count m) h)) ∙ ap (λ (k : ℕ). take k (mapEntries m)) (sym (add-one i))
+    let e : (old, new) ≡ get_or (map_entries m) i (0, 0) = rw (eo, en) (sym (entry_at m i h)) in
+    ap (λ (x : ℕ × ℕ). take i (map_entries m) ++ (x ∷ [])) e ∙ sym (take-suc (map_entries m) i (0, 0) (rw (entry_count m) h)) ∙ ap (λ (k : ℕ). take k (map_entries m)) (sym (add-one i))
 
 -- the first i keys; the next is none of them if they ascend
-keys-take : (i : ℕ) (es : List (ℕ × ℕ)) → keys (take i es) ≡ take i (keys es)
+keys_take : (i : ℕ) (es : List (ℕ × ℕ)) → keys (take i es) ≡ take i (keys es)
 unfolding keys
-keys-take zero es = refl
-keys-take (suc i) [] = refl
-keys-take (suc i) (e ∷ es) = ap (λ (ks : List ℕ). e.0 ∷ ks) (keys-take i es)
+keys_take zero es = refl
+keys_take (suc i) [] = refl
+keys_take (suc i) (e ∷ es) = ap (λ (ks : List ℕ). e.0 ∷ ks) (keys_take i es)
 
-next-none : (m : List ℕ) (i : ℕ) {old : ℕ} → i < length m / 4 → old ≡ word m (4 * i) → ascends (keys (mapEntries m)) ≡ true → find (take i (mapEntries m)) old ≡ none
-next-none m i {old} h e up = find_none (take i (mapEntries m)) old (λ k l. other k (omega (arith, long, ap length (keys-take i (mapEntries m)))))
+next_none : (m : List ℕ) (i : ℕ) {old : ℕ} → i < length m / 4 → old ≡ word m (4 * i) → ascends (keys (map_entries m)) ≡ true → find (take i (map_entries m)) old ≡ none
+next_none m i {old} h e up = find_none (take i (map_entries m)) old (λ k l. other k (omega (arith, long, ap length (keys_take i (map_entries m)))))
   where
-    long : length (take i (keys (mapEntries m))) ≡ i
-    long = length-take-le i (keys (mapEntries m)) (omega (arith, map-length m))
+    long : length (take i (keys (map_entries m))) ≡ i
+    long = length-take-le i (keys (map_entries m)) (omega (arith, map_length m))
 
-    other : (k : ℕ) → k < i → get_or (keys (take i (mapEntries m))) k 0 ≡ old → ⊥
+    other : (k : ℕ) → k < i → get_or (keys (take i (map_entries m))) k 0 ≡ old → ⊥
     other k l q =
-        let a : get_or (keys (take i (mapEntries m))) k 0 ≡ get_or (keys (mapEntries m)) k 0 = ap (λ (ks : List ℕ). get_or ks k 0) (keys-take i (mapEntries m)) ∙ get_or-take i (keys (mapEntries m)) k 0 l in
-        let b : get_or (keys (mapEntries m)) i 0 ≡ old = map-key m i h ∙ sym e in
-        omega (arith, ascends-rise (keys (mapEntries m)) up k i l (omega (arith, map-length m)))
+        let a : get_or (keys (take i (map_entries m))) k 0 ≡ get_or (keys (map_entries m)) k 0 = ap (λ (ks : List ℕ). get_or ks k 0) (keys_take i (map_entries m)) ∙ get_or-take i (keys (map_entries m)) k 0 l in
+        let b : get_or (keys (map_entries m)) i 0 ≡ old = map_key m i h ∙ sym e in
+        omega (arith, ascends_rise (keys (map_entries m)) up k i l (omega (arith, map_length m)))
 
 -- What the loop of `lay_in` keeps: the cells hold the first i entries.
 pub record Laying (list t₀ t : List ℕ) (m : Map) (i : ℕ) : Type 0 where
   pub odd : Odd m
   pub within : i ≤ length list / 4
   pub kept : Kept m.at t₀ t
-  pub holds : Holds t m (take i (mapEntries list))
+  pub holds : Holds t m (take i (map_entries list))
 
 module _ {list t₀ : List ℕ} {m : Map} where
-  pub laying-all : Odd m → Holds t₀ m [] → Laying list t₀ t₀ m 0
-  laying-all d h = record { odd = d; within = omega arith; kept = kept-all m.at t₀; holds = h }
+  pub laying_all : Odd m → Holds t₀ m [] → Laying list t₀ t₀ m 0
+  laying_all d h = record { odd = d; within = omega arith; kept = kept_all m.at t₀; holds = h }
 
   module _ {t next : List ℕ} {i old new : ℕ} {r : Bool} (c : Laying list t₀ t m i) (h : i < length list / 4)
       (eo : (old ≡ word list (4 * i)) × (old < 65536)) (en : (new ≡ word list (4 * i + 2)) × (new < 65536)) (a : Added t next m old new r) where
-    pub laying-next : r ≡ true → Laying list t₀ next m (i + 1)
-    laying-next e = record {
+    pub laying_next : r ≡ true → Laying list t₀ next m (i + 1)
+    laying_next e = record {
       odd = c.odd;
       within = omega arith;
-      kept = kept_more c.kept (added-kept a);
-      holds = rw (sym (entry_more list i h eo.0 en.0)) (added-holds a c.odd c.holds e en.1);
+      kept = kept_more c.kept (added_kept a);
+      holds = rw (sym (entry_more list i h eo.0 en.0)) (added_holds a c.odd c.holds e en.1);
     }
 
-    pub laying-clash : {first : List ℕ} → Kept m.at first t₀ → r ≡ false → LaidIn list first next m false
-    laying-clash k₀ e = record {
-      kept = kept_more k₀ (kept_more c.kept (added-kept a));
+    pub laying_clash : {first : List ℕ} → Kept m.at first t₀ → r ≡ false → LaidIn list first next m false
+    laying_clash k₀ e = record {
+      kept = kept_more k₀ (kept_more c.kept (added_kept a));
       holds = λ q. absurd (true≢false (sym q));
-      clash = λ q k up. added-clash a c.odd c.holds e k eo.1 (next-none list i h eo.0 up);
+      clash = λ q k up. added_clash a c.odd c.holds e k eo.1 (next_none list i h eo.0 up);
     }
 
-  pub laying-end : {first t : List ℕ} {i : ℕ} → Kept m.at first t₀ → Laying list t₀ t m i → length list / 4 ≤ i → LaidIn list first t m true
-  laying-end {first} {t} {i} k₀ c h = record {
+  pub laying_end : {first t : List ℕ} {i : ℕ} → Kept m.at first t₀ → Laying list t₀ t m i → length list / 4 ≤ i → LaidIn list first t m true
+  laying_end {first} {t} {i} k₀ c h = record {
     kept = kept_more k₀ c.kept;
-    holds = λ q. rw (take_all i (mapEntries list) (omega (arith, entry-count list))) at c.holds;
+    holds = λ q. rw (take_all i (map_entries list) (omega (arith, entry_count list))) at c.holds;
     clash = λ q. absurd (true≢false q);
   }
 
@@ -159,53 +159,53 @@ module _ {list t₀ : List ℕ} {m : Map} where
 pub record Trying (list t₀ t : List ℕ) (at n : ℕ) : Type 0 where
   pub two : Power n
   pub near : n ≤ 65536 + 2 * length t₀
-  pub few : ascends (keys (mapEntries list)) ≡ true → n ≤ 65536
+  pub few : ascends (keys (map_entries list)) ≡ true → n ≤ 65536
   pub kept : Kept at t₀ t
 
 -- the n cells from `at` on
-abbrev pub cellsFrom : ℕ → ℕ → Map
-cellsFrom at n = record { at = at; mask = n - 1 }
+abbrev pub cells_from : ℕ → ℕ → Map
+cells_from at n = record { at = at; mask = n - 1 }
 
 module _ {list t₀ : List ℕ} {at : ℕ} where
-  pub trying-all : {n : ℕ} → Power n × (n ≤ 65536) → Trying list t₀ t₀ at n
-  trying-all k = record { two = k.0; near = omega (arith, k.1); few = λ h. k.1; kept = kept-all at t₀ }
+  pub trying_all : {n : ℕ} → Power n × (n ≤ 65536) → Trying list t₀ t₀ at n
+  trying_all k = record { two = k.0; near = omega (arith, k.1); few = λ h. k.1; kept = kept_all at t₀ }
 
   module _ {t : List ℕ} {n : ℕ} (c : Trying list t₀ t at n) where
     -- the loop tries more cells each time
-    pub trying-more : 2 ≤ n
-    trying-more = (power-even c.two).1
+    pub trying_more : 2 ≤ n
+    trying_more = (power_even c.two).1
 
     module _ (h : at + n ≤ length t) where
-      pub trying-ready : Inside t (cellsFrom at n) × Odd (cellsFrom at n)
-      trying-ready =
-          let e = power-even c.two in
+      pub trying_ready : Inside t (cells_from at n) × Odd (cells_from at n)
+      trying_ready =
+          let e = power_even c.two in
           (record { within = omega (arith, e.1) }, record { odd = omega (arith, e.0, e.1) })
 
-      module _ {next : List ℕ} {r : Bool} (l : LaidIn list t next (cellsFrom at n) r) where
-        pub trying-next : r ≡ false → Trying list t₀ next at (2 * n)
-        trying-next e = record {
-          two = power-twice c.two;
+      module _ {next : List ℕ} {r : Bool} (l : LaidIn list t next (cells_from at n) r) where
+        pub trying_next : r ≡ false → Trying list t₀ next at (2 * n)
+        trying_next e = record {
+          two = power_twice c.two;
           near = omega (arith, c.kept.size);
           few = λ up. step up (dec_lt n 65536);
           kept = kept_more c.kept l.kept;
         }
           where
-            step : ascends (keys (mapEntries list)) ≡ true → Dec (n < 65536) → 2 * n ≤ 65536
-            step up (yes g) = power-near c.two g
+            step : ascends (keys (map_entries list)) ≡ true → Dec (n < 65536) → 2 * n ≤ 65536
+            step up (yes g) = power_near c.two g
             step up (no g) = absurd (l.clash e (omega (arith, c.few up)) up)
 
-        pub trying-laid : r ≡ true → Laid list t₀ next at (cellsFrom at n)
-        trying-laid e = record {
+        pub trying_laid : r ≡ true → Laid list t₀ next at (cells_from at n)
+        trying_laid e = record {
           place = refl;
           kept = kept_more c.kept l.kept;
-          odd = λ z. trying-ready.1;
+          odd = λ z. trying_ready.1;
           holds = λ z. l.holds e;
-          few = λ up. omega (arith, trying-more, c.few up);
-          room = λ g up z. omega (arith, trying-more);
+          few = λ up. omega (arith, trying_more, c.few up);
+          room = λ g up z. omega (arith, trying_more);
         }
 
-    pub trying-end : length t < at + n → Laid list t₀ t at (cellsFrom at 1)
-    trying-end h = record {
+    pub trying_end : length t < at + n → Laid list t₀ t at (cells_from at 1)
+    trying_end h = record {
       place = refl;
       kept = c.kept;
       odd = λ z. absurd (z refl);

@@ -1,6 +1,6 @@
 // The numbers of the rules of a set, gathered in cells: two sets are compared by them.
 ghost use Rattle.std.specs.Prelude.{◌+◌, ◌<◌, length};
-ghost use Rattle.gathered.specs.Gathered.{numbersAt, Gathers, Gathered};
+ghost use Rattle.gathered.specs.Gathered.{numbers_at, Gathers, Gathered};
 
 use cells::{cell, put_cell};
 use set_numbers::Set;
@@ -9,7 +9,7 @@ use wire::word_at;
 // The numbers of the rules of a set of `src`, into the cells of `nums` from `from` on; how many there are. Null offsets are passed over.
 pub fn gather(src: &[u8], set: Set, num: &[u32], nums: &mut [u32], from: usize) -> usize
     requires { Gathers set.side set.at from (length nums.old) }
-    ensures { Gathered (numbersAt num.now src.now set.side set.at) from nums.old nums.new result }
+    ensures { Gathered (numbers_at num.now src.now set.side set.at) from nums.old nums.new result }
 {
     if set.at == 0 {
         return 0;

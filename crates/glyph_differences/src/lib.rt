@@ -4,12 +4,12 @@ ghost use Rattle.std.specs.Prelude.{◌+◌, ◌≤◌, ◌<◌, length, eqb};
 ghost use Rattle.meaning.specs.Words.{up_from};
 ghost use Rattle.meaning.specs.Tables.{table};
 ghost use Rattle.differences.specs.Content.{content};
-ghost use Rattle.differences.specs.Entries.{each, ruleEntries, differences};
+ghost use Rattle.differences.specs.Entries.{each, rule_entries, differences};
 ghost use Rattle.listing.specs.Listed.{Listed};
 ghost use Rattle.listing.specs.Laid.{LaidList};
-ghost use Rattle.first_glyphs.specs.First.{atGlyph};
+ghost use Rattle.first_glyphs.specs.First.{at_glyph};
 ghost use Rattle.gathered.specs.Gathered.{Scratch, Fit, Remembered};
-ghost use Rattle.glyph_differences.specs.Slots.{numbersBy, SlotTable, ByGlyph};
+ghost use Rattle.glyph_differences.specs.Slots.{numbers_by, SlotTable, ByGlyph};
 
 use coverage_index::Covered;
 use first_glyphs::{cover_index, list_right};
@@ -38,7 +38,7 @@ fn list_glyph(
     out: &mut [u8],
 ) -> usize
     requires { SlotTable left.now × SlotTable right.now × (at.glyph < 65536) × (at.pos < 0x1000_0000_0000) × Fit num.now (length nums.old) (length heads.old) (length links.old) × Remembered num.now left.now right.now nums.old }
-    ensures { Listed (atGlyph (ruleEntries eqb) (numbersBy num.now left.now 0) (numbersBy num.now right.now 1) at.glyph) out.old at.pos out.new result × (result ≤ at.pos + 0x18_0000) × Remembered num.now left.now right.now nums.new }
+    ensures { Listed (at_glyph (rule_entries eqb) (numbers_by num.now left.now 0) (numbers_by num.now right.now 1) at.glyph) out.old at.pos out.new result × (result ≤ at.pos + 0x18_0000) × Remembered num.now left.now right.now nums.new }
 {
     let Covered::At(i) = cover_index(left, at.glyph) else {
         return list_right(right, at.glyph, out, at.pos);
@@ -66,7 +66,7 @@ fn list_numbered(
     out: &mut [u8],
 ) -> usize
     requires { SlotTable left.now × SlotTable right.now × Fit num.now (length nums.old) (length heads.old) (length links.old) }
-    ensures { Listed (each (atGlyph (ruleEntries eqb) (numbersBy num.now left.now 0) (numbersBy num.now right.now 1)) (up_from 0 65536)) out.old 0 out.new result × (result ≤ 0x18_0000_0000) }
+    ensures { Listed (each (at_glyph (rule_entries eqb) (numbers_by num.now left.now 0) (numbers_by num.now right.now 1)) (up_from 0 65536)) out.old 0 out.new result × (result ≤ 0x18_0000_0000) }
 {
     remember(nums, 0, 0, 0);
     let mut at = 0;
@@ -90,7 +90,7 @@ fn lay_numbered(
     out: &mut [u8],
 ) -> usize
     requires { SlotTable left.now × SlotTable right.now × Fit num.now (length nums.old) (length heads.old) (length links.old) }
-    ensures { LaidList (each (atGlyph (ruleEntries eqb) (numbersBy num.now left.now 0) (numbersBy num.now right.now 1)) (up_from 0 65536)) out.old out.new result × (result ≤ 0x18_0000_0000) }
+    ensures { LaidList (each (at_glyph (rule_entries eqb) (numbers_by num.now left.now 0) (numbers_by num.now right.now 1)) (up_from 0 65536)) out.old out.new result × (result ≤ 0x18_0000_0000) }
 {
     let mut none = [0u8; 1];
     let size = list_numbered(left, right, num, nums, heads, links, &mut none);

@@ -1,6 +1,6 @@
 // A glyph map as runs, in either form: six bytes a run, or four bytes a pair, which is a run of one.
 ghost use Rattle.std.specs.Prelude.{◌≡◌, ◌/◌, ◌≤◌, ◌<◌, length};
-ghost use Rattle.glyph_runs.specs.Runs.{GlyphMap, runCount, IsRun, Past, Reached};
+ghost use Rattle.glyph_runs.specs.Runs.{GlyphMap, run_count, IsRun, Past, Reached};
 
 use wire::word_inside;
 
@@ -25,7 +25,7 @@ pub fn count_runs(glyphs: &[u8], form: usize) -> usize
 
 // The i-th run of a glyph map.
 pub fn run_at(glyphs: &[u8], form: usize, i: usize) -> Run
-    requires { GlyphMap form glyphs.now × (i < runCount form glyphs.now) }
+    requires { GlyphMap form glyphs.now × (i < run_count form glyphs.now) }
     ensures { IsRun form glyphs.now i result }
 {
     let at = form * i;
@@ -44,7 +44,7 @@ pub fn run_at(glyphs: &[u8], form: usize, i: usize) -> Run
 // The first run that ends at the glyph or later; the number of runs if none does. Those before `from` end before it.
 // It is mostly close: the search looks at four runs one by one, then it halves.
 pub fn reach(glyphs: &[u8], form: usize, from: usize, glyph: usize) -> usize
-    requires { GlyphMap form glyphs.now × (from ≤ runCount form glyphs.now) × Past form glyphs.now glyph from × (glyph ≤ 65536) }
+    requires { GlyphMap form glyphs.now × (from ≤ run_count form glyphs.now) × Past form glyphs.now glyph from × (glyph ≤ 65536) }
     ensures { Reached form glyphs.now glyph result }
 {
     let n = count_runs(glyphs, form);

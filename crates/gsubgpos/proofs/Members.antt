@@ -10,35 +10,35 @@ use Rattle.meaning.specs.Words.{word, inside}
 use Rattle.meaning.specs.Fault.{lowest}
 use Rattle.faults.specs.declared.Fault.{Fault}
 use Rattle.faults.specs.declared.Fault.TheVariants.{At, Sound}
-use Rattle.faults.specs.Fault.{faultOf, place_of}
-use Rattle.faults.specs.Low.{From, from-rule, from-ligature}
-use Rattle.faults.specs.Reached.{Lowest, lowest-part, passed}
-use Rattle.gsubgpos.specs.Members.{memberFault}
+use Rattle.faults.specs.Fault.{fault_of, place_of}
+use Rattle.faults.specs.Low.{From, from_rule, from_ligature}
+use Rattle.faults.specs.Reached.{Lowest, lowest_part, passed}
+use Rattle.gsubgpos.specs.Members.{member_fault}
 use Rattle.gsubgpos.specs.declared.Member.{Member}
 use Rattle.gsubgpos.specs.declared.Member.TheVariants.{Rule, ChainedRule, Ligature}
 
 -- the fault of a member, by its sort
-pub by-sort : (s : List ℕ) (at : ℕ) {a b : Member} → a ≡ b → faultOf (memberFault b s at) ≡ faultOf (memberFault a s at)
-by-sort s at e = ap (λ (m : Member). faultOf (memberFault m s at)) (sym e)
+pub by_sort : (s : List ℕ) (at : ℕ) {a b : Member} → a ≡ b → fault_of (member_fault b s at) ≡ fault_of (member_fault a s at)
+by_sort s at e = ap (λ (m : Member). fault_of (member_fault m s at)) (sym e)
 
 -- no member has a fault before its own start
-pub from_member : (member : Member) (s : List ℕ) (at : ℕ) → From at (memberFault member s at)
-from_member Rule s at = from-rule false s at
-from_member ChainedRule s at = from-rule true s at
-from_member Ligature s at = from-ligature s at
+pub from_member : (member : Member) (s : List ℕ) (at : ℕ) → From at (member_fault member s at)
+from_member Rule s at = from_rule false s at
+from_member ChainedRule s at = from_rule true s at
+from_member Ligature s at = from_ligature s at
 
 -- the offsets of a set that was found to lie inside
-pub offsets-inside : (s : List ℕ) (at n : ℕ) {b : Bool} → b ≡ inside s (at + 2) (2 * n) → not b ≡ false → at + 2 + 2 * n ≤ length s
+pub offsets_inside : (s : List ℕ) (at n : ℕ) {b : Bool} → b ≡ inside s (at + 2) (2 * n) → not b ≡ false → at + 2 + 2 * n ≤ length s
 unfolding inside
-offsets-inside s at n e h = leb-true (at + 2 + 2 * n) (length s) (passed e h)
+offsets_inside s at n e h = leb-true (at + 2 + 2 * n) (length s) (passed e h)
 
 -- what has no fault leaves the lowest as it is
-none_found : (low : Fault) → low ≡ faultOf (lowest (place_of low) none)
+none_found : (low : Fault) → low ≡ fault_of (lowest (place_of low) none)
 unfolding lowest
 none_found (At p) = refl
 none_found Sound = refl
 
 -- past an offset that reaches a member without a fault
-pub lowest-sound : {faultAt : ℕ → Option ℕ} {s : List ℕ} {base slot n : ℕ} {low : Fault} {i off : ℕ} → Lowest faultAt s base slot n low i → i < n → off ≡ word s (slot + 2 * i) → (off ≡ 0 → ⊥) → faultAt (base + off) ≡ none
-    → Lowest faultAt s base slot n low (i + 1)
-lowest-sound {low = low} k h e z m = lowest-part k h e z {a = Sound} (sym (ap faultOf m)) (none_found low)
+pub lowest_sound : {fault_at : ℕ → Option ℕ} {s : List ℕ} {base slot n : ℕ} {low : Fault} {i off : ℕ} → Lowest fault_at s base slot n low i → i < n → off ≡ word s (slot + 2 * i) → (off ≡ 0 → ⊥) → fault_at (base + off) ≡ none
+    → Lowest fault_at s base slot n low (i + 1)
+lowest_sound {low = low} k h e z m = lowest_part k h e z {a = Sound} (sym (ap fault_of m)) (none_found low)

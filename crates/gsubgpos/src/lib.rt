@@ -2,13 +2,13 @@
 ghost use Rattle.std.specs.Prelude.{◌≡◌, true, cond, ◌+◌, ◌*◌, ◌≤◌, ◌<◌, length, eqb};
 ghost use Rattle.std.proofs.Math.Option.{none};
 ghost use Rattle.meaning.specs.Words.{word};
-ghost use Rattle.meaning.specs.Tables.{rule, ruleSet, reaches};
-ghost use Rattle.meaning.specs.Fault.{faultThrough, setFault};
-ghost use Rattle.meaning.specs.Records.{ruleWithin, setsWithin};
+ghost use Rattle.meaning.specs.Tables.{rule, rule_set, reaches};
+ghost use Rattle.meaning.specs.Fault.{fault_through, set_fault};
+ghost use Rattle.meaning.specs.Records.{rule_within, sets_within};
 ghost use Rattle.laws.specs.EachLeft.{passes};
-ghost use Rattle.faults.specs.Fault.{faultOf};
+ghost use Rattle.faults.specs.Fault.{fault_of};
 ghost use Rattle.gsubgpos.specs.Marks.{Marked};
-ghost use Rattle.gsubgpos.specs.Members.{memberFault, goodRule};
+ghost use Rattle.gsubgpos.specs.Members.{member_fault, good_rule};
 
 use bits::{has_bit, put_bit};
 use faults::{Fault, found_before, lowest};
@@ -27,7 +27,7 @@ pub enum Member {
 // The fault of the member at `at`, by its sort.
 fn check_member(member: Member, src: &[u8], at: usize) -> Fault
     requires { at < 0x100_0000_0000 }
-    ensures { result ≡ faultOf (memberFault member src.now at) }
+    ensures { result ≡ fault_of (member_fault member src.now at) }
 {
     match member {
         Member::Rule => check_rule(false, src, at),
@@ -38,8 +38,8 @@ fn check_member(member: Member, src: &[u8], at: usize) -> Fault
 
 // The lowest fault among the members that the `n` offsets of the set at `at` reach, which lie inside. A member whose place has a mark was found sound before: nothing of it is read, since sets that overlap reach a member again and again. One that is sound gets a mark, where `marks` has room for it.
 fn check_members(member: Member, src: &[u8], at: usize, n: usize, marks: &mut [u32]) -> Fault
-    requires { (at < 0x80_0000_0000) × (n < 65536) × (at + 2 + 2 * n ≤ length src.now) × Marked (memberFault member src.now) none marks.old }
-    ensures { (result ≡ faultOf (faultThrough (memberFault member src.now) src.now at (at + 2) n)) × Marked (memberFault member src.now) none marks.new }
+    requires { (at < 0x80_0000_0000) × (n < 65536) × (at + 2 + 2 * n ≤ length src.now) × Marked (member_fault member src.now) none marks.old }
+    ensures { (result ≡ fault_of (fault_through (member_fault member src.now) src.now at (at + 2) n)) × Marked (member_fault member src.now) none marks.new }
 {
     let mut low = Fault::Sound;
     let mut i = 0;
@@ -67,8 +67,8 @@ fn check_members(member: Member, src: &[u8], at: usize, n: usize, marks: &mut [u
 // The fault of the set at `at`: its own place if its count or its offsets do not lie inside the source, else the lowest among its members.
 // `marks` has a mark of no place but those of members that are sound; where it has a bit for each member each is checked once, however many sets share it.
 pub fn check_set(member: Member, src: &[u8], at: usize, marks: &mut [u32]) -> Fault
-    requires { (at < 0x80_0000_0000) × Marked (memberFault member src.now) none marks.old }
-    ensures { (result ≡ faultOf (setFault (memberFault member src.now) src.now at)) × Marked (memberFault member src.now) none marks.new }
+    requires { (at < 0x80_0000_0000) × Marked (member_fault member src.now) none marks.old }
+    ensures { (result ≡ fault_of (set_fault (member_fault member src.now) src.now at)) × Marked (member_fault member src.now) none marks.new }
 {
     if !inside(src, at, 2) {
         return Fault::At(at);
@@ -92,8 +92,8 @@ fn rules_in(src: &[u8], set: usize) -> usize
 
 // Whether no record of the rule at `at` points past it. A rule whose place has a mark was asked before; one that is good gets a mark, where `marks` has room for it.
 fn within_once(chained: bool, src: &[u8], at: usize, marks: &mut [u32]) -> bool
-    requires { (at < 0x100_0000_0000) × Marked (goodRule chained src.now) true marks.old }
-    ensures { (result ≡ ruleWithin (rule chained src.now at)) × Marked (goodRule chained src.now) true marks.new }
+    requires { (at < 0x100_0000_0000) × Marked (good_rule chained src.now) true marks.old }
+    ensures { (result ≡ rule_within (rule chained src.now at)) × Marked (good_rule chained src.now) true marks.new }
 {
     if has_bit(marks, 0, at) {
         return true;
@@ -107,8 +107,8 @@ fn within_once(chained: bool, src: &[u8], at: usize, marks: &mut [u32]) -> bool
 
 // The same of the rule that the offset at `slot` reaches from `base`; a null offset reaches none.
 fn reached_within(chained: bool, src: &[u8], base: usize, slot: usize, marks: &mut [u32]) -> bool
-    requires { (base < 65536) × Marked (goodRule chained src.now) true marks.old }
-    ensures { (result ≡ passes ruleWithin (rule chained src.now) src.now base slot) × Marked (goodRule chained src.now) true marks.new }
+    requires { (base < 65536) × Marked (good_rule chained src.now) true marks.old }
+    ensures { (result ≡ passes rule_within (rule chained src.now) src.now base slot) × Marked (good_rule chained src.now) true marks.new }
 {
     let offset = word_at(src, slot);
     if offset == 0 {
@@ -120,8 +120,8 @@ fn reached_within(chained: bool, src: &[u8], base: usize, slot: usize, marks: &m
 // Whether no record of the rules of `n` sets, whose offsets stand from `slot` on, points past its rule: both loops are left at the first that does.
 // `marks` has a mark of no place but those of rules that are good; where it has a bit for each rule each is asked once, however many sets share it.
 pub fn sets_within(chained: bool, src: &[u8], slot: usize, n: usize, marks: &mut [u32]) -> bool
-    requires { (slot < 65536) × (n < 65536) × Marked (goodRule chained src.now) true marks.old }
-    ensures { result ≡ setsWithin (reaches (ruleSet chained src.now) src.now 0 slot n) }
+    requires { (slot < 65536) × (n < 65536) × Marked (good_rule chained src.now) true marks.old }
+    ensures { result ≡ sets_within (reaches (rule_set chained src.now) src.now 0 slot n) }
 {
     let mut within = true;
     let mut i = 0;

@@ -16,13 +16,13 @@ pub record Searching (s : List ℕ) (at step n from v lo hi : ℕ) : Type 0 wher
   pub above : hi < n → v ≤ word s (at + step * hi)
 
 module _ {s : List ℕ} {at step n from v : ℕ} where
-  pub searching-all : from ≤ n → Searching s at step n from v from n
-  searching-all h = record { least = omega arith; order = h; most = omega arith; below = λ k l g. absurd (omega arith); above = λ l. absurd (omega arith) }
+  pub searching_all : from ≤ n → Searching s at step n from v from n
+  searching_all h = record { least = omega arith; order = h; most = omega arith; below = λ k l g. absurd (omega arith); above = λ l. absurd (omega arith) }
 
   module _ {lo hi mid w : ℕ} (c : Searching s at step n from v lo hi) (p : (lo ≤ mid) × (mid < hi)) (e : w ≡ word s (at + step * mid)) where
     -- the word is below v, and so are those before it
-    pub searching-up : Rising s at step n → w < v → Searching s at step n from v (mid + 1) hi
-    searching-up a h = record {
+    pub searching_up : Rising s at step n → w < v → Searching s at step n from v (mid + 1) hi
+    searching_up a h = record {
       least = omega (arith, c.least, p.0);
       order = omega (arith, p.1);
       most = c.most;
@@ -37,11 +37,11 @@ module _ {s : List ℕ} {at step n from v : ℕ} where
             rw q (omega arith)
 
     -- it is not
-    pub searching-down : v ≤ w → Searching s at step n from v lo mid
-    searching-down h = record { least = c.least; order = p.0; most = omega (arith, p.1, c.most); below = c.below; above = λ l. omega arith }
+    pub searching_down : v ≤ w → Searching s at step n from v lo mid
+    searching_down h = record { least = c.least; order = p.0; most = omega (arith, p.1, c.most); below = c.below; above = λ l. omega arith }
 
   -- nothing is left between the two
-  pub searching-end : {lo hi : ℕ} → Searching s at step n from v lo hi → hi ≤ lo → Reached s at step n from v lo
-  searching-end {lo} {hi} c h =
+  pub searching_end : {lo hi : ℕ} → Searching s at step n from v lo hi → hi ≤ lo → Reached s at step n from v lo
+  searching_end {lo} {hi} c h =
       let e : lo ≡ hi = omega (arith, c.order) in
       record { least = c.least; most = omega (arith, c.most); below = c.below; above = rw e c.above }

@@ -29,16 +29,16 @@ abbrev pub members : List (List ℕ) → List (Option (List ℕ))
 members bs = map (λ b. some b) bs
 
 -- offsets that were counted with the gap, less by it: those without it
-pub offsets-less : (d p : ℕ) (bs : List (List ℕ)) → less_by d (offsets (p + d) (members bs)) ≡ offsets p (members bs)
+pub offsets_less : (d p : ℕ) (bs : List (List ℕ)) → less_by d (offsets (p + d) (members bs)) ≡ offsets p (members bs)
 unfolding offsets
-offsets-less d p [] = refl
-offsets-less d p (b ∷ bs) =
+offsets_less d p [] = refl
+offsets_less d p (b ∷ bs) =
     let e : p + d - d ≡ p = omega arith in
     let f : p + d + 2 * length b ≡ p + 2 * length b + d = omega arith in
-    rw (e, f) (ap (λ (l : List ℕ). p ∷ l) (offsets-less d (p + 2 * length b) bs))
+    rw (e, f) (ap (λ (l : List ℕ). p ∷ l) (offsets_less d (p + 2 * length b) bs))
 
 -- none of them is less than the gap
-pub offsets-most : (d p : ℕ) (bs : List (List ℕ)) → d ≤ p → All (λ o. d ≤ o) (offsets p (members bs))
+pub offsets_most : (d p : ℕ) (bs : List (List ℕ)) → d ≤ p → All (λ o. d ≤ o) (offsets p (members bs))
 unfolding offsets
-offsets-most d p [] h = tt
-offsets-most d p (b ∷ bs) h = (h, offsets-most d (p + 2 * length b) bs (omega arith))
+offsets_most d p [] h = tt
+offsets_most d p (b ∷ bs) h = (h, offsets_most d (p + 2 * length b) bs (omega arith))

@@ -2,7 +2,7 @@
 ghost use Rattle.std.specs.Prelude.{◌≡◌, ◌++◌, ◌+◌, ◌-◌, ◌*◌, ◌<◌, ◌≤◌, length};
 ghost use Rattle.std.proofs.lemmas.List.Edits.{sets};
 ghost use Rattle.meaning.specs.Words.{words, flat};
-ghost use Rattle.room.specs.Laid.{outcomeOf, laidAs};
+ghost use Rattle.room.specs.Laid.{outcome_of, laid_as};
 ghost use Rattle.handing.specs.Closed.{lessened, Closed};
 ghost use Rattle.area.specs.Part.{part};
 
@@ -75,7 +75,7 @@ pub fn hand_over(
     out: &mut [u8],
 ) -> Laid
     requires { (head ≤ first) × (first ≤ end) × (end ≤ length area.now) }
-    ensures { outcomeOf result out.new ≡ laidAs fits out.old (part area.now 0 head ++ part area.now first (end - first)) }
+    ensures { outcome_of result out.new ≡ laid_as fits out.old (part area.now 0 head ++ part area.now first (end - first)) }
 {
     let rest = end - first;
     let laid = room(head + rest, fits, out.len());

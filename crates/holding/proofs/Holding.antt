@@ -9,117 +9,117 @@ use lib.ListN.{get_or, drop}
 use lib.Dec.{eqb}
 use borrow.Author.Tests.{eq-eqb, ne_eqb, not-true, not-false}
 use Rattle.meaning.specs.Words.{word, words, is_some}
-use Rattle.meaning.specs.Parts.{coverage, classIn}
-use Rattle.meaning.specs.Matching.{covers?, inClass}
-use Rattle.laws.specs.Left.{words-length, words-all}
-use Rattle.replay_laws.specs.Places.{backward, fitsOn, on-turn, on-short, on-end, fitsBack, back-turn, back-short, back_end, glyph-at}
-use Rattle.coverage_index.specs.Index.{index_of, coveredOf, is_at, is-not, member-index}
+use Rattle.meaning.specs.Parts.{coverage, class_in}
+use Rattle.meaning.specs.Matching.{covers?, in_class}
+use Rattle.laws.specs.Left.{words_length, words_all}
+use Rattle.replay_laws.specs.Places.{backward, fits_on, on_turn, on_short, on_end, fits_back, back_turn, back_short, back_end, glyph_at}
+use Rattle.coverage_index.specs.Index.{index_of, covered_of, is_at, is_not, member_index}
 use Rattle.coverage_index.specs.declared.Covered.{Covered}
 use Rattle.coverage_index.specs.declared.Covered.TheVariants.{At, Not}
 use Rattle.class_stretches.specs.Tables.{table_at}
-use Rattle.holding.specs.Held.{coverAt, held, runsOn}
+use Rattle.holding.specs.Held.{cover_at, held, runs_on}
 use Rattle.holding.specs.declared.Sequence.{Sequence}
 
 -- A coverage: a null one, one that has not the glyph, one that has it.
 module _ (s : List ℕ) (at g : ℕ) where
-  pub covers-null : at ≡ 0 → false ≡ covers? (coverAt s at) g
+  pub covers_null : at ≡ 0 → false ≡ covers? (cover_at s at) g
   unfolding covers?
-  covers-null h = rw (eq-eqb at 0 h)
+  covers_null h = rw (eq-eqb at 0 h)
 
-  module _ (h : at ≡ 0 → ⊥) {r : Covered} (e : r ≡ coveredOf (index_of (coverage s at) g)) where
-    pub covers-not : r ≡ Not → false ≡ covers? (coverAt s at) g
+  module _ (h : at ≡ 0 → ⊥) {r : Covered} (e : r ≡ covered_of (index_of (coverage s at) g)) where
+    pub covers_not : r ≡ Not → false ≡ covers? (cover_at s at) g
     unfolding covers? is_some
-    covers-not f = rw (ne_eqb at 0 h, member-index (coverage s at) g, is-not (index_of (coverage s at) g) f e)
+    covers_not f = rw (ne_eqb at 0 h, member_index (coverage s at) g, is_not (index_of (coverage s at) g) f e)
 
-    pub covers_at : {i : ℕ} → r ≡ At i → true ≡ covers? (coverAt s at) g
+    pub covers_at_lem : {i : ℕ} → r ≡ At i → true ≡ covers? (cover_at s at) g
     unfolding covers? is_some
-    covers_at f = rw (ne_eqb at 0 h, member-index (coverage s at) g, is_at (index_of (coverage s at) g) f e)
+    covers_at_lem f = rw (ne_eqb at 0 h, member_index (coverage s at) g, is_at (index_of (coverage s at) g) f e)
 
 -- A number, by its sort.
 module _ (s : List ℕ) (sort table w g : ℕ) where
-  pub held-glyph : sort ≡ 0 → eqb w g ≡ held s sort table w g
+  pub held_glyph : sort ≡ 0 → eqb w g ≡ held s sort table w g
   unfolding held
-  held-glyph h = rw (eq-eqb sort 0 h)
+  held_glyph h = rw (eq-eqb sort 0 h)
 
-  pub held-class : (sort ≡ 0 → ⊥) → sort ≡ 1 → {c : ℕ} → c ≡ classIn (table_at s table) g → eqb c w ≡ held s sort table w g
-  unfolding held inClass
-  held-class h k e = rw (ne_eqb sort 0 h, eq-eqb sort 1 k, e)
+  pub held_class : (sort ≡ 0 → ⊥) → sort ≡ 1 → {c : ℕ} → c ≡ class_in (table_at s table) g → eqb c w ≡ held s sort table w g
+  unfolding held in_class
+  held_class h k e = rw (ne_eqb sort 0 h, eq-eqb sort 1 k, e)
 
-  pub held-cover : (sort ≡ 0 → ⊥) → (sort ≡ 1 → ⊥) → {r : Bool} → r ≡ covers? (coverAt s w) g → r ≡ held s sort table w g
+  pub held_cover : (sort ≡ 0 → ⊥) → (sort ≡ 1 → ⊥) → {r : Bool} → r ≡ covers? (cover_at s w) g → r ≡ held s sort table w g
   unfolding held
-  held-cover h k e = rw (ne_eqb sort 0 h, ne_eqb sort 1 k) e
+  held_cover h k e = rw (ne_eqb sort 0 h, ne_eqb sort 1 k) e
 
 -- What the loop of `fits_on` keeps: the answer for the numbers that are left is the whole answer.
 pub record Onward (s : List ℕ) (q : Sequence) (string : List ℕ) (n place i : ℕ) : Type 0 where
   pub within : i ≤ q.len
-  pub left : fitsOn (held s q.sort q.table) s q.at q.len (words string 0 n) i (place + i) ≡ runsOn s q (drop place (words string 0 n))
+  pub left : fits_on (held s q.sort q.table) s q.at q.len (words string 0 n) i (place + i) ≡ runs_on s q (drop place (words string 0 n))
 
 -- the glyph of a place
-pub place-glyph : (string : List ℕ) (n k : ℕ) {g : ℕ} → k < n → g ≡ word string (2 * k) → get_or (words string 0 n) k 0 ≡ g
-place-glyph string n k h e = glyph-at string 0 n k h ∙ ap (word string) (zero-add (2 * k)) ∙ sym e
+pub place_glyph : (string : List ℕ) (n k : ℕ) {g : ℕ} → k < n → g ≡ word string (2 * k) → get_or (words string 0 n) k 0 ≡ g
+place_glyph string n k h e = glyph_at string 0 n k h ∙ ap (word string) (zero-add (2 * k)) ∙ sym e
 
 module _ {s : List ℕ} {q : Sequence} {string : List ℕ} {n place : ℕ} where
-  pub onward-all : Onward s q string n place 0
-  unfolding runsOn
-  onward-all = record { within = omega arith; left = rw (words-all s q.at q.len, add-zero place) }
+  pub onward_all : Onward s q string n place 0
+  unfolding runs_on
+  onward_all = record { within = omega arith; left = rw (words_all s q.at q.len, add-zero place) }
 
   module _ {i : ℕ} (k : Onward s q string n place i) (h : i < q.len) where
     -- the string ends
-    pub onward-short : n ≤ place + i → false ≡ runsOn s q (drop place (words string 0 n))
-    onward-short l =
-        sym (on-short (held s q.sort q.table) s q.at q.len (words string 0 n) i (place + i) h (omega (arith, words-length string 0 n))) ∙ k.left
+    pub onward_short : n ≤ place + i → false ≡ runs_on s q (drop place (words string 0 n))
+    onward_short l =
+        sym (on_short (held s q.sort q.table) s q.at q.len (words string 0 n) i (place + i) h (omega (arith, words_length string 0 n))) ∙ k.left
 
     module _ (l : place + i < n) {w g : ℕ} (e : w ≡ word s (q.at + 2 * i)) (f : g ≡ word string (2 * (place + i))) {b : Bool} (t : b ≡ held s q.sort q.table w g) where
-      turn : b && fitsOn (held s q.sort q.table) s q.at q.len (words string 0 n) (i + 1) (suc (place + i)) ≡ runsOn s q (drop place (words string 0 n))
+      turn : b && fits_on (held s q.sort q.table) s q.at q.len (words string 0 n) (i + 1) (suc (place + i)) ≡ runs_on s q (drop place (words string 0 n))
       turn =
-          rw (t, e, ← place-glyph string n (place + i) l f)
-          (sym (on-turn (held s q.sort q.table) s q.at q.len (words string 0 n) i (place + i) h (omega (arith, words-length string 0 n))) ∙ k.left)
+          rw (t, e, ← place_glyph string n (place + i) l f)
+          (sym (on_turn (held s q.sort q.table) s q.at q.len (words string 0 n) i (place + i) h (omega (arith, words_length string 0 n))) ∙ k.left)
 
-      pub onward-not : not b ≡ true → false ≡ runsOn s q (drop place (words string 0 n))
-      onward-not z = rw (not-true b z) at turn
+      pub onward_not : not b ≡ true → false ≡ runs_on s q (drop place (words string 0 n))
+      onward_not z = rw (not-true b z) at turn
 
-      pub onward-turn : not b ≡ false → Onward s q string n place (i + 1)
-      onward-turn z =
+      pub onward_turn : not b ≡ false → Onward s q string n place (i + 1)
+      onward_turn z =
           let d : place + (i + 1) ≡ suc (place + i) = omega arith in
           record { within = omega arith; left = rw d (rw (not-false b z) at turn) }
 
-  pub onward-end : {i : ℕ} → Onward s q string n place i → q.len ≤ i → true ≡ runsOn s q (drop place (words string 0 n))
-  onward-end {i} k h = sym (on-end (held s q.sort q.table) s q.at q.len (words string 0 n) i (place + i) h) ∙ k.left
+  pub onward_end : {i : ℕ} → Onward s q string n place i → q.len ≤ i → true ≡ runs_on s q (drop place (words string 0 n))
+  onward_end {i} k h = sym (on_end (held s q.sort q.table) s q.at q.len (words string 0 n) i (place + i) h) ∙ k.left
 
 -- The same for `fits_back`, before a place.
 pub record Away (s : List ℕ) (q : Sequence) (string : List ℕ) (n place i : ℕ) : Type 0 where
   pub within : i ≤ q.len
   pub before : i ≤ place
-  pub left : fitsBack (held s q.sort q.table) s q.at q.len (words string 0 n) i (place - i) ≡ runsOn s q (backward (words string 0 n) place)
+  pub left : fits_back (held s q.sort q.table) s q.at q.len (words string 0 n) i (place - i) ≡ runs_on s q (backward (words string 0 n) place)
 
 module _ {s : List ℕ} {q : Sequence} {string : List ℕ} {n place : ℕ} where
-  pub away-all : Away s q string n place 0
-  unfolding runsOn
-  away-all =
+  pub away_all : Away s q string n place 0
+  unfolding runs_on
+  away_all =
       let d : place - 0 ≡ place = omega arith in
-      record { within = omega arith; before = omega arith; left = rw (words-all s q.at q.len, d) }
+      record { within = omega arith; before = omega arith; left = rw (words_all s q.at q.len, d) }
 
   module _ {i : ℕ} (k : Away s q string n place i) (h : i < q.len) where
     -- no glyph is left
-    pub away-short : place ≤ i → false ≡ runsOn s q (backward (words string 0 n) place)
-    away-short l =
+    pub away_short : place ≤ i → false ≡ runs_on s q (backward (words string 0 n) place)
+    away_short l =
         let d : place - i ≡ 0 = omega arith in
-        sym (back-short (held s q.sort q.table) s q.at q.len (words string 0 n) i h) ∙ (rw d at k.left)
+        sym (back_short (held s q.sort q.table) s q.at q.len (words string 0 n) i h) ∙ (rw d at k.left)
 
     module _ (l : i < place) (m : place < n) {w g : ℕ} (e : w ≡ word s (q.at + 2 * i)) (f : g ≡ word string (2 * (place - i - 1))) {b : Bool} (t : b ≡ held s q.sort q.table w g) where
-      turn-back : b && fitsBack (held s q.sort q.table) s q.at q.len (words string 0 n) (i + 1) (place - i - 1) ≡ runsOn s q (backward (words string 0 n) place)
-      turn-back =
+      turn_back : b && fits_back (held s q.sort q.table) s q.at q.len (words string 0 n) (i + 1) (place - i - 1) ≡ runs_on s q (backward (words string 0 n) place)
+      turn_back =
           let d : place - i ≡ suc (place - i - 1) = omega arith in
-          rw (t, e, ← place-glyph string n (place - i - 1) (omega arith) f)
-          (sym (back-turn (held s q.sort q.table) s q.at q.len (words string 0 n) i (place - i - 1) h) ∙ (rw d at k.left))
+          rw (t, e, ← place_glyph string n (place - i - 1) (omega arith) f)
+          (sym (back_turn (held s q.sort q.table) s q.at q.len (words string 0 n) i (place - i - 1) h) ∙ (rw d at k.left))
 
-      pub away-not : not b ≡ true → false ≡ runsOn s q (backward (words string 0 n) place)
-      away-not z = rw (not-true b z) at turn-back
+      pub away_not : not b ≡ true → false ≡ runs_on s q (backward (words string 0 n) place)
+      away_not z = rw (not-true b z) at turn_back
 
-      pub away-turn : not b ≡ false → Away s q string n place (i + 1)
-      away-turn z =
+      pub away_turn : not b ≡ false → Away s q string n place (i + 1)
+      away_turn z =
           let d : place - (i + 1) ≡ place - i - 1 = omega arith in
-          record { within = omega arith; before = omega arith; left = rw d (rw (not-false b z) at turn-back) }
+          record { within = omega arith; before = omega arith; left = rw d (rw (not-false b z) at turn_back) }
 
-  pub away-end : {i : ℕ} → Away s q string n place i → q.len ≤ i → true ≡ runsOn s q (backward (words string 0 n) place)
-  away-end {i} k h = sym (back_end (held s q.sort q.table) s q.at q.len (words string 0 n) i (place - i) h) ∙ k.left
+  pub away_end : {i : ℕ} → Away s q string n place i → q.len ≤ i → true ≡ runs_on s q (backward (words string 0 n) place)
+  away_end {i} k h = sym (back_end (held s q.sort q.table) s q.at q.len (words string 0 n) i (place - i) h) ∙ k.left

@@ -3,23 +3,23 @@ use Rattle.std.specs.Prelude.{ℕ, ◌+◌, ◌≤◌, Bool, ◌&&◌, List, dro
 use Rattle.replay_laws.specs.Places.{backward}
 use Rattle.rules.specs.declared.Row.{Row}
 use Rattle.rules.specs.declared.RuleParts.{RuleParts}
-use Rattle.holding.specs.Held.{Fine, runsOn}
+use Rattle.holding.specs.Held.{Fine, runs_on}
 use Rattle.holding.specs.declared.Sequence.{Sequence}
 use Rattle.holding.specs.declared.How.{How}
 
 -- the numbers of a row as a sequence
-abbrev pub sequenceOf : ℕ → ℕ → Row → Sequence
-sequenceOf sort table row = record { sort = sort; table = table; at = row.at; len = row.len }
+abbrev pub sequence_of : ℕ → ℕ → Row → Sequence
+sequence_of sort table row = record { sort = sort; table = table; at = row.at; len = row.len }
 
 -- the parts of a rule fit at a place, with the input from `start` on
-unfoldable pub partsFit : List ℕ → How → RuleParts → List ℕ → ℕ → ℕ → Bool
-partsFit s h r text place start =
-    ltb 0 r.count && (runsOn s (sequenceOf h.sort h.input r.input) (drop start text)
-    && (runsOn s (sequenceOf h.sort h.ahead r.ahead) (drop (place + r.count) text) && runsOn s (sequenceOf h.sort h.back r.back) (backward text place)))
+unfoldable pub parts_fit : List ℕ → How → RuleParts → List ℕ → ℕ → ℕ → Bool
+parts_fit s h r text place start =
+    ltb 0 r.count && (runs_on s (sequence_of h.sort h.input r.input) (drop start text)
+    && (runs_on s (sequence_of h.sort h.ahead r.ahead) (drop (place + r.count) text) && runs_on s (sequence_of h.sort h.back r.back) (backward text place)))
 
 -- what they ask of the source
 pub record FineParts (s : List ℕ) (h : How) (r : RuleParts) : Type 0 where
   pub count : r.count ≤ 65536
-  pub back : Fine s (sequenceOf h.sort h.back r.back)
-  pub input : Fine s (sequenceOf h.sort h.input r.input)
-  pub ahead : Fine s (sequenceOf h.sort h.ahead r.ahead)
+  pub back : Fine s (sequence_of h.sort h.back r.back)
+  pub input : Fine s (sequence_of h.sort h.input r.input)
+  pub ahead : Fine s (sequence_of h.sort h.ahead r.ahead)

@@ -1,11 +1,11 @@
 // Sequences of numbers held against the glyphs of a string: numbers are glyphs, classes, or the offsets of coverages. A string is `n` glyphs in a slice, two bytes a glyph.
 ghost use Rattle.std.specs.Prelude.{◌≡◌, true, ◌+◌, ◌*◌, ◌≤◌, ◌<◌, drop};
 ghost use Rattle.meaning.specs.Words.{words};
-ghost use Rattle.meaning.specs.Parts.{coverageSound};
+ghost use Rattle.meaning.specs.Parts.{coverage_sound};
 ghost use Rattle.meaning.specs.Matching.{covers?};
 ghost use Rattle.replay_laws.specs.Places.{backward};
-ghost use Rattle.holding.specs.Held.{coverAt, held, Fine, SoundNumber, runsOn};
-ghost use Rattle.holding.specs.Fitting.{FineParts, sequenceOf, partsFit};
+ghost use Rattle.holding.specs.Held.{cover_at, held, Fine, SoundNumber, runs_on};
+ghost use Rattle.holding.specs.Fitting.{FineParts, sequence_of, parts_fit};
 
 use class_stretches::class_of;
 use coverage_index::{Covered, index_of};
@@ -32,8 +32,8 @@ pub struct How {
 
 // Whether the coverage at `at` has the glyph; a null one has none.
 pub fn covers(src: &[u8], at: usize, glyph: usize) -> bool
-    requires { ((at ≡ 0 → ⊥) → coverageSound src.now at ≡ true) × (glyph < 65536) }
-    ensures { result ≡ covers? (coverAt src.now at) glyph }
+    requires { ((at ≡ 0 → ⊥) → coverage_sound src.now at ≡ true) × (glyph < 65536) }
+    ensures { result ≡ covers? (cover_at src.now at) glyph }
 {
     if at == 0 {
         return false;
@@ -61,7 +61,7 @@ fn holds(src: &[u8], sort: usize, table: usize, number: usize, glyph: usize) -> 
 // Whether the numbers of a sequence hold for the glyphs from `place` on, one each.
 fn fits_on(src: &[u8], q: Sequence, string: &[u8], n: usize, place: usize) -> bool
     requires { Fine src.now q × (place < 0x1_0000_0000_0000) }
-    ensures { result ≡ runsOn src.now q (drop place (words string.now 0 n)) }
+    ensures { result ≡ runs_on src.now q (drop place (words string.now 0 n)) }
 {
     let mut i = 0;
     while i < q.len {
@@ -81,7 +81,7 @@ fn fits_on(src: &[u8], q: Sequence, string: &[u8], n: usize, place: usize) -> bo
 // Whether the numbers of a sequence hold for the glyphs before `place`, nearest first, one each.
 fn fits_back(src: &[u8], q: Sequence, string: &[u8], n: usize, place: usize) -> bool
     requires { Fine src.now q × (place < n) × (n < 0x1_0000_0000_0000) }
-    ensures { result ≡ runsOn src.now q (backward (words string.now 0 n) place) }
+    ensures { result ≡ runs_on src.now q (backward (words string.now 0 n) place) }
 {
     let mut i = 0;
     while i < q.len {
@@ -100,7 +100,7 @@ fn fits_back(src: &[u8], q: Sequence, string: &[u8], n: usize, place: usize) -> 
 
 // The numbers of a row as a sequence.
 fn held_row(sort: usize, table: usize, row: Row) -> Sequence
-    ensures { result ≡ sequenceOf sort table row }
+    ensures { result ≡ sequence_of sort table row }
 {
     Sequence {
         sort,
@@ -121,7 +121,7 @@ pub fn parts_fit(
     start: usize,
 ) -> bool
     requires { FineParts src.now how r × (place < n) × (n < 0x1_0000_0000) × (start ≤ n) }
-    ensures { result ≡ partsFit src.now how r (words string.now 0 n) place start }
+    ensures { result ≡ parts_fit src.now how r (words string.now 0 n) place start }
 {
     if r.count == 0 {
         return false;

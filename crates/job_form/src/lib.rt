@@ -1,6 +1,6 @@
 // Whether a file is a label job: its length, its tag and its parts.
 ghost use Rattle.std.specs.Prelude.{◌≡◌, ◌+◌, ◌≤◌, ◌<◌, length};
-ghost use Rattle.meaning.specs.Job.{part_at, before, goodJob};
+ghost use Rattle.meaning.specs.Job.{part_at, before, good_job};
 
 use job_parts::{TRAILER, long_at};
 use job_tags::is_tagged;
@@ -18,7 +18,7 @@ fn is_before(file: &[u8], at: usize) -> bool
 
 // Whether the file is a job: of 30 bytes to the limit, it ends in a tag, and its three parts lie wholly before the trailer.
 pub fn good_job(file: &[u8]) -> bool
-    ensures { result ≡ goodJob file.now }
+    ensures { result ≡ good_job file.now }
 {
     if file.len() < TRAILER {
         return false;

@@ -1,6 +1,6 @@
 // The parts of a label job that its trailer points back to.
 ghost use Rattle.std.specs.Prelude.{◌≡◌, true, ◌+◌, ◌<◌};
-ghost use Rattle.meaning.specs.Job.{long, part_at, tablePart, glyphPart, lookupPart, before, goodJob, bytes_of};
+ghost use Rattle.meaning.specs.Job.{long, part_at, table_part, glyph_part, lookup_part, before, good_job, bytes_of};
 
 use wire::word_at;
 
@@ -27,24 +27,24 @@ fn part(file: &[u8], at: usize) -> &[u8]
 
 // The table of a job, as a part of the lent file.
 pub fn table_part(file: &[u8]) -> &[u8]
-    requires { goodJob file.now ≡ true }
-    ensures { result.now ≡ bytes_of file.now (tablePart file.now) }
+    requires { good_job file.now ≡ true }
+    ensures { result.now ≡ bytes_of file.now (table_part file.now) }
 {
     part(file, file.len() - TRAILER + 2)
 }
 
 // The glyph map of a job, as a part of the lent file.
 pub fn glyph_part(file: &[u8]) -> &[u8]
-    requires { goodJob file.now ≡ true }
-    ensures { result.now ≡ bytes_of file.now (glyphPart file.now) }
+    requires { good_job file.now ≡ true }
+    ensures { result.now ≡ bytes_of file.now (glyph_part file.now) }
 {
     part(file, file.len() - TRAILER + 10)
 }
 
 // The lookup map of a job, as a part of the lent file.
 pub fn lookup_part(file: &[u8]) -> &[u8]
-    requires { goodJob file.now ≡ true }
-    ensures { result.now ≡ bytes_of file.now (lookupPart file.now) }
+    requires { good_job file.now ≡ true }
+    ensures { result.now ≡ bytes_of file.now (lookup_part file.now) }
 {
     part(file, file.len() - TRAILER + 18)
 }

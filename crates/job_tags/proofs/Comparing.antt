@@ -9,7 +9,7 @@ use lib.ListN.{length, get_or, drop, take, length-drop, drop_of_length-le}
 use lib.Seq.{drop-cons, take_all}
 use lib.Dec.{eqb}
 use borrow.Author.Tests.{eq-eqb, ne_eqb}
-use Rattle.meaning.specs.Job.{eq_list, ascii, tag, runsTag, endsIn, tagged, form_of}
+use Rattle.meaning.specs.Job.{eq_list, ascii, tag, runs_tag, ends_in, tagged, form_of}
 
 -- lists of other lengths are not the same
 pub other_length : (a b : List ℕ) → (length a ≡ length b → ⊥) → false ≡ eq_list a b
@@ -30,8 +30,8 @@ pub record Comparing (a b : List ℕ) (i : ℕ) : Type 0 where
   pub left : eq_list (drop i a) (drop i b) ≡ eq_list a b
 
 module _ {a b : List ℕ} where
-  pub comparing-all : length a ≡ length b → Comparing a b 0
-  comparing-all e = record { within = omega arith; as_long = e; left = refl }
+  pub comparing_all : length a ≡ length b → Comparing a b 0
+  comparing_all e = record { within = omega arith; as_long = e; left = refl }
 
   module _ {i : ℕ} (k : Comparing a b i) where
     module _ (h : i < length a) where
@@ -40,39 +40,39 @@ module _ {a b : List ℕ} where
       unfolding eq_list
       turn = rw (drop-cons a i 0 h, drop-cons b i 0 (omega (arith, k.as_long))) at k.left
 
-      pub comparing-turn : get_or a i 0 ≡ get_or b i 0 → Comparing a b (i + 1)
-      comparing-turn e = record { within = omega arith; as_long = k.as_long; left = rw add-one (rw (eq-eqb (get_or a i 0) (get_or b i 0) e) at turn) }
+      pub comparing_turn : get_or a i 0 ≡ get_or b i 0 → Comparing a b (i + 1)
+      comparing_turn e = record { within = omega arith; as_long = k.as_long; left = rw add-one (rw (eq-eqb (get_or a i 0) (get_or b i 0) e) at turn) }
 
-      pub comparing-other : (get_or a i 0 ≡ get_or b i 0 → ⊥) → false ≡ eq_list a b
-      comparing-other e = rw (ne_eqb (get_or a i 0) (get_or b i 0) e) at turn
+      pub comparing_other : (get_or a i 0 ≡ get_or b i 0 → ⊥) → false ≡ eq_list a b
+      comparing_other e = rw (ne_eqb (get_or a i 0) (get_or b i 0) e) at turn
 
-    pub comparing-end : length a ≤ i → true ≡ eq_list a b
+    pub comparing_end : length a ≤ i → true ≡ eq_list a b
     unfolding eq_list
-    comparing-end h = rw (drop_of_length-le a h, drop_of_length-le b {i = i} (omega (arith, k.as_long))) at k.left
+    comparing_end h = rw (drop_of_length-le a h, drop_of_length-le b {i = i} (omega (arith, k.as_long))) at k.left
 
 -- the last four bytes, compared with a tag
-pub tag-says : (f tag : List ℕ) {r : Bool} → 30 ≤ length f → r ≡ eq_list (take (length f - (length f - 4)) (drop (length f - 4) f)) tag → r ≡ endsIn tag f
-unfolding endsIn
-tag-says f tag h e = rw (take_all (length f - (length f - 4)) (drop (length f - 4) f) (omega (arith, length-drop (length f - 4) f))) at e
+pub tag_says : (f tag : List ℕ) {r : Bool} → 30 ≤ length f → r ≡ eq_list (take (length f - (length f - 4)) (drop (length f - 4) f)) tag → r ≡ ends_in tag f
+unfolding ends_in
+tag_says f tag h e = rw (take_all (length f - (length f - 4)) (drop (length f - 4) f) (omega (arith, length-drop (length f - 4) f))) at e
 
 -- Each of the two tags, by its bytes.
 module _ (f : List ℕ) {r : Bool} where
-  pub runs-tag : r ≡ endsIn (76 ∷ 83 ∷ 74 ∷ 50 ∷ []) f → r ≡ endsIn runsTag f
-  unfolding runsTag ascii
-  runs-tag e = e
+  pub runs_tag_lem : r ≡ ends_in (76 ∷ 83 ∷ 74 ∷ 50 ∷ []) f → r ≡ ends_in runs_tag f
+  unfolding runs_tag ascii
+  runs_tag_lem e = e
 
-  pub pairs-tagged : r ≡ endsIn (76 ∷ 83 ∷ 74 ∷ 49 ∷ []) f → r ≡ true → true ≡ tagged f
+  pub pairs_tagged : r ≡ ends_in (76 ∷ 83 ∷ 74 ∷ 49 ∷ []) f → r ≡ true → true ≡ tagged f
   unfolding tagged tag ascii
-  pairs-tagged e h =
-      let d : endsIn tag f ≡ true = sym e ∙ h in
+  pairs_tagged e h =
+      let d : ends_in tag f ≡ true = sym e ∙ h in
       rw d
 
-  pub runs-tagged : r ≡ endsIn (76 ∷ 83 ∷ 74 ∷ 49 ∷ []) f → r ≡ false → {q : Bool} → q ≡ endsIn runsTag f → q ≡ tagged f
+  pub runs_tagged : r ≡ ends_in (76 ∷ 83 ∷ 74 ∷ 49 ∷ []) f → r ≡ false → {q : Bool} → q ≡ ends_in runs_tag f → q ≡ tagged f
   unfolding tagged tag ascii
-  runs-tagged e h g =
-      let d : endsIn tag f ≡ false = sym e ∙ h in
+  runs_tagged e h g =
+      let d : ends_in tag f ≡ false = sym e ∙ h in
       rw d g
 
-  pub form-says : r ≡ endsIn runsTag f → {b : Bool} → r ≡ b → cond b 6 4 ≡ form_of f
+  pub form_says : r ≡ ends_in runs_tag f → {b : Bool} → r ≡ b → cond b 6 4 ≡ form_of f
   unfolding form_of
-  form-says e h = rw (← e, h)
+  form_says e h = rw (← e, h)

@@ -1,6 +1,6 @@
 // The tags that a label job ends in, one for each form of glyph map.
 ghost use Rattle.std.specs.Prelude.{◌≡◌, true, ◌+◌, ◌≤◌, ◌<◌, length};
-ghost use Rattle.meaning.specs.Job.{eq_list, runsTag, endsIn, tagged, form_of};
+ghost use Rattle.meaning.specs.Job.{eq_list, runs_tag, ends_in, tagged, form_of};
 
 // Whether two slices hold the same bytes.
 fn same(a: &[u8], b: &[u8]) -> bool
@@ -22,7 +22,7 @@ fn same(a: &[u8], b: &[u8]) -> bool
 // Whether the file ends in this tag.
 fn ends_in(file: &[u8], tag: &[u8]) -> bool
     requires { 30 ≤ length file.now }
-    ensures { result ≡ endsIn tag.now file.now }
+    ensures { result ≡ ends_in tag.now file.now }
 {
     let at = file.len() - 4;
     same(&file[at..], tag)
@@ -31,7 +31,7 @@ fn ends_in(file: &[u8], tag: &[u8]) -> bool
 // Whether it ends in the tag of a glyph map of runs.
 fn has_runs(file: &[u8]) -> bool
     requires { 30 ≤ length file.now }
-    ensures { result ≡ endsIn runsTag file.now }
+    ensures { result ≡ ends_in runs_tag file.now }
 {
     ends_in(file, b"LSJ2")
 }

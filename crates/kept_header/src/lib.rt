@@ -1,7 +1,7 @@
 // Format 1 of each kind: the table is put together around its kept sets.
 ghost use Rattle.std.specs.Prelude.{[], ◌∷◌, ◌++◌, ◌≡◌, ◌-◌, ◌≤◌, length, ltb};
 ghost use Rattle.laws.specs.Written.{Wrote};
-ghost use Rattle.placed_sets.specs.Sorts.{moreOf, headerSize};
+ghost use Rattle.placed_sets.specs.Sorts.{more_of, header_size};
 ghost use Rattle.kept_header.specs.Table.{Finishes, Finished};
 
 use area::{put_three, put_two};
@@ -12,8 +12,8 @@ use room::HIGHEST;
 
 // The words before the offsets of the sets; the place after them.
 fn write_header(sort: Sort, area: &mut [u8], cover: usize, k: usize) -> usize
-    requires { headerSize sort ≤ length area.old }
-    ensures { Wrote area.old 0 (1 ∷ cover ∷ (moreOf sort ++ (k ∷ []))) area.new result }
+    requires { header_size sort ≤ length area.old }
+    ensures { Wrote area.old 0 (1 ∷ cover ∷ (more_of sort ++ (k ∷ []))) area.new result }
 {
     match sort {
         Sort::Rules(_) => put_three(area, 0, 1, cover, k),

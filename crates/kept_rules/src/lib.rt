@@ -2,11 +2,11 @@
 ghost use Rattle.std.specs.Prelude.{◌≡◌, true, false, ◌+◌, ◌≤◌, ◌<◌, length};
 ghost use Rattle.std.proofs.Math.Option.{none};
 ghost use Rattle.meaning.specs.Tables.{rule};
-ghost use Rattle.meaning.specs.Fault.{ruleFault};
-ghost use Rattle.meaning.specs.Cut.{cutRule};
-ghost use Rattle.meaning.specs.Layout.{block, ruleWords};
+ghost use Rattle.meaning.specs.Fault.{rule_fault};
+ghost use Rattle.meaning.specs.Cut.{cut_rule};
+ghost use Rattle.meaning.specs.Layout.{block, rule_words};
 ghost use Rattle.numbers.specs.Leaves.{Leaves};
-ghost use Rattle.kept_rules.specs.Left.{AllInside, mapsIn, ruleSize, aheadOn, aheadSize, inputOn, inputSize};
+ghost use Rattle.kept_rules.specs.Left.{AllInside, maps_in, rule_size, ahead_on, ahead_size, input_on, input_size};
 
 use area::{over, put_two};
 use cell_maps::Map;
@@ -25,8 +25,8 @@ pub struct Maps {
 
 // What is left of the plain rule at `at`, from `pos` on: nothing if its glyph count is 0 or a number of its input has no new one.
 fn write_plain(src: &[u8], at: usize, t: &[u32], maps: Maps, area: &mut [u8], pos: usize) -> usize
-    requires { (ruleFault false src.now at ≡ none) × AllInside t.now maps × (pos ≤ length area.old) }
-    ensures { Leaves area.old pos (block (ruleWords false) (cutRule false (mapsIn t.now maps) (rule false src.now at))) (ruleSize false src.now at) area.new result }
+    requires { (rule_fault false src.now at ≡ none) × AllInside t.now maps × (pos ≤ length area.old) }
+    ensures { Leaves area.old pos (block (rule_words false) (cut_rule false (maps_in t.now maps) (rule false src.now at))) (rule_size false src.now at) area.new result }
 {
     let count = word_inside(src, at);
     if count == 0 {
@@ -48,8 +48,8 @@ fn write_plain(src: &[u8], at: usize, t: &[u32], maps: Maps, area: &mut [u8], po
 
 // What is left of a chained rule from its lookahead on, which stands at `at`: nothing if a number of the lookahead has no new one.
 fn write_ahead(src: &[u8], at: usize, t: &[u32], maps: Maps, area: &mut [u8], pos: usize) -> usize
-    requires { (at + aheadSize src.now at ≤ length src.now) × AllInside t.now maps × (0 < pos) × (pos ≤ length area.old) }
-    ensures { Leaves area.old pos (aheadOn (mapsIn t.now maps) src.now at) (aheadSize src.now at) area.new result }
+    requires { (at + ahead_size src.now at ≤ length src.now) × AllInside t.now maps × (0 < pos) × (pos ≤ length area.old) }
+    ensures { Leaves area.old pos (ahead_on (maps_in t.now maps) src.now at) (ahead_size src.now at) area.new result }
 {
     let n = word_inside(src, at);
     let p = write_counted(n, src, at + 2, n, t, maps.ahead, area, pos);
@@ -63,8 +63,8 @@ fn write_ahead(src: &[u8], at: usize, t: &[u32], maps: Maps, area: &mut [u8], po
 
 // What is left of a chained rule from its input on, which stands at `at`.
 fn write_input(src: &[u8], at: usize, t: &[u32], maps: Maps, area: &mut [u8], pos: usize) -> usize
-    requires { (at + inputSize src.now at ≤ length src.now) × AllInside t.now maps × (0 < pos) × (pos ≤ length area.old) }
-    ensures { Leaves area.old pos (inputOn (mapsIn t.now maps) src.now at) (inputSize src.now at) area.new result }
+    requires { (at + input_size src.now at ≤ length src.now) × AllInside t.now maps × (0 < pos) × (pos ≤ length area.old) }
+    ensures { Leaves area.old pos (input_on (maps_in t.now maps) src.now at) (input_size src.now at) area.new result }
 {
     let count = word_inside(src, at);
     let n = after_first(count);
@@ -77,8 +77,8 @@ fn write_input(src: &[u8], at: usize, t: &[u32], maps: Maps, area: &mut [u8], po
 
 // What is left of the chained rule at `at`, from `pos` on: nothing if one of its numbers has no new one.
 fn write_chained(src: &[u8], at: usize, t: &[u32], maps: Maps, area: &mut [u8], pos: usize) -> usize
-    requires { (ruleFault true src.now at ≡ none) × AllInside t.now maps × (0 < pos) × (pos ≤ length area.old) }
-    ensures { Leaves area.old pos (block (ruleWords true) (cutRule true (mapsIn t.now maps) (rule true src.now at))) (ruleSize true src.now at) area.new result }
+    requires { (rule_fault true src.now at ≡ none) × AllInside t.now maps × (0 < pos) × (pos ≤ length area.old) }
+    ensures { Leaves area.old pos (block (rule_words true) (cut_rule true (maps_in t.now maps) (rule true src.now at))) (rule_size true src.now at) area.new result }
 {
     let n = word_inside(src, at);
     let p = write_counted(n, src, at + 2, n, t, maps.back, area, pos);
@@ -98,8 +98,8 @@ pub fn write_rule(
     area: &mut [u8],
     pos: usize,
 ) -> usize
-    requires { (ruleFault chained src.now at ≡ none) × AllInside t.now maps × (0 < pos) × (pos ≤ length area.old) }
-    ensures { Leaves area.old pos (block (ruleWords chained) (cutRule chained (mapsIn t.now maps) (rule chained src.now at))) (ruleSize chained src.now at) area.new result }
+    requires { (rule_fault chained src.now at ≡ none) × AllInside t.now maps × (0 < pos) × (pos ≤ length area.old) }
+    ensures { Leaves area.old pos (block (rule_words chained) (cut_rule chained (maps_in t.now maps) (rule chained src.now at))) (rule_size chained src.now at) area.new result }
 {
     if chained {
         return write_chained(src, at, t, maps, area, pos);

@@ -1,7 +1,7 @@
 // Format 1 of each kind: the sets of the retained covered glyphs, written one after the other into the area, behind a place for the header and for an offset each.
 ghost use Rattle.std.specs.Prelude.{◌≤◌, length};
-ghost use Rattle.room.specs.Laid.{enoughArea};
-ghost use Rattle.kept_rules.specs.Left.{mapsIn};
+ghost use Rattle.room.specs.Laid.{enough_area};
+ghost use Rattle.kept_rules.specs.Left.{maps_in};
 ghost use Rattle.known_blocks.specs.Book.{packs};
 ghost use Rattle.placed_sets.specs.Sorts.{Told};
 ghost use Rattle.placed_sets.specs.Kept.{Roomy, Ready, WroteKept};
@@ -31,7 +31,7 @@ pub fn write_kept(
     area: &mut [u8],
     book: &mut [u32],
 ) -> Sets
-    requires { Ready sort src.now t.old maps notes.at notes.count × Told sort (mapsIn t.old maps) src.now told.old × (length area.old ≤ enoughArea) × Roomy book.old }
+    requires { Ready sort src.now t.old maps notes.at notes.count × Told sort (maps_in t.old maps) src.now told.old × (length area.old ≤ enough_area) × Roomy book.old }
     ensures { WroteKept sort src.now t.old maps notes.at notes.count (packs book.old) area.old t.new area.new result }
 {
     let slots = header_size(sort);

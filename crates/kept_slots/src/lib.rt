@@ -1,7 +1,7 @@
 // One offset of a context by coverages whose coverage is not written yet: what is left of it, written into the area.
 ghost use Rattle.std.specs.Prelude.{◌-◌, ◌≤◌, length};
-ghost use Rattle.meaning.specs.Maps.{glyphEntries};
-ghost use Rattle.cover_parts.specs.Rows.{WritesSlot, left_at, slotLeft, LaysLeft};
+ghost use Rattle.meaning.specs.Maps.{glyph_entries};
+ghost use Rattle.cover_parts.specs.Rows.{WritesSlot, left_at, slot_left, LaysLeft};
 
 use area_parts::write_cover;
 use cover_parts::{Held, Places, Slot};
@@ -20,7 +20,7 @@ pub fn write_left(
     book: &mut [u32],
 ) -> usize
     requires { WritesSlot src.now slot glyphs.now held t.old area.old places book.old × (places.pos ≤ length area.old) }
-    ensures { LaysLeft (left_at (glyphEntries held.form glyphs.now) src.now) (slotLeft (glyphEntries held.form glyphs.now) src.now slot.cover) held.map t.old t.new area.old slot.at places area.new result book.old book.new }
+    ensures { LaysLeft (left_at (glyph_entries held.form glyphs.now) src.now) (slot_left (glyph_entries held.form glyphs.now) src.now slot.cover) held.map t.old t.new area.old slot.at places area.new result book.old book.new }
 {
     let notes = held.map.at + held.map.mask + 1;
     let k = meet(src, slot.cover, glyphs, held.form, held.map, t, notes);

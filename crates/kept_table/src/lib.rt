@@ -1,9 +1,9 @@
 // The table of the kept sets of format 1: the sets are written into the area, the table is put together around them, and it is handed over to the buffer.
 ghost use Rattle.std.specs.Prelude.{◌-◌, ◌≤◌, length, eqb};
-ghost use Rattle.room.specs.Laid.{enoughArea};
-ghost use Rattle.kept_rules.specs.Left.{mapsIn};
+ghost use Rattle.room.specs.Laid.{enough_area};
+ghost use Rattle.kept_rules.specs.Left.{maps_in};
 ghost use Rattle.placed_sets.specs.Sorts.{Told};
-ghost use Rattle.placed_sets.specs.Kept.{Ready, keptIn};
+ghost use Rattle.placed_sets.specs.Kept.{Ready, kept_in};
 ghost use Rattle.kept_header.specs.Table.{table_of};
 ghost use Rattle.kept_header.specs.Answers.{NoRoom, Answered};
 
@@ -37,8 +37,8 @@ pub fn write_table(
     area: &mut [u8],
     out: &mut [u8],
 ) -> Tried
-    requires { Ready sort src.now t.old maps notes.at notes.count × (length area.old ≤ enoughArea) × Told sort (mapsIn t.old maps) src.now told.old }
-    ensures { Answered ⊥ out.old (table_of (eqb notes.packing 1) sort (keptIn sort src.now t.old maps notes.at notes.count)) (length area.old) result out.new }
+    requires { Ready sort src.now t.old maps notes.at notes.count × (length area.old ≤ enough_area) × Told sort (maps_in t.old maps) src.now told.old }
+    ensures { Answered ⊥ out.old (table_of (eqb notes.packing 1) sort (kept_in sort src.now t.old maps notes.at notes.count)) (length area.old) result out.new }
 {
     let m = notes.count;
     let sets = write_sets(sort, src, told, t, notes, maps, area);

@@ -7,11 +7,11 @@ use mathlib.Core.List.{List, [], ◌∷◌, ◌++◌, append-nil}
 use native.Mathlib.Omega.{arith}
 use lib.ListN.{length, get_or}
 use Rattle.meaning.specs.Words.{eq_list}
-use Rattle.meaning.specs.Tables.{dropNull}
-use Rattle.meaning.specs.Packed.{without, firstOfEach, offsetIn}
-use Rattle.laws.specs.Repeats.{list_same, same-list, has}
-use Rattle.known_blocks.specs.Shared.{known, place_in, firsts-next}
-use Rattle.known_blocks.specs.Book.{packs, inBook, Listed, wordsBefore, Leads, Booked, Repeated, Again}
+use Rattle.meaning.specs.Tables.{drop_null}
+use Rattle.meaning.specs.Packed.{without, first_of_each, offset_in}
+use Rattle.laws.specs.Repeats.{list_same, same_list, has}
+use Rattle.known_blocks.specs.Shared.{known, place_in, firsts_next}
+use Rattle.known_blocks.specs.Book.{packs, in_book, Listed, words_before, Leads, Booked, Repeated, Again}
 
 -- no block is equal to a later one
 abbrev pub Different : List (List ℕ) → Type 0
@@ -22,79 +22,79 @@ other : (a b : List ℕ) → eq_list a b ≡ false → eq_list b a ≡ false
 other a b n = step (eq_list b a) refl
   where
     step : (t : Bool) → eq_list b a ≡ t → t ≡ false
-    step true e = absurd (true≢false (sym (same-list a) ∙ ap (eq_list a) (sym (list_same b a e)) ∙ n))
+    step true e = absurd (true≢false (sym (same_list a) ∙ ap (eq_list a) (sym (list_same b a e)) ∙ n))
     step false e = refl
 
 -- where the blocks that are equal to b are left out, others stay, and none of them is equal to b
-without-has : (b x : List ℕ) (ds : List (List ℕ)) → has x ds ≡ false → has x (without b ds) ≡ false
+without_has : (b x : List ℕ) (ds : List (List ℕ)) → has x ds ≡ false → has x (without b ds) ≡ false
 unfolding has without
-without-has b x [] h = refl
-without-has b x (d ∷ ds) h = step (eq_list b d) (eq_list d x) refl h (without-has b x ds)
+without_has b x [] h = refl
+without_has b x (d ∷ ds) h = step (eq_list b d) (eq_list d x) refl h (without_has b x ds)
   where
     step : (t u : Bool) → eq_list d x ≡ u → u || has x ds ≡ false → (has x ds ≡ false → has x (without b ds) ≡ false) → has x (cond t (without b ds) (d ∷ without b ds)) ≡ false
     step t true f e i = absurd (true≢false e)
     step true false f e i = i e
     step false false f e i = rw f (i e)
 
-without-none : (b : List ℕ) (ds : List (List ℕ)) → has b (without b ds) ≡ false
+without_none : (b : List ℕ) (ds : List (List ℕ)) → has b (without b ds) ≡ false
 unfolding has without
-without-none b [] = refl
-without-none b (d ∷ ds) = step (eq_list b d) refl (without-none b ds)
+without_none b [] = refl
+without_none b (d ∷ ds) = step (eq_list b d) refl (without_none b ds)
   where
     step : (t : Bool) → eq_list b d ≡ t → has b (without b ds) ≡ false → has b (cond t (without b ds) (d ∷ without b ds)) ≡ false
     step true e i = i
     step false e i = rw (other b d e) i
 
-without-different : (b : List ℕ) (ds : List (List ℕ)) → Different ds → Different (without b ds)
+without_different : (b : List ℕ) (ds : List (List ℕ)) → Different ds → Different (without b ds)
 unfolding without
-without-different b [] h = tt
-without-different b (d ∷ ds) h = step (eq_list b d) (without-different b ds h.1)
+without_different b [] h = tt
+without_different b (d ∷ ds) h = step (eq_list b d) (without_different b ds h.1)
   where
     step : (t : Bool) → Different (without b ds) → Different (cond t (without b ds) (d ∷ without b ds))
     step true i = i
-    step false i = (without-has b d ds h.0, i)
+    step false i = (without_has b d ds h.0, i)
 
-firsts-different : (bs : List (List ℕ)) → Different (firstOfEach bs)
-unfolding firstOfEach
-firsts-different [] = tt
-firsts-different (b ∷ bs) = (without-none b (firstOfEach bs), without-different b (firstOfEach bs) (firsts-different bs))
+firsts_different : (bs : List (List ℕ)) → Different (first_of_each bs)
+unfolding first_of_each
+firsts_different [] = tt
+firsts_different (b ∷ bs) = (without_none b (first_of_each bs), without_different b (first_of_each bs) (firsts_different bs))
 
-book-different : (packed : Bool) (bs : List (Option (List ℕ))) → Different (inBook packed bs)
-book-different false bs = tt
-book-different true bs = firsts-different (dropNull bs)
+book_different : (packed : Bool) (bs : List (Option (List ℕ))) → Different (in_book packed bs)
+book_different false bs = tt
+book_different true bs = firsts_different (drop_null bs)
 
 -- what is left of a place is one of the blocks of the book, and r is where that stands: it is not written again
-pub repeated-in : {left : ℕ → Option (List ℕ)} (bs : List (Option (List ℕ))) (d : List ℕ) {book : List ℕ} {first source r : ℕ} → Booked left (inBook (packs book) bs) book → has d (inBook (packs book) bs) ≡ true
-    → r ≡ offsetIn first (inBook (packs book) bs) d → left source ≡ some d → Repeated left bs book first source r
+pub repeated_in : {left : ℕ → Option (List ℕ)} (bs : List (Option (List ℕ))) (d : List ℕ) {book : List ℕ} {first source r : ℕ} → Booked left (in_book (packs book) bs) book → has d (in_book (packs book) bs) ≡ true
+    → r ≡ offset_in first (in_book (packs book) bs) d → left source ≡ some d → Repeated left bs book first source r
 unfolding has place_in
-repeated-in {left} bs d {book} {first} {source} {r} k h o f =
+repeated_in {left} bs d {book} {first} {source} {r} k h o f =
     let g = step (packs book) k h o in
     record { words = d; is = f; at = g.0; again = g.1; booked = g.2 }
   where
-    step : (packed : Bool) → Booked left (inBook packed bs) book → has d (inBook packed bs) ≡ true → r ≡ offsetIn first (inBook packed bs) d
-        → (r ≡ place_in packed first bs d) × (known packed bs d ≡ true) × Booked left (inBook packed (bs ++ (some d ∷ []))) book
+    step : (packed : Bool) → Booked left (in_book packed bs) book → has d (in_book packed bs) ≡ true → r ≡ offset_in first (in_book packed bs) d
+        → (r ≡ place_in packed first bs d) × (known packed bs d ≡ true) × Booked left (in_book packed (bs ++ (some d ∷ []))) book
     step false k h o = absurd (true≢false (sym h))
     step true k h o =
-        let same : inBook true (bs ++ (some d ∷ [])) ≡ inBook true bs = firsts-next true 0 bs d ∙ rw h (append-nil (firstOfEach (dropNull bs))) in
+        let same : in_book true (bs ++ (some d ∷ [])) ≡ in_book true bs = firsts_next true 0 bs d ∙ rw h (append-nil (first_of_each (drop_null bs))) in
         (rw h o, h, rw (sym same) at k)
 
 -- the offset of a block, by the words before it
-pub offset-words : (p : ℕ) (ds : List (List ℕ)) (b : List ℕ) → has b ds ≡ true → offsetIn p ds b ≡ p + 2 * wordsBefore ds b
-unfolding has offsetIn wordsBefore
-offset-words p [] b h = absurd (true≢false (sym h))
-offset-words p (d ∷ ds) b h = step (eq_list d b) h (offset-words (p + 2 * length d) ds b)
+pub offset_words : (p : ℕ) (ds : List (List ℕ)) (b : List ℕ) → has b ds ≡ true → offset_in p ds b ≡ p + 2 * words_before ds b
+unfolding has offset_in words_before
+offset_words p [] b h = absurd (true≢false (sym h))
+offset_words p (d ∷ ds) b h = step (eq_list d b) h (offset_words (p + 2 * length d) ds b)
   where
-    step : (t : Bool) → t || has b ds ≡ true → (has b ds ≡ true → offsetIn (p + 2 * length d) ds b ≡ p + 2 * length d + 2 * wordsBefore ds b)
-        → cond t p (offsetIn (p + 2 * length d) ds b) ≡ p + 2 * cond t 0 (length d + wordsBefore ds b)
+    step : (t : Bool) → t || has b ds ≡ true → (has b ds ≡ true → offset_in (p + 2 * length d) ds b ≡ p + 2 * length d + 2 * words_before ds b)
+        → cond t p (offset_in (p + 2 * length d) ds b) ≡ p + 2 * cond t 0 (length d + words_before ds b)
     step true e i = omega arith
     step false e i = omega (arith, i e)
 
 -- a cell that leads to one of the blocks of the book, from this place
-pub found-leading : {book : List ℕ} {first source c : ℕ} → ((left : ℕ → Option (List ℕ)) (ds : List (List ℕ)) → Booked left ds book → Different ds → Leads left ds c) → c % 65536 ≡ source → Again book first source (first + 2 * (c / 65536))
-found-leading {book} {first} {source} {c} h e = record { found = λ {left} bs k z. there left bs k (h left (inBook (packs book) bs) k (book-different (packs book) bs)) }
+pub found_leading : {book : List ℕ} {first source c : ℕ} → ((left : ℕ → Option (List ℕ)) (ds : List (List ℕ)) → Booked left ds book → Different ds → Leads left ds c) → c % 65536 ≡ source → Again book first source (first + 2 * (c / 65536))
+found_leading {book} {first} {source} {c} h e = record { found = λ {left} bs k z. there left bs k (h left (in_book (packs book) bs) k (book_different (packs book) bs)) }
   where
-    there : (left : ℕ → Option (List ℕ)) (bs : List (Option (List ℕ))) → Booked left (inBook (packs book) bs) book → Leads left (inBook (packs book) bs) c → Repeated left bs book first source (first + 2 * (c / 65536))
-    there left bs k g = repeated-in bs g.words k g.among (ap (λ (n : ℕ). first + 2 * n) g.before ∙ sym (offset-words first (inBook (packs book) bs) g.words g.among)) (ap left (sym e) ∙ g.is)
+    there : (left : ℕ → Option (List ℕ)) (bs : List (Option (List ℕ))) → Booked left (in_book (packs book) bs) book → Leads left (in_book (packs book) bs) c → Repeated left bs book first source (first + 2 * (c / 65536))
+    there left bs k g = repeated_in bs g.words k g.among (ap (λ (n : ℕ). first + 2 * n) g.before ∙ sym (offset_words first (in_book (packs book) bs) g.words g.among)) (ap left (sym e) ∙ g.is)
 
 -- nothing is said where none does
 pub found_none : {book : List ℕ} {first source : ℕ} → Again book first source 0
@@ -105,7 +105,7 @@ record Listing (left : ℕ → Option (List ℕ)) (ds : List (List ℕ)) (before
   pub words : List ℕ
   pub is : left (c % 65536) ≡ some words
   pub among : has words ds ≡ true
-  pub behind : c / 65536 ≡ before + wordsBefore ds words
+  pub behind : c / 65536 ≡ before + words_before ds words
 
 apart : (b x : List ℕ) (ds : List (List ℕ)) → has b ds ≡ false → has x ds ≡ true → eq_list b x ≡ false
 apart b x ds n h = ask (eq_list b x) refl
@@ -115,11 +115,11 @@ apart b x ds n h = ask (eq_list b x) refl
     ask false e = refl
 
 listing : (left : ℕ → Option (List ℕ)) (book : List ℕ) (i before : ℕ) (ds : List (List ℕ)) → Listed left book i before ds → Different ds → (j : ℕ) → j < length ds → Listing left ds before (get_or book (i + j) 0)
-unfolding has wordsBefore
+unfolding has words_before
 listing left book i before [] l d j h = absurd (omega arith)
 listing left book i before (b ∷ ds) l d zero h =
     let here : i + 0 ≡ i = omega arith in
-    rw here (record { words = b; is = l.1; among = rw (same-list b) refl; behind = l.0 ∙ rw (same-list b) (omega arith) })
+    rw here (record { words = b; is = l.1; among = rw (same_list b) refl; behind = l.0 ∙ rw (same_list b) (omega arith) })
 listing left book i before (b ∷ ds) l d (suc j) h =
     let g = listing left book (i + 1) (before + length b) ds l.2 d.1 j (omega arith) in
     let here : i + suc j ≡ i + 1 + j = omega arith in
@@ -128,7 +128,7 @@ listing left book i before (b ∷ ds) l d (suc j) h =
 
 -- the i-th block came from there
 pub found_among : {book : List ℕ} {first source c : ℕ} (i : ℕ) → i < get_or book 0 0 → c ≡ get_or book (1 + i) 0 → c % 65536 ≡ source → Again book first source (first + 2 * (c / 65536))
-found_among {book} {c = c} i l e = found-leading (λ left ds k d. leads (listing left book 1 0 ds k.listed d i (omega (arith, k.count))))
+found_among {book} {c = c} i l e = found_leading (λ left ds k d. leads (listing left book 1 0 ds k.listed d i (omega (arith, k.count))))
   where
     leads : {left : ℕ → Option (List ℕ)} {ds : List (List ℕ)} → Listing left ds 0 (get_or book (1 + i) 0) → Leads left ds c
     leads g = rw e (record { words = g.words; is = g.is; among = g.among; before = g.behind ∙ omega arith })

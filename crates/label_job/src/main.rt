@@ -1,7 +1,7 @@
 // The program: reads a label job from standard input, and prints what is kept of its table, or the number of the refusal.
 ghost use Rattle.std.specs.Prelude.{◌≡◌, ◌≤◌, length, replicate};
 ghost use Rattle.meaning.specs.Job.{room};
-ghost use Rattle.report_lines.specs.Lengths.{textRoom};
+ghost use Rattle.report_lines.specs.Lengths.{text_room};
 ghost use Rattle.label_job.specs.Answered.{Answered};
 
 use answer_numbers::{length_of, number_of};
@@ -20,7 +20,7 @@ const TEXT: usize = 540700;
 
 // A buffer for the text. Its contract says how long it is, and nothing of what is in it.
 fn blank() -> [u8; TEXT]
-    ensures { length result ≡ textRoom }
+    ensures { length result ≡ text_room }
 {
     [0u8; TEXT]
 }
@@ -34,7 +34,7 @@ fn lent() -> [u8; RESULT]
 
 // What the program prints for a file, at the front of `text`; how long it is.
 fn answer(file: &[u8], text: &mut [u8]) -> usize
-    requires { textRoom ≤ length text.old }
+    requires { text_room ≤ length text.old }
     ensures { Answered file.now text.old text.new result }
 {
     let mut result = lent();

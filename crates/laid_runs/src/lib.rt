@@ -1,7 +1,7 @@
 // A run of a listed glyph map, laid into cells: as a run, or pair by pair.
 ghost use Rattle.std.specs.Prelude.{◌≡◌, true, ◌+◌, ◌*◌, ◌/◌, ◌<◌, length};
 ghost use Rattle.meaning.specs.Words.{word};
-ghost use Rattle.meaning.specs.Maps.{goodRuns};
+ghost use Rattle.meaning.specs.Maps.{good_runs};
 ghost use Rattle.cell_maps.specs.Runs.{LaidRun, Spread};
 
 use cell_maps::Map;
@@ -22,7 +22,7 @@ pub fn lay_run(list: &[u8], k: usize, t: &mut [u32], p: usize)
 
 // The pairs of the run `k`, each in its own cell of a folded table that has one for each number and holds the pairs of the runs before it.
 pub fn spread_run(list: &[u8], k: usize, t: &mut [u32], m: Map)
-    requires { (goodRuns list.now ≡ true) × (k < length list.now / 6) × Spread list.now t.old t.old m k }
+    requires { (good_runs list.now ≡ true) × (k < length list.now / 6) × Spread list.now t.old t.old m k }
     ensures { Spread list.now t.old t.new m (k + 1) }
 {
     let old = word_inside(list, 6 * k);

@@ -8,12 +8,12 @@ use native.Mathlib.Omega.{arith}
 use Rattle.std.proofs.Math.ListN.{length, length-map}
 use Rattle.meaning.specs.Words.{push}
 use Rattle.meaning.specs.Tables.{reaches}
-use Rattle.meaning.specs.Fault.{faultThrough}
+use Rattle.meaning.specs.Fault.{fault_through}
 use Rattle.meaning.specs.Layout.{block}
-use Rattle.meaning.specs.Packed.{BlockKind, set, coverage, classTable, rank, HeaderWord, number, offset, blocksOf, together, packedBlocks, packedStart, packedWord, packed}
+use Rattle.meaning.specs.Packed.{BlockKind, set, coverage, class_table, rank, HeaderWord, number, offset, blocks_of, together, packed_blocks, packed_start, packed_word, packed}
 use Rattle.laws.specs.Stands.{Stands, All, all_back, front, back, moved, said, lies}
-use Rattle.laws.specs.Through.{Kind, Back, Opt, parts, Leads, leads-length, lead-back}
-use Rattle.laws.specs.Repeats.{has, each-has, placed}
+use Rattle.laws.specs.Through.{Kind, Back, Opt, parts, Leads, leads_length, lead_back}
+use Rattle.laws.specs.Repeats.{has, each_has, placed}
 
 -- What a source shows of a header.
 module _ (s : List ℕ) where
@@ -36,19 +36,19 @@ module _ (s : List ℕ) where
     pub stands : Stands s at words
     pub shown : Shown words h
 
-  shown-length : (os : List ℕ) (h : List HeaderWord) → Shown os h → length os ≡ length h
-  shown-length [] [] q = refl
-  shown-length [] (w ∷ h) q = absurd q
-  shown-length (o ∷ os) [] q = absurd q
-  shown-length (o ∷ os) (number n ∷ h) q = ap suc (shown-length os h q.1)
-  shown-length (o ∷ os) (offset k b ∷ h) q = ap suc (shown-length os h q.1)
+  shown_length : (os : List ℕ) (h : List HeaderWord) → Shown os h → length os ≡ length h
+  shown_length [] [] q = refl
+  shown_length [] (w ∷ h) q = absurd q
+  shown_length (o ∷ os) [] q = absurd q
+  shown_length (o ∷ os) (number n ∷ h) q = ap suc (shown_length os h q.1)
+  shown_length (o ∷ os) (offset k b ∷ h) q = ap suc (shown_length os h q.1)
 
   -- a header that is shown lies inside the source
-  pub shows-lie : {at : ℕ} (h : List HeaderWord) → Shows at h → at + 2 * length h ≤ length s
-  shows-lie h r = omega (arith, lies r.stands, shown-length r.words h r.shown)
+  pub shows_lie : {at : ℕ} (h : List HeaderWord) → Shows at h → at + 2 * length h ≤ length s
+  shows_lie h r = omega (arith, lies r.stands, shown_length r.words h r.shown)
 
-  pub shows-moved : {at : ℕ} {h : List HeaderWord} (to : ℕ) → Shows at h → at ≡ to → Shows to h
-  shows-moved to r e = record { words = r.words; stands = moved to r.stands e; shown = r.shown }
+  pub shows_moved : {at : ℕ} {h : List HeaderWord} (to : ℕ) → Shows at h → at ≡ to → Shows to h
+  shows_moved to r e = record { words = r.words; stands = moved to r.stands e; shown = r.shown }
 
   -- the words of a front of a header, and the others
   record Split (P : List ℕ → Type 0) (h : List HeaderWord) (os : List ℕ) : Type 0 where
@@ -58,192 +58,192 @@ module _ (s : List ℕ) where
     does : P these
     left : Shown others h
 
-  split-numbers : (ns : List ℕ) (h : List HeaderWord) (os : List ℕ) → Shown os (map number ns ++ h) → Split (λ ws. ws ≡ ns) h os
-  split-numbers [] h os q = record { these = []; others = os; is = refl; does = refl; left = q }
-  split-numbers (n ∷ ns) h [] q = absurd q
-  split-numbers (n ∷ ns) h (o ∷ os) q =
-      let r = split-numbers ns h os q.1 in
+  split_numbers : (ns : List ℕ) (h : List HeaderWord) (os : List ℕ) → Shown os (map number ns ++ h) → Split (λ ws. ws ≡ ns) h os
+  split_numbers [] h os q = record { these = []; others = os; is = refl; does = refl; left = q }
+  split_numbers (n ∷ ns) h [] q = absurd q
+  split_numbers (n ∷ ns) h (o ∷ os) q =
+      let r = split_numbers ns h os q.1 in
       record { these = o ∷ r.these; others = r.others; is = ap (λ (l : List ℕ). o ∷ l) r.is; does = ap₂ ◌∷◌ q.0 r.does; left = r.left }
 
-  split-offsets : {A : Type 0} (K : Kind A) (k : BlockKind) (xs : List (Option A)) (h : List HeaderWord) (os : List ℕ) → Shown os (map (offset k) (parts K xs) ++ h) → Split (λ ws. Leads K s 0 ws xs) h os
+  split_offsets : {A : Type 0} (K : Kind A) (k : BlockKind) (xs : List (Option A)) (h : List HeaderWord) (os : List ℕ) → Shown os (map (offset k) (parts K xs) ++ h) → Split (λ ws. Leads K s 0 ws xs) h os
   unfolding block
-  split-offsets K k [] h os q = record { these = []; others = os; is = refl; does = tt; left = q }
-  split-offsets K k (x ∷ xs) h [] q = absurd q
-  split-offsets K k (none ∷ xs) h (o ∷ os) q =
-      let r = split-offsets K k xs h os q.1 in
+  split_offsets K k [] h os q = record { these = []; others = os; is = refl; does = tt; left = q }
+  split_offsets K k (x ∷ xs) h [] q = absurd q
+  split_offsets K k (none ∷ xs) h (o ∷ os) q =
+      let r = split_offsets K k xs h os q.1 in
       record { these = o ∷ r.these; others = r.others; is = ap (λ (l : List ℕ). o ∷ l) r.is; does = (q.0, r.does); left = r.left }
-  split-offsets K k (some a ∷ xs) h (o ∷ os) q =
-      let r = split-offsets K k xs h os q.1 in
+  split_offsets K k (some a ∷ xs) h (o ∷ os) q =
+      let r = split_offsets K k xs h os q.1 in
       record { these = o ∷ r.these; others = r.others; is = ap (λ (l : List ℕ). o ∷ l) r.is; does = (q.0.0, q.0.1, r.does); left = r.left }
 
   -- numbers at the front of a header stand there
-  pub numbers-read : {at : ℕ} (ns : List ℕ) (h : List HeaderWord) → Shows at (map number ns ++ h) → Stands s at ns × Shows (at + 2 * length ns) h
-  numbers-read ns h r =
-      let t = split-numbers ns h r.words r.shown in
+  pub numbers_read : {at : ℕ} (ns : List ℕ) (h : List HeaderWord) → Shows at (map number ns ++ h) → Stands s at ns × Shows (at + 2 * length ns) h
+  numbers_read ns h r =
+      let t = split_numbers ns h r.words r.shown in
       let w = said r.stands (t.is ∙ ap (λ (l : List ℕ). l ++ t.others) t.does) in
       (front ns t.others w, record { words = t.others; stands = back ns t.others w; shown = t.left })
 
   pub number_read : {at : ℕ} (n : ℕ) (h : List HeaderWord) → Shows at (number n ∷ h) → Stands s at (n ∷ []) × Shows (at + 2) h
-  number_read n h r = numbers-read (n ∷ []) h r
+  number_read n h r = numbers_read (n ∷ []) h r
 
   -- the same where a header ends in them
-  pub last-numbers-read : {at : ℕ} (ns : List ℕ) → Shows at (map number ns) → Stands s at ns
-  last-numbers-read {at} ns r = (numbers-read ns [] (subst (Shows at) (sym (append-nil (map number ns))) r)).0
+  pub last_numbers_read : {at : ℕ} (ns : List ℕ) → Shows at (map number ns) → Stands s at ns
+  last_numbers_read {at} ns r = (numbers_read ns [] (subst (Shows at) (sym (append-nil (map number ns))) r)).0
 
   -- parts whose offsets are at the front of a header are read back through them
-  pub parts-read : {A : Type 0} {at : ℕ} (K : Kind A) (k : BlockKind) (xs : List (Option A)) (h : List HeaderWord) → All (Opt (Back K s)) xs → Shows at (map (offset k) (parts K xs) ++ h)
-      → ((reaches (K.read s) s 0 at (length xs) ≡ xs) × (faultThrough (K.faultAt s) s 0 at (length xs) ≡ none)) × Shows (at + 2 * length xs) h
-  parts-read {at = at} K k xs h b r =
-      let t = split-offsets K k xs h r.words r.shown in
+  pub parts_read : {A : Type 0} {at : ℕ} (K : Kind A) (k : BlockKind) (xs : List (Option A)) (h : List HeaderWord) → All (Opt (Back K s)) xs → Shows at (map (offset k) (parts K xs) ++ h)
+      → ((reaches (K.read s) s 0 at (length xs) ≡ xs) × (fault_through (K.fault_at s) s 0 at (length xs) ≡ none)) × Shows (at + 2 * length xs) h
+  parts_read {at = at} K k xs h b r =
+      let t = split_offsets K k xs h r.words r.shown in
       let w = said r.stands t.is in
-      let n = leads-length K s 0 t.these xs t.does in
-      (lead-back K s 0 at t.these xs t.does b (front t.these t.others w), record { words = t.others; stands = moved (at + 2 * length xs) (back t.these t.others w) (omega arith); shown = t.left })
+      let n = leads_length K s 0 t.these xs t.does in
+      (lead_back K s 0 at t.these xs t.does b (front t.these t.others w), record { words = t.others; stands = moved (at + 2 * length xs) (back t.these t.others w) (omega arith); shown = t.left })
 
   -- the same where a header ends in their offsets
-  pub last-parts-read : {A : Type 0} {at : ℕ} (K : Kind A) (k : BlockKind) (xs : List (Option A)) → All (Opt (Back K s)) xs → Shows at (map (offset k) (parts K xs))
-      → ((reaches (K.read s) s 0 at (length xs) ≡ xs) × (faultThrough (K.faultAt s) s 0 at (length xs) ≡ none)) × Shows (at + 2 * length xs) []
-  last-parts-read {at = at} K k xs b r = parts-read K k xs [] b (subst (Shows at) (sym (append-nil (map (offset k) (parts K xs)))) r)
+  pub last_parts_read : {A : Type 0} {at : ℕ} (K : Kind A) (k : BlockKind) (xs : List (Option A)) → All (Opt (Back K s)) xs → Shows at (map (offset k) (parts K xs))
+      → ((reaches (K.read s) s 0 at (length xs) ≡ xs) × (fault_through (K.fault_at s) s 0 at (length xs) ≡ none)) × Shows (at + 2 * length xs) []
+  last_parts_read {at = at} K k xs b r = parts_read K k xs [] b (subst (Shows at) (sym (append-nil (map (offset k) (parts K xs)))) r)
 
 -- Blocks of a kind.
 
 -- the blocks of two headers
-pub blocksOf-append : (k : BlockKind) (g h : List HeaderWord) → blocksOf k (g ++ h) ≡ blocksOf k g ++ blocksOf k h
-unfolding blocksOf push
-blocksOf-append k [] h = refl
-blocksOf-append k (number n ∷ g) h = blocksOf-append k g h
-blocksOf-append k (offset j none ∷ g) h = step (eqb (rank k) (rank j)) (blocksOf-append k g h)
+pub blocks_of_append : (k : BlockKind) (g h : List HeaderWord) → blocks_of k (g ++ h) ≡ blocks_of k g ++ blocks_of k h
+unfolding blocks_of push
+blocks_of_append k [] h = refl
+blocks_of_append k (number n ∷ g) h = blocks_of_append k g h
+blocks_of_append k (offset j none ∷ g) h = step (eqb (rank k) (rank j)) (blocks_of_append k g h)
   where
-    step : (t : Bool) → blocksOf k (g ++ h) ≡ blocksOf k g ++ blocksOf k h → cond t (blocksOf k (g ++ h)) (blocksOf k (g ++ h)) ≡ cond t (blocksOf k g) (blocksOf k g) ++ blocksOf k h
+    step : (t : Bool) → blocks_of k (g ++ h) ≡ blocks_of k g ++ blocks_of k h → cond t (blocks_of k (g ++ h)) (blocks_of k (g ++ h)) ≡ cond t (blocks_of k g) (blocks_of k g) ++ blocks_of k h
     step true i = i
     step false i = i
-blocksOf-append k (offset j (some b) ∷ g) h = step (eqb (rank k) (rank j)) (blocksOf-append k g h)
+blocks_of_append k (offset j (some b) ∷ g) h = step (eqb (rank k) (rank j)) (blocks_of_append k g h)
   where
-    step : (t : Bool) → blocksOf k (g ++ h) ≡ blocksOf k g ++ blocksOf k h → cond t (b ∷ blocksOf k (g ++ h)) (blocksOf k (g ++ h)) ≡ cond t (b ∷ blocksOf k g) (blocksOf k g) ++ blocksOf k h
+    step : (t : Bool) → blocks_of k (g ++ h) ≡ blocks_of k g ++ blocks_of k h → cond t (b ∷ blocks_of k (g ++ h)) (blocks_of k (g ++ h)) ≡ cond t (b ∷ blocks_of k g) (blocks_of k g) ++ blocks_of k h
     step true i = ap (λ (l : List (List ℕ)). b ∷ l) i
     step false i = i
 
-pub together-append : (xs ys : List (List ℕ)) → together (xs ++ ys) ≡ together xs ++ together ys
+pub together_append : (xs ys : List (List ℕ)) → together (xs ++ ys) ≡ together xs ++ together ys
 unfolding together
-together-append [] ys = refl
-together-append (b ∷ xs) ys = ap (λ (l : List ℕ). b ++ l) (together-append xs ys) ∙ sym (append_assoc b (together xs) (together ys))
+together_append [] ys = refl
+together_append (b ∷ xs) ys = ap (λ (l : List ℕ). b ++ l) (together_append xs ys) ∙ sym (append_assoc b (together xs) (together ys))
 
 -- a block is the first of its kind
-pub block-first : (k : BlockKind) (b : List ℕ) (h : List HeaderWord) → blocksOf k (offset k (some b) ∷ h) ≡ b ∷ blocksOf k h
-unfolding blocksOf push
-block-first k b h = rw (eq-eqb (rank k) (rank k) refl)
+pub block_first : (k : BlockKind) (b : List ℕ) (h : List HeaderWord) → blocks_of k (offset k (some b) ∷ h) ≡ b ∷ blocks_of k h
+unfolding blocks_of push
+block_first k b h = rw (eq-eqb (rank k) (rank k) refl)
 
 -- The packed reading.
 module _ (h : List HeaderWord) where
-  packed-late : 0 < length h → (k : BlockKind) → 0 < packedStart h k
-  unfolding packedStart
-  packed-late z set = omega arith
-  packed-late z coverage = omega arith
-  packed-late z classTable = omega arith
+  packed_late : 0 < length h → (k : BlockKind) → 0 < packed_start h k
+  unfolding packed_start
+  packed_late z set = omega arith
+  packed_late z coverage = omega arith
+  packed_late z class_table = omega arith
 
   -- each block of a part of the header is among those that are written
   abbrev Written : List HeaderWord → Type 0
-  Written g = (k : BlockKind) → All (λ b. has b (packedBlocks h k) ≡ true) (blocksOf k g)
+  Written g = (k : BlockKind) → All (λ b. has b (packed_blocks h k) ≡ true) (blocks_of k g)
 
-  written-rest : (w : HeaderWord) (g : List HeaderWord) → Written (w ∷ g) → Written g
-  written-rest w g q k = all_back (λ b. has b (packedBlocks h k) ≡ true) (blocksOf k (w ∷ [])) (blocksOf k g) (subst (All (λ b. has b (packedBlocks h k) ≡ true)) (blocksOf-append k (w ∷ []) g) (q k))
+  written_rest : (w : HeaderWord) (g : List HeaderWord) → Written (w ∷ g) → Written g
+  written_rest w g q k = all_back (λ b. has b (packed_blocks h k) ≡ true) (blocks_of k (w ∷ [])) (blocks_of k g) (subst (All (λ b. has b (packed_blocks h k) ≡ true)) (blocks_of_append k (w ∷ []) g) (q k))
 
 module _ {s : List ℕ} (h : List HeaderWord) where
   -- the blocks of each kind that are written
-  packed-blocks : Stands s (0 + 2 * length h) (together (packedBlocks h set) ++ (together (packedBlocks h coverage) ++ together (packedBlocks h classTable))) → (k : BlockKind) → Stands s (0 + packedStart h k) (together (packedBlocks h k))
-  unfolding packedStart
-  packed-blocks w set = front (together (packedBlocks h set)) _ w
-  packed-blocks w coverage = moved (0 + (2 * length h + 2 * length (together (packedBlocks h set)))) (front (together (packedBlocks h coverage)) (together (packedBlocks h classTable)) (back (together (packedBlocks h set)) _ w)) (omega arith)
-  packed-blocks w classTable =
-      moved (0 + (2 * length h + 2 * length (together (packedBlocks h set)) + 2 * length (together (packedBlocks h coverage)))) (back (together (packedBlocks h coverage)) (together (packedBlocks h classTable)) (back (together (packedBlocks h set)) _ w)) (omega arith)
+  packed_blocks_lem : Stands s (0 + 2 * length h) (together (packed_blocks h set) ++ (together (packed_blocks h coverage) ++ together (packed_blocks h class_table))) → (k : BlockKind) → Stands s (0 + packed_start h k) (together (packed_blocks h k))
+  unfolding packed_start
+  packed_blocks_lem w set = front (together (packed_blocks h set)) _ w
+  packed_blocks_lem w coverage = moved (0 + (2 * length h + 2 * length (together (packed_blocks h set)))) (front (together (packed_blocks h coverage)) (together (packed_blocks h class_table)) (back (together (packed_blocks h set)) _ w)) (omega arith)
+  packed_blocks_lem w class_table =
+      moved (0 + (2 * length h + 2 * length (together (packed_blocks h set)) + 2 * length (together (packed_blocks h coverage)))) (back (together (packed_blocks h coverage)) (together (packed_blocks h class_table)) (back (together (packed_blocks h set)) _ w)) (omega arith)
 
-  module _ (z : 0 < length h) (w : (k : BlockKind) → Stands s (0 + packedStart h k) (together (packedBlocks h k))) where
-    packed-shown : (g : List HeaderWord) → Written h g → Shown s (map (packedWord h) g) g
-    unfolding packedWord
-    packed-shown [] q = tt
-    packed-shown (number n ∷ g) q = (refl, packed-shown g (written-rest h (number n) g q))
-    packed-shown (offset k none ∷ g) q = (refl, packed-shown g (written-rest h (offset k none) g q))
-    packed-shown (offset k (some b) ∷ g) q =
-        let found = (subst (All (λ b. has b (packedBlocks h k) ≡ true)) (block-first k b g) (q k)).0 in
-        (placed (packedStart h k) (packedBlocks h k) b (packed-late h z k) (w k) found, packed-shown g (written-rest h (offset k (some b)) g q))
+  module _ (z : 0 < length h) (w : (k : BlockKind) → Stands s (0 + packed_start h k) (together (packed_blocks h k))) where
+    packed_shown : (g : List HeaderWord) → Written h g → Shown s (map (packed_word h) g) g
+    unfolding packed_word
+    packed_shown [] q = tt
+    packed_shown (number n ∷ g) q = (refl, packed_shown g (written_rest h (number n) g q))
+    packed_shown (offset k none ∷ g) q = (refl, packed_shown g (written_rest h (offset k none) g q))
+    packed_shown (offset k (some b) ∷ g) q =
+        let found = (subst (All (λ b. has b (packed_blocks h k) ≡ true)) (block_first k b g) (q k)).0 in
+        (placed (packed_start h k) (packed_blocks h k) b (packed_late h z k) (w k) found, packed_shown g (written_rest h (offset k (some b)) g q))
 
   -- where the packed reading of a header stands, that header is shown
-  pub packed-shows : 0 < length h → Stands s 0 (packed h) → Shows s 0 h
-  unfolding packed packedBlocks
-  packed-shows z w =
-      let ws = map (packedWord h) h in
-      let after = together (packedBlocks h set) ++ (together (packedBlocks h coverage) ++ together (packedBlocks h classTable)) in
-      let e = length-map h (packedWord h) in
-      record { words = ws; stands = front ws after w; shown = packed-shown z (packed-blocks (moved (0 + 2 * length h) (back ws after w) (omega arith))) h (λ k. each-has (blocksOf k h)) }
+  pub packed_shows : 0 < length h → Stands s 0 (packed h) → Shows s 0 h
+  unfolding packed packed_blocks
+  packed_shows z w =
+      let ws = map (packed_word h) h in
+      let after = together (packed_blocks h set) ++ (together (packed_blocks h coverage) ++ together (packed_blocks h class_table)) in
+      let e = length-map h (packed_word h) in
+      record { words = ws; stands = front ws after w; shown = packed_shown z (packed_blocks_lem (moved (0 + 2 * length h) (back ws after w) (omega arith))) h (λ k. each_has (blocks_of k h)) }
 
 -- The plain reading: each block is written, and an offset leads behind the blocks of its kind that stand before it.
 
 -- where the blocks of a kind start
-unfoldable pub plainStart : List HeaderWord → BlockKind → ℕ
-plainStart h set = 2 * length h
-plainStart h coverage = 2 * length h + 2 * length (together (blocksOf set h))
-plainStart h classTable = 2 * length h + 2 * length (together (blocksOf set h)) + 2 * length (together (blocksOf coverage h))
+unfoldable pub plain_start : List HeaderWord → BlockKind → ℕ
+plain_start h set = 2 * length h
+plain_start h coverage = 2 * length h + 2 * length (together (blocks_of set h))
+plain_start h class_table = 2 * length h + 2 * length (together (blocks_of set h)) + 2 * length (together (blocks_of coverage h))
 
 -- a word of header h as it is written, after the words `before` of it
-unfoldable pub plainWord : List HeaderWord → List HeaderWord → HeaderWord → ℕ
-plainWord h before (number n) = n
-plainWord h before (offset k none) = 0
-plainWord h before (offset k (some b)) = plainStart h k + 2 * length (together (blocksOf k before))
+unfoldable pub plain_word : List HeaderWord → List HeaderWord → HeaderWord → ℕ
+plain_word h before (number n) = n
+plain_word h before (offset k none) = 0
+plain_word h before (offset k (some b)) = plain_start h k + 2 * length (together (blocks_of k before))
 
 -- the words of it that follow
-unfoldable pub plainFrom : List HeaderWord → List HeaderWord → List HeaderWord → List ℕ
-plainFrom h before [] = []
-plainFrom h before (w ∷ g) = plainWord h before w ∷ plainFrom h (before ++ (w ∷ [])) g
+unfoldable pub plain_from : List HeaderWord → List HeaderWord → List HeaderWord → List ℕ
+plain_from h before [] = []
+plain_from h before (w ∷ g) = plain_word h before w ∷ plain_from h (before ++ (w ∷ [])) g
 
 -- a header and its blocks
 unfoldable pub plain : List HeaderWord → List ℕ
-plain h = plainFrom h [] h ++ (together (blocksOf set h) ++ (together (blocksOf coverage h) ++ together (blocksOf classTable h)))
+plain h = plain_from h [] h ++ (together (blocks_of set h) ++ (together (blocks_of coverage h) ++ together (blocks_of class_table h)))
 
-plain-late : (h : List HeaderWord) → 0 < length h → (k : BlockKind) → 0 < plainStart h k
-unfolding plainStart
-plain-late h z set = omega arith
-plain-late h z coverage = omega arith
-plain-late h z classTable = omega arith
+plain_late : (h : List HeaderWord) → 0 < length h → (k : BlockKind) → 0 < plain_start h k
+unfolding plain_start
+plain_late h z set = omega arith
+plain_late h z coverage = omega arith
+plain_late h z class_table = omega arith
 
-pub plainFrom-length : (h before g : List HeaderWord) → length (plainFrom h before g) ≡ length g
-unfolding plainFrom
-plainFrom-length h before [] = refl
-plainFrom-length h before (w ∷ g) = ap suc (plainFrom-length h (before ++ (w ∷ [])) g)
+pub plain_from_length : (h before g : List HeaderWord) → length (plain_from h before g) ≡ length g
+unfolding plain_from
+plain_from_length h before [] = refl
+plain_from_length h before (w ∷ g) = ap suc (plain_from_length h (before ++ (w ∷ [])) g)
 
 module _ (s : List ℕ) (h : List HeaderWord) where
   -- the blocks of a part of the header, behind those before them
   abbrev Follow : List HeaderWord → List HeaderWord → Type 0
-  Follow before g = (k : BlockKind) → Stands s (0 + (plainStart h k + 2 * length (together (blocksOf k before)))) (together (blocksOf k g))
+  Follow before g = (k : BlockKind) → Stands s (0 + (plain_start h k + 2 * length (together (blocks_of k before)))) (together (blocks_of k g))
 
-  follow-rest : (before : List HeaderWord) (w : HeaderWord) (g : List HeaderWord) → Follow before (w ∷ g) → Follow (before ++ (w ∷ [])) g
-  follow-rest before w g q k =
-      let own = blocksOf k (w ∷ []) in
-      let e = ap together (blocksOf-append k (w ∷ []) g) ∙ together-append own (blocksOf k g) in
-      let f = ap length (ap together (blocksOf-append k before (w ∷ [])) ∙ together-append (blocksOf k before) own) in
-      moved _ (back (together own) (together (blocksOf k g)) (said (q k) e)) (omega (arith, f, length-append (together (blocksOf k before)) (together own)))
+  follow_rest : (before : List HeaderWord) (w : HeaderWord) (g : List HeaderWord) → Follow before (w ∷ g) → Follow (before ++ (w ∷ [])) g
+  follow_rest before w g q k =
+      let own = blocks_of k (w ∷ []) in
+      let e = ap together (blocks_of_append k (w ∷ []) g) ∙ together_append own (blocks_of k g) in
+      let f = ap length (ap together (blocks_of_append k before (w ∷ [])) ∙ together_append (blocks_of k before) own) in
+      moved _ (back (together own) (together (blocks_of k g)) (said (q k) e)) (omega (arith, f, length-append (together (blocks_of k before)) (together own)))
 
-  plain-shown : 0 < length h → (before g : List HeaderWord) → Follow before g → Shown s (plainFrom h before g) g
-  unfolding plainFrom plainWord together
-  plain-shown z before [] q = tt
-  plain-shown z before (number n ∷ g) q = (refl, plain-shown z (before ++ (number n ∷ [])) g (follow-rest before (number n) g q))
-  plain-shown z before (offset k none ∷ g) q = (refl, plain-shown z (before ++ (offset k none ∷ [])) g (follow-rest before (offset k none) g q))
-  plain-shown z before (offset k (some b) ∷ g) q =
-      let w = front b (together (blocksOf k g)) (said (q k) (ap together (block-first k b g))) in
-      ((omega (arith, plain-late h z k), w), plain-shown z (before ++ (offset k (some b) ∷ [])) g (follow-rest before (offset k (some b)) g q))
+  plain_shown : 0 < length h → (before g : List HeaderWord) → Follow before g → Shown s (plain_from h before g) g
+  unfolding plain_from plain_word together
+  plain_shown z before [] q = tt
+  plain_shown z before (number n ∷ g) q = (refl, plain_shown z (before ++ (number n ∷ [])) g (follow_rest before (number n) g q))
+  plain_shown z before (offset k none ∷ g) q = (refl, plain_shown z (before ++ (offset k none ∷ [])) g (follow_rest before (offset k none) g q))
+  plain_shown z before (offset k (some b) ∷ g) q =
+      let w = front b (together (blocks_of k g)) (said (q k) (ap together (block_first k b g))) in
+      ((omega (arith, plain_late h z k), w), plain_shown z (before ++ (offset k (some b) ∷ [])) g (follow_rest before (offset k (some b)) g q))
 
 module _ {s : List ℕ} (h : List HeaderWord) where
-  plain-blocks : Stands s (0 + 2 * length h) (together (blocksOf set h) ++ (together (blocksOf coverage h) ++ together (blocksOf classTable h))) → (k : BlockKind) → Stands s (0 + plainStart h k) (together (blocksOf k h))
-  unfolding plainStart
-  plain-blocks w set = front (together (blocksOf set h)) _ w
-  plain-blocks w coverage = moved (0 + (2 * length h + 2 * length (together (blocksOf set h)))) (front (together (blocksOf coverage h)) (together (blocksOf classTable h)) (back (together (blocksOf set h)) _ w)) (omega arith)
-  plain-blocks w classTable =
-      moved (0 + (2 * length h + 2 * length (together (blocksOf set h)) + 2 * length (together (blocksOf coverage h)))) (back (together (blocksOf coverage h)) (together (blocksOf classTable h)) (back (together (blocksOf set h)) _ w)) (omega arith)
+  plain_blocks : Stands s (0 + 2 * length h) (together (blocks_of set h) ++ (together (blocks_of coverage h) ++ together (blocks_of class_table h))) → (k : BlockKind) → Stands s (0 + plain_start h k) (together (blocks_of k h))
+  unfolding plain_start
+  plain_blocks w set = front (together (blocks_of set h)) _ w
+  plain_blocks w coverage = moved (0 + (2 * length h + 2 * length (together (blocks_of set h)))) (front (together (blocks_of coverage h)) (together (blocks_of class_table h)) (back (together (blocks_of set h)) _ w)) (omega arith)
+  plain_blocks w class_table =
+      moved (0 + (2 * length h + 2 * length (together (blocks_of set h)) + 2 * length (together (blocks_of coverage h)))) (back (together (blocks_of coverage h)) (together (blocks_of class_table h)) (back (together (blocks_of set h)) _ w)) (omega arith)
 
   -- where the plain reading of a header stands, that header is shown
-  pub plain-shows : 0 < length h → Stands s 0 (plain h) → Shows s 0 h
-  unfolding plain blocksOf together
-  plain-shows z w =
-      let ws = plainFrom h [] h in
-      let after = together (blocksOf set h) ++ (together (blocksOf coverage h) ++ together (blocksOf classTable h)) in
-      let e = plainFrom-length h [] h in
-      let bs = plain-blocks (moved (0 + 2 * length h) (back ws after w) (omega arith)) in
-      record { words = ws; stands = front ws after w; shown = plain-shown s h z [] h (λ k. moved (0 + (plainStart h k + 2 * 0)) (bs k) (omega arith)) }
+  pub plain_shows : 0 < length h → Stands s 0 (plain h) → Shows s 0 h
+  unfolding plain blocks_of together
+  plain_shows z w =
+      let ws = plain_from h [] h in
+      let after = together (blocks_of set h) ++ (together (blocks_of coverage h) ++ together (blocks_of class_table h)) in
+      let e = plain_from_length h [] h in
+      let bs = plain_blocks (moved (0 + 2 * length h) (back ws after w) (omega arith)) in
+      record { words = ws; stands = front ws after w; shown = plain_shown s h z [] h (λ k. moved (0 + (plain_start h k + 2 * 0)) (bs k) (omega arith)) }

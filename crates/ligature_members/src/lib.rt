@@ -2,14 +2,14 @@
 ghost use Rattle.std.specs.Prelude.{◌≡◌, ◌≤◌, ◌<◌, length};
 ghost use Rattle.std.proofs.Math.Option.{none};
 ghost use Rattle.meaning.specs.Tables.{ligature};
-ghost use Rattle.meaning.specs.Fault.{ligatureFault};
-ghost use Rattle.meaning.specs.Cut.{cutLigature};
-ghost use Rattle.meaning.specs.Layout.{block, ligatureWords};
+ghost use Rattle.meaning.specs.Fault.{ligature_fault};
+ghost use Rattle.meaning.specs.Cut.{cut_ligature};
+ghost use Rattle.meaning.specs.Layout.{block, ligature_words};
 ghost use Rattle.cell_maps.specs.Cells.{Inside};
-ghost use Rattle.numbers.specs.Entries.{entriesIn};
+ghost use Rattle.numbers.specs.Entries.{entries_in};
 ghost use Rattle.numbers.specs.Leaves.{Leaves};
 ghost use Rattle.member_sets.specs.Dead.{Dead};
-ghost use Rattle.ligature_members.specs.Left.{ligatureLeft, ligatureSize};
+ghost use Rattle.ligature_members.specs.Left.{ligature_left, ligature_size};
 
 use area::{over, put_two};
 use bits::{has_bit, put_bit};
@@ -27,8 +27,8 @@ fn write_ligature(
     area: &mut [u8],
     pos: usize,
 ) -> usize
-    requires { (ligatureFault src.now at ≡ none) × Inside t.now glyphs × (pos ≤ length area.old) }
-    ensures { Leaves area.old pos (block ligatureWords (cutLigature (entriesIn t.now glyphs) (ligature src.now at))) (ligatureSize src.now at) area.new result }
+    requires { (ligature_fault src.now at ≡ none) × Inside t.now glyphs × (pos ≤ length area.old) }
+    ensures { Leaves area.old pos (block ligature_words (cut_ligature (entries_in t.now glyphs) (ligature src.now at))) (ligature_size src.now at) area.new result }
 {
     let old = word_inside(src, at);
     let Found::New(glyph) = find(t, glyphs, old) else {
@@ -52,8 +52,8 @@ pub fn write_once(
     area: &mut [u8],
     pos: usize,
 ) -> usize
-    requires { (ligatureFault src.now at ≡ none) × Inside t.now glyphs × (0 < pos) × (pos ≤ length area.old) × Dead (ligatureLeft (entriesIn t.now glyphs) src.now) dead.old }
-    ensures { Leaves area.old pos (ligatureLeft (entriesIn t.now glyphs) src.now at) (ligatureSize src.now at) area.new result × Dead (ligatureLeft (entriesIn t.now glyphs) src.now) dead.new }
+    requires { (ligature_fault src.now at ≡ none) × Inside t.now glyphs × (0 < pos) × (pos ≤ length area.old) × Dead (ligature_left (entries_in t.now glyphs) src.now) dead.old }
+    ensures { Leaves area.old pos (ligature_left (entries_in t.now glyphs) src.now at) (ligature_size src.now at) area.new result × Dead (ligature_left (entries_in t.now glyphs) src.now) dead.new }
 {
     if has_bit(dead, 0, at) {
         return 0;

@@ -1,7 +1,7 @@
 // A ligature: checked.
 ghost use Rattle.std.specs.Prelude.{◌≡◌, ◌+◌, ◌-◌, ◌*◌, ◌<◌};
-ghost use Rattle.meaning.specs.Fault.{ligatureFault};
-ghost use Rattle.faults.specs.Fault.{faultOf};
+ghost use Rattle.meaning.specs.Fault.{ligature_fault};
+ghost use Rattle.faults.specs.Fault.{fault_of};
 
 use faults::Fault;
 use wire::{inside, word_at};
@@ -19,7 +19,7 @@ fn listed(count: usize) -> usize
 // Where the ligature at `at` is faulty: it is if its glyph, its count or its components do not lie inside the source.
 pub fn check_ligature(src: &[u8], at: usize) -> Fault
     requires { at < 0x8000_0000_0000 }
-    ensures { result ≡ faultOf (ligatureFault src.now at) }
+    ensures { result ≡ fault_of (ligature_fault src.now at) }
 {
     if !inside(src, at, 4) {
         return Fault::At(at);

@@ -1,17 +1,17 @@
 // Sets of ligatures: what is left of them, written into the area in one walk.
 ghost use Rattle.std.specs.Prelude.{◌≡◌, ◌≤◌, ◌<◌, length};
 ghost use Rattle.std.proofs.Math.Option.{none};
-ghost use Rattle.meaning.specs.Tables.{ligatureSet};
-ghost use Rattle.meaning.specs.Fault.{ligatureFault, setFault};
-ghost use Rattle.meaning.specs.Cut.{cutLigatures};
-ghost use Rattle.meaning.specs.Layout.{block, ligatureWords, setWords};
+ghost use Rattle.meaning.specs.Tables.{ligature_set};
+ghost use Rattle.meaning.specs.Fault.{ligature_fault, set_fault};
+ghost use Rattle.meaning.specs.Cut.{cut_ligatures};
+ghost use Rattle.meaning.specs.Layout.{block, ligature_words, set_words};
 ghost use Rattle.meaning.specs.Subset.{limit};
 ghost use Rattle.cell_maps.specs.Cells.{Inside};
-ghost use Rattle.numbers.specs.Entries.{entriesIn};
+ghost use Rattle.numbers.specs.Entries.{entries_in};
 ghost use Rattle.numbers.specs.Leaves.{Leaves};
-ghost use Rattle.member_sets.specs.Sets.{setMost};
+ghost use Rattle.member_sets.specs.Sets.{set_most};
 ghost use Rattle.member_sets.specs.Dead.{Dead};
-ghost use Rattle.ligature_members.specs.Left.{ligatureLeft};
+ghost use Rattle.ligature_members.specs.Left.{ligature_left};
 
 use area::{over, put};
 use cell_maps::Map;
@@ -29,8 +29,8 @@ pub fn write_ligatures(
     area: &mut [u8],
     pos: usize,
 ) -> usize
-    requires { (setFault (ligatureFault src.now) src.now at ≡ none) × (length src.now ≤ limit) × Inside t.now glyphs × (pos ≤ length area.old) × Dead (ligatureLeft (entriesIn t.now glyphs) src.now) dead.old }
-    ensures { Leaves area.old pos (block (setWords ligatureWords) (cutLigatures (entriesIn t.now glyphs) (ligatureSet src.now at))) (setMost ligatureWords (cutLigatures (entriesIn t.now glyphs) (ligatureSet src.now at)) src.now) area.new result × Dead (ligatureLeft (entriesIn t.now glyphs) src.now) dead.new }
+    requires { (set_fault (ligature_fault src.now) src.now at ≡ none) × (length src.now ≤ limit) × Inside t.now glyphs × (pos ≤ length area.old) × Dead (ligature_left (entries_in t.now glyphs) src.now) dead.old }
+    ensures { Leaves area.old pos (block (set_words ligature_words) (cut_ligatures (entries_in t.now glyphs) (ligature_set src.now at))) (set_most ligature_words (cut_ligatures (entries_in t.now glyphs) (ligature_set src.now at)) src.now) area.new result × Dead (ligature_left (entries_in t.now glyphs) src.now) dead.new }
 {
     let n = word_inside(src, at);
     let first = pos + 2 + 2 * n;

@@ -10,10 +10,10 @@ mark true = 6
 mark false = 4
 
 -- with a bad lookup map any source is 3
-pub bad-lookups : (b : Bool) (s : List ℕ) → call_in (mark b) 0 (refuses 1 s [] (0x0001 ∷ []) 3) ≡ stated (refuses 1 s [] (0x0001 ∷ []) 3)
+pub bad_lookups : (b : Bool) (s : List ℕ) → call_in (mark b) 0 (refuses 1 s [] (0x0001 ∷ []) 3) ≡ stated (refuses 1 s [] (0x0001 ∷ []) 3)
 unfolding subset
-bad-lookups true s = refl
-bad-lookups false s = refl
+bad_lookups true s = refl
+bad_lookups false s = refl
 
 -- n zeros are 4 where n is past the limit
 pub too_long : (b : Bool) (n : ℕ) → ltb limit n ≡ true → call_in (mark b) 0 (refuses 1 (replicate n 0) [] [] 4) ≡ stated (refuses 1 (replicate n 0) [] [] 4)
@@ -22,11 +22,11 @@ too_long true n h = rw (length-replicate {A = ℕ} n 0, h)
 too_long false n h = rw (length-replicate {A = ℕ} n 0, h)
 
 -- and 5 where it is not, and two of them are there to read a format
-pub no-format : (b : Bool) (n : ℕ) → ltb limit (suc (suc n)) ≡ false → leb 2 (suc (suc n)) ≡ true
+pub no_format : (b : Bool) (n : ℕ) → ltb limit (suc (suc n)) ≡ false → leb 2 (suc (suc n)) ≡ true
     → call_in (mark b) 0 (refuses 1 (replicate (suc (suc n)) 0) [] [] 5) ≡ stated (refuses 1 (replicate (suc (suc n)) 0) [] [] 5)
 unfolding subset
-no-format true n h g = rw (length-replicate {A = ℕ} n 0, h, g)
-no-format false n h g = rw (length-replicate {A = ℕ} n 0, h, g)
+no_format true n h g = rw (length-replicate {A = ℕ} n 0, h, g)
+no_format false n h g = rw (length-replicate {A = ℕ} n 0, h, g)
 
 -- three outcomes, one by one
 pub three : {a b c x y z : Outcome} → a ≡ x → b ≡ y → c ≡ z → a ∷ b ∷ c ∷ [] ≡ x ∷ y ∷ z ∷ []

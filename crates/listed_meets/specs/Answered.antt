@@ -1,8 +1,8 @@
 -- Whether a map has a glyph of a coverage.
 use Rattle.std.specs.Prelude.{ℕ, ◌≡◌, refl, Bool, true, false, ◌||◌, List, [], ◌∷◌}
 use Rattle.std.proofs.Math.Option.{Option, none, some}
-use Rattle.meaning.specs.Words.{find, is_some, push, mapSome}
-use Rattle.meaning.specs.Cut.{unlessEmpty, newCoverage}
+use Rattle.meaning.specs.Words.{find, is_some, push, map_some}
+use Rattle.meaning.specs.Cut.{unless_empty, new_coverage}
 
 -- the map f answers one of the glyphs
 unfoldable pub answered : (ℕ → Option ℕ) → List ℕ → Bool
@@ -10,17 +10,17 @@ answered f [] = false
 answered f (c ∷ cov) = is_some (f c) || answered f cov
 
 -- maps that answer the same have the same glyphs
-pub answered-same : (f h : ℕ → Option ℕ) → ((x : ℕ) → f x ≡ h x) → (cov : List ℕ) → answered f cov ≡ answered h cov
+pub answered_same : (f h : ℕ → Option ℕ) → ((x : ℕ) → f x ≡ h x) → (cov : List ℕ) → answered f cov ≡ answered h cov
 unfolding answered
-answered-same f h e [] = refl
-answered-same f h e (c ∷ cov) = rw (e c, answered-same f h e cov)
+answered_same f h e [] = refl
+answered_same f h e (c ∷ cov) = rw (e c, answered_same f h e cov)
 
 -- a glyph has an answer if and only if the new coverage has a glyph
-pub answered-left : (g : List (ℕ × ℕ)) (cov : List ℕ) → answered (find g) cov ≡ is_some (unlessEmpty (newCoverage g cov))
-unfolding answered newCoverage mapSome push is_some unlessEmpty
-answered-left g [] = refl
-answered-left g (c ∷ cov) = step (find g c) (answered-left g cov)
+pub answered_left : (g : List (ℕ × ℕ)) (cov : List ℕ) → answered (find g) cov ≡ is_some (unless_empty (new_coverage g cov))
+unfolding answered new_coverage map_some push is_some unless_empty
+answered_left g [] = refl
+answered_left g (c ∷ cov) = step (find g c) (answered_left g cov)
   where
-    step : (o : Option ℕ) → answered (find g) cov ≡ is_some (unlessEmpty (newCoverage g cov)) → is_some o || answered (find g) cov ≡ is_some (unlessEmpty (push o (newCoverage g cov)))
+    step : (o : Option ℕ) → answered (find g) cov ≡ is_some (unless_empty (new_coverage g cov)) → is_some o || answered (find g) cov ≡ is_some (unless_empty (push o (new_coverage g cov)))
     step none e = e
     step (some n) e = refl

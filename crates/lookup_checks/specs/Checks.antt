@@ -5,6 +5,6 @@ use Rattle.lookup_checks.specs.declared.Checked.{Checked}
 use Rattle.lookup_checks.specs.declared.Checked.TheVariants.{Refused, Fine}
 
 -- the refusal that an answer stands for: its number and its place
-abbrev pub refusalBy : Checked → Option (ℕ × ℕ)
-refusalBy (Refused number place) = some (number, place)
-refusalBy Fine = none
+abbrev pub refusal_by : Checked → Option (ℕ × ℕ)
+refusal_by (Refused number place) = some (number, place)
+refusal_by Fine = none

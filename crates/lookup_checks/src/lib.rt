@@ -1,9 +1,9 @@
 // The lookups of a list, checked as the subsetter checks its sources: 4, 5, 6 or 12 for the first faulty one.
 ghost use Rattle.std.specs.Prelude.{◌≡◌, true, ◌*◌, ◌/◌, ◌<◌, length};
 ghost use Rattle.meaning.specs.Words.{word};
-ghost use Rattle.replaying.specs.Listed.{listed, goodList, lookupRefusal, firstRefusal};
-ghost use Rattle.lookup_list.specs.Ready.{sourceAt};
-ghost use Rattle.lookup_checks.specs.Checks.{refusalBy};
+ghost use Rattle.replaying.specs.Listed.{listed, good_list, lookup_refusal, first_refusal};
+ghost use Rattle.lookup_list.specs.Ready.{source_at};
+ghost use Rattle.lookup_checks.specs.Checks.{refusal_by};
 
 use checks::{check, other_format};
 use faults::Fault;
@@ -21,7 +21,7 @@ pub enum Checked {
 
 // What is wrong with a lookup: over the limit, a format that its kind has not, malformed, or a record past its rule.
 fn check_lookup(kind: usize, src: &[u8]) -> Checked
-    ensures { refusalBy result ≡ lookupRefusal kind src.now }
+    ensures { refusal_by result ≡ lookup_refusal kind src.now }
 {
     if LIMIT < src.len() {
         return Checked::Refused(4, 0);
@@ -40,8 +40,8 @@ fn check_lookup(kind: usize, src: &[u8]) -> Checked
 
 // The same of a lookup of a good list, by its place from 0.
 fn check_listed(list: &[u8], buffer: &[u8], lookup: usize) -> Checked
-    requires { (goodList list.now buffer.now ≡ true) × (lookup < length list.now / 10) }
-    ensures { refusalBy result ≡ lookupRefusal (word list.now (10 * lookup)) (sourceAt list.now buffer.now lookup) }
+    requires { (good_list list.now buffer.now ≡ true) × (lookup < length list.now / 10) }
+    ensures { refusal_by result ≡ lookup_refusal (word list.now (10 * lookup)) (source_at list.now buffer.now lookup) }
 {
     let src = part(
         buffer,
@@ -53,8 +53,8 @@ fn check_listed(list: &[u8], buffer: &[u8], lookup: usize) -> Checked
 
 // What is wrong with the first faulty lookup of a good list.
 pub fn check_lookups(list: &[u8], buffer: &[u8]) -> Checked
-    requires { goodList list.now buffer.now ≡ true }
-    ensures { refusalBy result ≡ firstRefusal buffer.now (listed list.now) }
+    requires { good_list list.now buffer.now ≡ true }
+    ensures { refusal_by result ≡ first_refusal buffer.now (listed list.now) }
 {
     let many = list.len() / 10;
     let mut lookup = 0;

@@ -11,11 +11,11 @@ pub record Lookup (kind : ℕ) (s : List ℕ) : Type 0 where
   pub sound : fault kind s ≡ none
 
 -- the bytes of a lookup of the list
-unfoldable pub sourceAt : List ℕ → List ℕ → ℕ → List ℕ
-sourceAt list buffer k = bytes_of buffer (part_at list (10 * k + 2))
+unfoldable pub source_at : List ℕ → List ℕ → ℕ → List ℕ
+source_at list buffer k = bytes_of buffer (part_at list (10 * k + 2))
 
 -- the list can be asked: it is short, and each of its lookups lies inside the buffer and is sound
 pub record Ready (list buffer : List ℕ) : Type 0 where
   pub short : length list ≤ 160
   pub inside : (k : ℕ) → k < length list / 10 → long list (10 * k + 2) + long list (10 * k + 2 + 4) ≤ length buffer
-  pub lookup : (k : ℕ) → k < length list / 10 → Lookup (word list (10 * k)) (sourceAt list buffer k)
+  pub lookup : (k : ℕ) → k < length list / 10 → Lookup (word list (10 * k)) (source_at list buffer k)

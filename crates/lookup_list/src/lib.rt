@@ -1,7 +1,7 @@
 // The list of lookups: kind, start and length in a lent buffer, 10 bytes each. Read, and tested.
 ghost use Rattle.std.specs.Prelude.{◌≡◌, ◌||◌, ◌+◌, ◌≤◌, ◌<◌, length, eqb};
 ghost use Rattle.meaning.specs.Job.{long, bytes_of};
-ghost use Rattle.replaying.specs.Listed.{entry_at, goodEntry, goodList};
+ghost use Rattle.replaying.specs.Listed.{entry_at, good_entry, good_list};
 
 use wire::word_at;
 
@@ -40,7 +40,7 @@ fn good_kind(kind: usize) -> bool
 // Whether the entry at `at` has such a kind, and its part lies inside the buffer.
 fn good_entry(list: &[u8], buffer: &[u8], at: usize) -> bool
     requires { at < 0x1_0000 }
-    ensures { result ≡ goodEntry buffer.now (entry_at list.now at) }
+    ensures { result ≡ good_entry buffer.now (entry_at list.now at) }
 {
     if !good_kind(word_at(list, at)) {
         return false;
@@ -50,7 +50,7 @@ fn good_entry(list: &[u8], buffer: &[u8], at: usize) -> bool
 
 // Whether the list has whole entries, at most 16 of them, each good.
 pub fn good_list(list: &[u8], buffer: &[u8]) -> bool
-    ensures { result ≡ goodList list.now buffer.now }
+    ensures { result ≡ good_list list.now buffer.now }
 {
     if list.len() % 10 != 0 {
         return false;

@@ -2,10 +2,10 @@
 ghost use Rattle.std.proofs.Math.Option.{some};
 ghost use Rattle.std.specs.Prelude.{◌∷◌, ◌+◌, ◌-◌, ◌*◌, ◌<◌, ◌≤◌, length};
 ghost use Rattle.meaning.specs.Words.{entries, twos, find};
-ghost use Rattle.meaning.specs.Cut.{cutRecords};
+ghost use Rattle.meaning.specs.Cut.{cut_records};
 ghost use Rattle.cell_maps.specs.Cells.{Inside};
 ghost use Rattle.area.specs.Extends.{Extends};
-ghost use Rattle.numbers.specs.Entries.{entriesIn};
+ghost use Rattle.numbers.specs.Entries.{entries_in};
 ghost use Rattle.numbers.specs.Leaves.{Leaves};
 
 use area::{over, put, put_two};
@@ -24,7 +24,7 @@ pub fn write_records(
     pos: usize,
 ) -> usize
     requires { (at + 4 * n ≤ length src.now) × Inside t.now m × (pos + 4 * n ≤ length area.old) }
-    ensures { Extends area.old pos (twos (cutRecords (entriesIn t.now m) (entries src.now at n))) area.new result }
+    ensures { Extends area.old pos (twos (cut_records (entries_in t.now m) (entries src.now at n))) area.new result }
 {
     let mut p = pos;
     let mut i = 0;
@@ -49,7 +49,7 @@ pub fn write_counted_records(
     pos: usize,
 ) -> usize
     requires { (at + 4 * n ≤ length src.now) × Inside t.now m × (pos ≤ length area.old) }
-    ensures { Leaves area.old pos (some (length (cutRecords (entriesIn t.now m) (entries src.now at n)) ∷ twos (cutRecords (entriesIn t.now m) (entries src.now at n)))) (2 + 4 * n) area.new result }
+    ensures { Leaves area.old pos (some (length (cut_records (entries_in t.now m) (entries src.now at n)) ∷ twos (cut_records (entries_in t.now m) (entries src.now at n)))) (2 + 4 * n) area.new result }
 {
     if area.len() < pos + 2 + 4 * n {
         return over(area);

@@ -1,6 +1,6 @@
 // Good glyph maps of runs: six bytes a run, first old word, first new word and count, for that many pairs in step.
 ghost use Rattle.std.specs.Prelude.{◌≡◌, ◌&&◌, ◌+◌, ◌<◌, leb, ltb};
-ghost use Rattle.meaning.specs.Maps.{goodRuns};
+ghost use Rattle.meaning.specs.Maps.{good_runs};
 
 use wire::word_inside;
 
@@ -26,7 +26,7 @@ fn run_fits(old: usize, new: usize, first: usize, becomes: usize, n: usize) -> b
 
 // Whether the map has whole runs, each with a count that is not 0, which ends at 65,535 or before in both columns and starts in both after the run before it.
 pub fn good_runs(m: &[u8]) -> bool
-    ensures { result ≡ goodRuns m.now }
+    ensures { result ≡ good_runs m.now }
 {
     if m.len() % 6 != 0 {
         return false;

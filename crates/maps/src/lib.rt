@@ -1,14 +1,14 @@
 // Good maps. A lookup map has four bytes an entry, an old word and its new word, the old ones strictly ascending.
 // A glyph map has that too, the new ones strictly ascending as well, or six bytes a run: first old word, first new word and count, for that many pairs in step.
 ghost use Rattle.std.specs.Prelude.{◌≡◌, ◌+◌, ◌<◌};
-ghost use Rattle.meaning.specs.Maps.{goodGlyphs, goodLookups, goodGlyphMap};
+ghost use Rattle.meaning.specs.Maps.{good_glyphs, good_lookups, good_glyph_map};
 
 use map_runs::good_runs;
 use wire::{ascending, word_inside};
 
 // Whether the map has whole entries, and the old numbers ascend strictly.
 pub fn good_lookups(m: &[u8]) -> bool
-    ensures { result ≡ goodLookups m.now }
+    ensures { result ≡ good_lookups m.now }
 {
     if m.len() % 4 != 0 {
         return false;
@@ -18,7 +18,7 @@ pub fn good_lookups(m: &[u8]) -> bool
 
 // Whether the map has whole entries, and both the old numbers and the new ones ascend strictly.
 fn good_pairs(m: &[u8]) -> bool
-    ensures { result ≡ goodGlyphs m.now }
+    ensures { result ≡ good_glyphs m.now }
 {
     if m.len() % 4 != 0 {
         return false;
@@ -44,7 +44,7 @@ fn good_pairs(m: &[u8]) -> bool
 
 // Whether a glyph map is good in the form with this mark: 6 for runs, and pairs for any other.
 pub fn good_glyphs(m: &[u8], form: usize) -> bool
-    ensures { result ≡ goodGlyphMap form m.now }
+    ensures { result ≡ good_glyph_map form m.now }
 {
     if form == 6 {
         return good_runs(m);

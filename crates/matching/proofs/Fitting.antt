@@ -9,37 +9,37 @@ use lib.ListN.{length, drop}
 use lib.Dec.{ltb, eqb}
 use borrow.Author.Tests.{eq-eqb, ne_eqb}
 use Rattle.meaning.specs.Words.{word}
-use Rattle.meaning.specs.Tables.{reach, reaches, dropNull, plainRule, chainedRule, rule, ruleSet}
-use Rattle.meaning.specs.Matching.{fits, ruleFits, firstFit}
-use Rattle.laws.specs.Left.{words-length}
+use Rattle.meaning.specs.Tables.{reach, reaches, drop_null, plain_rule, chained_rule, rule, rule_set}
+use Rattle.meaning.specs.Matching.{fits, rule_fits, first_fit}
+use Rattle.laws.specs.Left.{words_length}
 use Rattle.replay_laws.specs.Places.{backward}
 use Rattle.rules.specs.Parts.{IsRule}
 use Rattle.rules.specs.declared.RuleParts.{RuleParts}
-use Rattle.holding.specs.Held.{held, runsOn}
-use Rattle.holding.specs.Fitting.{partsFit, FineParts}
-use Rattle.matching.specs.Fitting.{heldBy, SoundTables, reachFits, Told}
+use Rattle.holding.specs.Held.{held, runs_on}
+use Rattle.holding.specs.Fitting.{parts_fit, FineParts}
+use Rattle.matching.specs.Fitting.{held_by, SoundTables, reach_fits, Told}
 use Rattle.holding.specs.declared.How.{How}
 use Rattle.matching.specs.declared.Matched.TheVariants.{Nothing, Rule}
 
 -- a rule's input has one number fewer than it counts
-input-length : (chained : Bool) (s : List ℕ) (at : ℕ) → length (rule chained s at).input ≡ (rule chained s at).count - 1
-unfolding rule plainRule chainedRule
-input-length true s at = words-length s (at + 2 + 2 * word s at + 2) (word s (at + 2 + 2 * word s at) - 1)
-input-length false s at = words-length s (at + 4) (word s at - 1)
+input_length : (chained : Bool) (s : List ℕ) (at : ℕ) → length (rule chained s at).input ≡ (rule chained s at).count - 1
+unfolding rule plain_rule chained_rule
+input_length true s at = words_length s (at + 2 + 2 * word s at + 2) (word s (at + 2 + 2 * word s at) - 1)
+input_length false s at = words_length s (at + 4) (word s at - 1)
 
 count_small : {chained : Bool} {s : List ℕ} {at : ℕ} {r : RuleParts} → IsRule chained s at r → r.count ≤ 65536
 count_small {chained} {s} {at} {r} k =
-    let e = sym (words-length s r.input.at r.input.len) ∙ ap length k.input ∙ input-length chained s at in
-    omega (arith, e, k.count, k.near-input.short)
+    let e = sym (words_length s r.input.at r.input.len) ∙ ap length k.input ∙ input_length chained s at in
+    omega (arith, e, k.count, k.near_input.short)
 
 -- what a rule's sequences ask, if its numbers are glyphs or classes
 module _ {chained : Bool} {s : List ℕ} {at : ℕ} {r : RuleParts} {h : How} (k : IsRule chained s at r) (t : SoundTables s h) (l : at < 0x8000_0000_0000) where
-  pub rule-fine : FineParts s h r
-  rule-fine = record {
+  pub rule_fine : FineParts s h r
+  rule_fine = record {
     count = count_small k;
-    back = record { near = omega (arith, k.near-back.close, k.near-back.short); sound = λ i m. record { by-class = t.back; by-cover = λ x y. absurd (omega (arith, t.sort)) } };
-    input = record { near = omega (arith, k.near-input.close, k.near-input.short); sound = λ i m. record { by-class = t.input; by-cover = λ x y. absurd (omega (arith, t.sort)) } };
-    ahead = record { near = omega (arith, k.near-ahead.close, k.near-ahead.short); sound = λ i m. record { by-class = t.ahead; by-cover = λ x y. absurd (omega (arith, t.sort)) } };
+    back = record { near = omega (arith, k.near_back.close, k.near_back.short); sound = λ i m. record { by_class = t.back; by_cover = λ x y. absurd (omega (arith, t.sort)) } };
+    input = record { near = omega (arith, k.near_input.close, k.near_input.short); sound = λ i m. record { by_class = t.input; by_cover = λ x y. absurd (omega (arith, t.sort)) } };
+    ahead = record { near = omega (arith, k.near_ahead.close, k.near_ahead.short); sound = λ i m. record { by_class = t.ahead; by_cover = λ x y. absurd (omega (arith, t.sort)) } };
   }
 
 pub drop_more : (text : List ℕ) (a b : ℕ) → drop a (drop b text) ≡ drop (b + a) text
@@ -58,9 +58,9 @@ drop_more (g ∷ text) a (suc b) =
 
 -- a rule fits if its parts do, with the input from the next place on
 module _ {chained : Bool} {s : List ℕ} {at : ℕ} {r : RuleParts} (h : How) (text : List ℕ) (place : ℕ) (k : IsRule chained s at r) where
-  parts-rule : partsFit s h r text place (place + 1) ≡ ruleFits (heldBy s h) (rule chained s at) (backward text place) (drop (suc place) text)
-  unfolding partsFit runsOn ruleFits heldBy
-  parts-rule = rw (k.input, k.ahead, k.back, ← k.count) (step r.count)
+  parts_rule : parts_fit s h r text place (place + 1) ≡ rule_fits (held_by s h) (rule chained s at) (backward text place) (drop (suc place) text)
+  unfolding parts_fit runs_on rule_fits held_by
+  parts_rule = rw (k.input, k.ahead, k.back, ← k.count) (step r.count)
     where
       e : place + 1 ≡ suc place
       e = omega arith
@@ -76,59 +76,59 @@ module _ {chained : Bool} {s : List ℕ} {at : ℕ} {r : RuleParts} (h : How) (t
 
 -- The rule of an offset.
 module _ (chained : Bool) (s : List ℕ) (h : How) (base off : ℕ) (text : List ℕ) (place : ℕ) where
-  pub reach-null : off ≡ 0 → false ≡ reachFits chained s h base off text place
-  unfolding reachFits
-  reach-null e = rw (eq-eqb off 0 e)
+  pub reach_null : off ≡ 0 → false ≡ reach_fits chained s h base off text place
+  unfolding reach_fits
+  reach_null e = rw (eq-eqb off 0 e)
 
-  pub reach-rule : (off ≡ 0 → ⊥) → {r : RuleParts} → IsRule chained s (base + off) r → {b : Bool} → b ≡ partsFit s h r text place (place + 1) → b ≡ reachFits chained s h base off text place
-  unfolding reachFits
-  reach-rule e k f = rw (ne_eqb off 0 e) (f ∙ parts-rule h text place k)
+  pub reach_rule : (off ≡ 0 → ⊥) → {r : RuleParts} → IsRule chained s (base + off) r → {b : Bool} → b ≡ parts_fit s h r text place (place + 1) → b ≡ reach_fits chained s h base off text place
+  unfolding reach_fits
+  reach_rule e k f = rw (ne_eqb off 0 e) (f ∙ parts_rule h text place k)
 
 -- What the loop of `first_rule` keeps: the answer for the rules that are left is the whole answer.
-abbrev fitLeft : Bool → List ℕ → How → ℕ → List ℕ → ℕ → ℕ → ℕ → Option (ℕ × List (ℕ × ℕ))
-fitLeft chained s h set text place slot n = firstFit (heldBy s h) (dropNull (reaches (rule chained s) s set slot n)) (backward text place) (drop (suc place) text)
+abbrev fit_left : Bool → List ℕ → How → ℕ → List ℕ → ℕ → ℕ → ℕ → Option (ℕ × List (ℕ × ℕ))
+fit_left chained s h set text place slot n = first_fit (held_by s h) (drop_null (reaches (rule chained s) s set slot n)) (backward text place) (drop (suc place) text)
 
 pub record Choosing (chained : Bool) (s : List ℕ) (h : How) (set : ℕ) (text : List ℕ) (place n i : ℕ) : Type 0 where
   pub within : i ≤ n
   pub small : n < 65536
-  pub left : fitLeft chained s h set text place (set + 2 + 2 * i) (n - i) ≡ firstFit (heldBy s h) (ruleSet chained s set) (backward text place) (drop (suc place) text)
+  pub left : fit_left chained s h set text place (set + 2 + 2 * i) (n - i) ≡ first_fit (held_by s h) (rule_set chained s set) (backward text place) (drop (suc place) text)
 
 module _ {chained : Bool} {s : List ℕ} {h : How} {set : ℕ} {text : List ℕ} {place n : ℕ} where
-  pub choosing-all : (n ≡ word s set) × (n < 65536) → Choosing chained s h set text place n 0
-  unfolding ruleSet
-  choosing-all e =
+  pub choosing_all : (n ≡ word s set) × (n < 65536) → Choosing chained s h set text place n 0
+  unfolding rule_set
+  choosing_all e =
       let a : set + 2 + 2 * 0 ≡ set + 2 = omega arith in
       let b : n - 0 ≡ word s set = omega arith in
       record { within = omega arith; small = e.1; left = rw (a, b) }
 
-  module _ {i off : ℕ} (k : Choosing chained s h set text place n i) (l : i < n) (e : off ≡ word s (set + 2 + 2 * i)) {b : Bool} (f : b ≡ reachFits chained s h set off text place) where
-    one : fitLeft chained s h set text place (set + 2 + 2 * i) (n - i)
-        ≡ cond b (some ((rule chained s (set + off)).count, (rule chained s (set + off)).records)) (fitLeft chained s h set text place (set + 2 + 2 * (i + 1)) (n - (i + 1)))
-    unfolding reaches reach dropNull firstFit reachFits
+  module _ {i off : ℕ} (k : Choosing chained s h set text place n i) (l : i < n) (e : off ≡ word s (set + 2 + 2 * i)) {b : Bool} (f : b ≡ reach_fits chained s h set off text place) where
+    one : fit_left chained s h set text place (set + 2 + 2 * i) (n - i)
+        ≡ cond b (some ((rule chained s (set + off)).count, (rule chained s (set + off)).records)) (fit_left chained s h set text place (set + 2 + 2 * (i + 1)) (n - (i + 1)))
+    unfolding reaches reach drop_null first_fit reach_fits
     one =
         let a : n - i ≡ suc (n - (i + 1)) = omega arith in
         let c : set + 2 + 2 * (i + 1) ≡ set + 2 + 2 * i + 2 = omega arith in
         rw (a, c, ← e, f) (step (eqb off 0))
       where
-        step : (z : Bool) → firstFit (heldBy s h) (dropNull (cond z none (some (rule chained s (set + off))) ∷ reaches (rule chained s) s set (set + 2 + 2 * i + 2) (n - (i + 1)))) (backward text place) (drop (suc place) text)
-            ≡ cond (cond z false (ruleFits (heldBy s h) (rule chained s (set + off)) (backward text place) (drop (suc place) text)))
-            (some ((rule chained s (set + off)).count, (rule chained s (set + off)).records)) (fitLeft chained s h set text place (set + 2 + 2 * i + 2) (n - (i + 1)))
+        step : (z : Bool) → first_fit (held_by s h) (drop_null (cond z none (some (rule chained s (set + off))) ∷ reaches (rule chained s) s set (set + 2 + 2 * i + 2) (n - (i + 1)))) (backward text place) (drop (suc place) text)
+            ≡ cond (cond z false (rule_fits (held_by s h) (rule chained s (set + off)) (backward text place) (drop (suc place) text)))
+            (some ((rule chained s (set + off)).count, (rule chained s (set + off)).records)) (fit_left chained s h set text place (set + 2 + 2 * i + 2) (n - (i + 1)))
         step true = refl
         step false = refl
 
-    pub choosing-turn : b ≡ false → Choosing chained s h set text place n (i + 1)
-    choosing-turn z = record { within = omega arith; small = k.small; left = sym (rw z at one) ∙ k.left }
+    pub choosing_turn : b ≡ false → Choosing chained s h set text place n (i + 1)
+    choosing_turn z = record { within = omega arith; small = k.small; left = sym (rw z at one) ∙ k.left }
 
-    pub choosing-found : b ≡ true → {r : RuleParts} → IsRule chained s (set + off) r → set < 65536 → off < 65536
-        → Told s (firstFit (heldBy s h) (ruleSet chained s set) (backward text place) (drop (suc place) text)) (Rule r.count r.records.at r.records.len)
-    choosing-found z {r} t u v = record {
+    pub choosing_found : b ≡ true → {r : RuleParts} → IsRule chained s (set + off) r → set < 65536 → off < 65536
+        → Told s (first_fit (held_by s h) (rule_set chained s set) (backward text place) (drop (suc place) text)) (Rule r.count r.records.at r.records.len)
+    choosing_found z {r} t u v = record {
       says = rw (t.count, t.records) (sym (rw z at one) ∙ k.left);
-      small = (count_small t, omega (arith, t.near-records.close), t.near-records.short);
+      small = (count_small t, omega (arith, t.near_records.close), t.near_records.short);
     }
 
-  pub choosing-end : {i : ℕ} → Choosing chained s h set text place n i → n ≤ i
-      → Told s (firstFit (heldBy s h) (ruleSet chained s set) (backward text place) (drop (suc place) text)) Nothing
-  unfolding reaches dropNull firstFit
-  choosing-end {i} k l =
+  pub choosing_end : {i : ℕ} → Choosing chained s h set text place n i → n ≤ i
+      → Told s (first_fit (held_by s h) (rule_set chained s set) (backward text place) (drop (suc place) text)) Nothing
+  unfolding reaches drop_null first_fit
+  choosing_end {i} k l =
       let a : n - i ≡ 0 = omega arith in
       record { says = rw a at k.left; small = tt }

@@ -3,7 +3,7 @@ use Rattle.std.specs.Prelude.{ℕ, suc, ◌+◌, ◌≤◌, ◌<◌, ◌≡◌, 
 use Rattle.std.proofs.Math.Option.{Option, none, some}
 use Rattle.meaning.specs.Words.{entries}
 use Rattle.meaning.specs.Tables.{rule}
-use Rattle.meaning.specs.Matching.{Holds, ruleFits}
+use Rattle.meaning.specs.Matching.{Holds, rule_fits}
 use Rattle.replay_laws.specs.Places.{backward}
 use Rattle.class_stretches.specs.Tables.{NullOrSound}
 use Rattle.holding.specs.Held.{held}
@@ -12,8 +12,8 @@ use Rattle.matching.specs.declared.Matched.{Matched}
 use Rattle.matching.specs.declared.Matched.TheVariants.{Nothing, Rule}
 
 -- how a rule's three sequences are held
-unfoldable pub heldBy : List ℕ → How → Holds
-heldBy s h = record { back = held s h.sort h.back; input = held s h.sort h.input; ahead = held s h.sort h.ahead }
+unfoldable pub held_by : List ℕ → How → Holds
+held_by s h = record { back = held s h.sort h.back; input = held s h.sort h.input; ahead = held s h.sort h.ahead }
 
 -- numbers are glyphs or classes, and the class tables are sound, where they are not null
 pub record SoundTables (s : List ℕ) (h : How) : Type 0 where
@@ -23,13 +23,13 @@ pub record SoundTables (s : List ℕ) (h : How) : Type 0 where
   pub ahead : h.sort ≡ 1 → NullOrSound s h.ahead
 
 -- the rule that an offset reaches fits; a null offset reaches none
-unfoldable pub reachFits : Bool → List ℕ → How → ℕ → ℕ → List ℕ → ℕ → Bool
-reachFits chained s h base off text place = cond (eqb off 0) false (ruleFits (heldBy s h) (rule chained s (base + off)) (backward text place) (drop (suc place) text))
+unfoldable pub reach_fits : Bool → List ℕ → How → ℕ → ℕ → List ℕ → ℕ → Bool
+reach_fits chained s h base off text place = cond (eqb off 0) false (rule_fits (held_by s h) (rule chained s (base + off)) (backward text place) (drop (suc place) text))
 
 -- the input length and the records of what matched
-abbrev pub toldBy : List ℕ → Matched → Option (ℕ × List (ℕ × ℕ))
-toldBy s Nothing = none
-toldBy s (Rule n at len) = some (n, entries s at len)
+abbrev pub told_by : List ℕ → Matched → Option (ℕ × List (ℕ × ℕ))
+told_by s Nothing = none
+told_by s (Rule n at len) = some (n, entries s at len)
 
 -- its numbers are small
 abbrev pub Small : Matched → Type 0
@@ -38,5 +38,5 @@ Small (Rule n at len) = (n ≤ 65536) × (at < 0x1_0000_0000) × (len < 65536)
 
 -- r tells what matched
 pub record Told (s : List ℕ) (o : Option (ℕ × List (ℕ × ℕ))) (r : Matched) : Type 0 where
-  pub says : toldBy s r ≡ o
+  pub says : told_by s r ≡ o
   pub small : Small r

@@ -2,12 +2,12 @@
 ghost use Rattle.std.specs.Prelude.{◌≡◌, true, false, [], suc, ◌<◌, drop};
 ghost use Rattle.std.proofs.Math.Option.{none};
 ghost use Rattle.meaning.specs.Words.{words};
-ghost use Rattle.meaning.specs.Tables.{ruleSet, classContext, coverContext, context};
-ghost use Rattle.meaning.specs.Fault.{coversFault, contextFault};
-ghost use Rattle.meaning.specs.Matching.{at_place, firstFit, match};
+ghost use Rattle.meaning.specs.Tables.{rule_set, class_context, cover_context, context};
+ghost use Rattle.meaning.specs.Fault.{covers_fault, context_fault};
+ghost use Rattle.meaning.specs.Matching.{at_place, first_fit, match};
 ghost use Rattle.replay_laws.specs.Places.{backward};
-ghost use Rattle.matching.specs.Fitting.{SoundTables, Told, heldBy, reachFits};
-ghost use Rattle.matching.specs.Formats.{SoundCover, SoundClasses, setFit, matchAt, glyphContext, classesAt};
+ghost use Rattle.matching.specs.Fitting.{SoundTables, Told, held_by, reach_fits};
+ghost use Rattle.matching.specs.Formats.{SoundCover, SoundClasses, set_fit, match_at, glyph_context, classes_at};
 ghost use Rattle.matching.specs.Rows.{IsCovers};
 
 use class_stretches::class_of;
@@ -35,7 +35,7 @@ fn rule_fits(
     place: usize,
 ) -> bool
     requires { SoundTables src.now how × (base < 0x1_0000_0000) × (off < 65536) × (place < n) × (n < 0x1_0000_0000) }
-    ensures { result ≡ reachFits chained src.now how base off (words string.now 0 n) place }
+    ensures { result ≡ reach_fits chained src.now how base off (words string.now 0 n) place }
 {
     if off == 0 {
         return false;
@@ -55,7 +55,7 @@ fn first_rule(
     place: usize,
 ) -> Matched
     requires { SoundTables src.now how × (set < 0x1_0000) × (place < n) × (n < 0x1_0000_0000) }
-    ensures { Told src.now (firstFit (heldBy src.now how) (ruleSet chained src.now set) (backward (words string.now 0 n) place) (drop (suc place) (words string.now 0 n))) result }
+    ensures { Told src.now (first_fit (held_by src.now how) (rule_set chained src.now set) (backward (words string.now 0 n) place) (drop (suc place) (words string.now 0 n))) result }
 {
     let count = word_at(src, set);
     let mut i = 0;
@@ -82,7 +82,7 @@ fn match_set(
     place: usize,
 ) -> Matched
     requires { SoundTables src.now how × (slot < 65536) × (place < n) × (n < 0x1_0000_0000) }
-    ensures { Told src.now (setFit chained src.now how slot i (words string.now 0 n) place) result }
+    ensures { Told src.now (set_fit chained src.now how slot i (words string.now 0 n) place) result }
 {
     if word_at(src, slot) <= i {
         return Matched::Nothing;
@@ -97,7 +97,7 @@ fn match_set(
 // Format 1: the set of the glyph's coverage index.
 fn match_glyphs(chained: bool, src: &[u8], string: &[u8], n: usize, place: usize) -> Matched
     requires { SoundCover src.now × (place < n) × (n < 0x1_0000_0000) }
-    ensures { Told src.now (matchAt (glyphContext chained src.now) (words string.now 0 n) place) result }
+    ensures { Told src.now (match_at (glyph_context chained src.now) (words string.now 0 n) place) result }
 {
     let cover = word_at(src, 2);
     if cover == 0 {
@@ -126,7 +126,7 @@ fn match_classes(
     place: usize,
 ) -> Matched
     requires { SoundCover src.now × SoundTables src.now how × (how.sort ≡ 1) × (slot < 65536) × (place < n) × (n < 0x1_0000_0000) }
-    ensures { Told src.now (matchAt (classesAt chained src.now how slot) (words string.now 0 n) place) result }
+    ensures { Told src.now (match_at (classes_at chained src.now how slot) (words string.now 0 n) place) result }
 {
     if how.input == 0 {
         return Matched::Nothing;
@@ -196,8 +196,8 @@ pub fn cover_parts(chained: bool, src: &[u8]) -> RuleParts
 
 // Format 3: one sequence of coverages, which the glyph at the place begins.
 fn match_covers(chained: bool, src: &[u8], string: &[u8], n: usize, place: usize) -> Matched
-    requires { (coversFault chained src.now ≡ none) × (place < n) × (n < 0x1_0000_0000) }
-    ensures { Told src.now (matchAt (coverContext chained src.now) (words string.now 0 n) place) result }
+    requires { (covers_fault chained src.now ≡ none) × (place < n) × (n < 0x1_0000_0000) }
+    ensures { Told src.now (match_at (cover_context chained src.now) (words string.now 0 n) place) result }
 {
     let r = cover_parts(chained, src);
     let how = How {
@@ -215,7 +215,7 @@ fn match_covers(chained: bool, src: &[u8], string: &[u8], n: usize, place: usize
 // Format 2, with the class tables of a plain or a chained context.
 fn match_by_class(chained: bool, src: &[u8], string: &[u8], n: usize, place: usize) -> Matched
     requires { SoundCover src.now × SoundClasses chained src.now × (place < n) × (n < 0x1_0000_0000) }
-    ensures { Told src.now (matchAt (classContext chained src.now) (words string.now 0 n) place) result }
+    ensures { Told src.now (match_at (class_context chained src.now) (words string.now 0 n) place) result }
 {
     if chained {
         let all = How {
@@ -237,7 +237,7 @@ fn match_by_class(chained: bool, src: &[u8], string: &[u8], n: usize, place: usi
 
 // What a context, plain or chained, matches at a place of a string; nothing past its end.
 pub fn match_context(chained: bool, src: &[u8], string: &[u8], n: usize, place: usize) -> Matched
-    requires { (contextFault chained src.now ≡ none) × (n < 0x1_0000_0000) }
+    requires { (context_fault chained src.now ≡ none) × (n < 0x1_0000_0000) }
     ensures { Told src.now (at_place (match (context chained src.now)) [] (words string.now 0 n) place) result }
 {
     if n <= place {

@@ -7,8 +7,8 @@ unfoldable pub use Rattle.meaning.specs.Words.{eq_list}
 use Rattle.meaning.specs.Subset.{Outcome, left, refused, limit, subset}
 
 -- the most bytes of a job file
-unfoldable pub jobLimit : ℕ
-jobLimit = 65536
+unfoldable pub job_limit : ℕ
+job_limit = 65536
 
 -- the number of four bytes whose first stands at `at`
 unfoldable pub long : List ℕ → ℕ → ℕ
@@ -28,14 +28,14 @@ unfoldable pub part_at : List ℕ → ℕ → Part
 part_at f at = record { start = long f at; len = long f (at + 4) }
 
 -- table, glyph map and lookup map
-unfoldable pub tablePart : List ℕ → Part
-tablePart f = part_at f (trailer f + 2)
+unfoldable pub table_part : List ℕ → Part
+table_part f = part_at f (trailer f + 2)
 
-unfoldable pub glyphPart : List ℕ → Part
-glyphPart f = part_at f (trailer f + 10)
+unfoldable pub glyph_part : List ℕ → Part
+glyph_part f = part_at f (trailer f + 10)
 
-unfoldable pub lookupPart : List ℕ → Part
-lookupPart f = part_at f (trailer f + 18)
+unfoldable pub lookup_part : List ℕ → Part
+lookup_part f = part_at f (trailer f + 18)
 
 -- a text as its bytes, one for each character, as is so of the plain ones that are used here
 unfoldable pub ascii : String → List ℕ
@@ -47,29 +47,29 @@ unfoldable pub tag : List ℕ
 tag = ascii "LSJ1"
 
 -- the four bytes `LSJ2`, for a glyph map of runs
-unfoldable pub runsTag : List ℕ
-runsTag = ascii "LSJ2"
+unfoldable pub runs_tag : List ℕ
+runs_tag = ascii "LSJ2"
 
 -- a part lies wholly before the trailer; an empty one may start at it
 unfoldable pub before : List ℕ → Part → Bool
 before f p = leb (p.start + p.len) (trailer f)
 
 -- the file ends in this tag
-unfoldable pub endsIn : List ℕ → List ℕ → Bool
-endsIn t f = eq_list (drop (length f - 4) f) t
+unfoldable pub ends_in : List ℕ → List ℕ → Bool
+ends_in t f = eq_list (drop (length f - 4) f) t
 
 -- the file ends in one of the tags
 unfoldable pub tagged : List ℕ → Bool
-tagged f = endsIn tag f || endsIn runsTag f
+tagged f = ends_in tag f || ends_in runs_tag f
 
 -- the mark of its glyph map's form
 unfoldable pub form_of : List ℕ → ℕ
-form_of f = cond (endsIn runsTag f) 6 4
+form_of f = cond (ends_in runs_tag f) 6 4
 
 -- a file of 30 bytes to the limit, which ends in a tag and whose three parts lie wholly before the trailer
-unfoldable pub goodJob : List ℕ → Bool
-goodJob f =
-    leb 30 (length f) && (leb (length f) jobLimit && (tagged f && (before f (tablePart f) && (before f (glyphPart f) && before f (lookupPart f)))))
+unfoldable pub good_job : List ℕ → Bool
+good_job f =
+    leb 30 (length f) && (leb (length f) job_limit && (tagged f && (before f (table_part f) && (before f (glyph_part f) && before f (lookup_part f)))))
 
 -- the bytes of a part
 unfoldable pub bytes_of : List ℕ → Part → List ℕ
@@ -77,10 +77,10 @@ bytes_of f p = take p.len (drop p.start f)
 
 -- the job of a file, on a lent buffer: 11 for a faulty file, before anything else, and otherwise the call on the file's kind and parts, for the plain layout
 unfoldable pub job : List ℕ → List ℕ → Outcome
-unfolding jobLimit long trailer ascii part_at tablePart glyphPart lookupPart eq_list tag runsTag before endsIn tagged form_of goodJob bytes_of word subset
+unfolding job_limit long trailer ascii part_at table_part glyph_part lookup_part eq_list tag runs_tag before ends_in tagged form_of good_job bytes_of word subset
 job f out =
-    cond (not (goodJob f)) (refused out 11)
-    (subset (word f (trailer f)) (form_of f) 0 (bytes_of f (tablePart f)) (bytes_of f (glyphPart f)) (bytes_of f (lookupPart f)) out)
+    cond (not (good_job f)) (refused out 11)
+    (subset (word f (trailer f)) (form_of f) 0 (bytes_of f (table_part f)) (bytes_of f (glyph_part f)) (bytes_of f (lookup_part f)) out)
 
 -- What the program prints, as bytes.
 
@@ -94,23 +94,23 @@ unfoldable pub decimal : ℕ → List ℕ
 decimal n = digits 20 n []
 
 -- a number below 16 as a digit, 0 to 9 and a to f
-unfoldable pub hexDigit : ℕ → ℕ
-hexDigit d = cond (ltb d 10) (48 + d) (87 + d)
+unfoldable pub hex_digit : ℕ → ℕ
+hex_digit d = cond (ltb d 10) (48 + d) (87 + d)
 
 abbrev pub newline : ℕ
 newline = 10
 
 -- bytes in lower-case hex, 16 a line, where the line that is begun takes `room` more; each line ends in a newline, the last one too
-unfoldable pub hexLines : ℕ → List ℕ → List ℕ
-hexLines room [] = newline ∷ []
-hexLines zero (b ∷ bs) = newline ∷ hexDigit (b / 16) ∷ hexDigit (b % 16) ∷ hexLines 15 bs
-hexLines (suc room) (b ∷ bs) = hexDigit (b / 16) ∷ hexDigit (b % 16) ∷ hexLines room bs
+unfoldable pub hex_lines : ℕ → List ℕ → List ℕ
+hex_lines room [] = newline ∷ []
+hex_lines zero (b ∷ bs) = newline ∷ hex_digit (b / 16) ∷ hex_digit (b % 16) ∷ hex_lines 15 bs
+hex_lines (suc room) (b ∷ bs) = hex_digit (b / 16) ∷ hex_digit (b % 16) ∷ hex_lines room bs
 
 -- `kept N` and the N bytes, or `refused` and the number
 unfoldable pub printed : Outcome → List ℕ
-unfolding ascii digits decimal hexDigit hexLines
+unfolding ascii digits decimal hex_digit hex_lines
 printed r =
-    cond (eqb r.number 0) (ascii "kept " ++ (decimal r.len ++ (newline ∷ hexLines 16 (left r))))
+    cond (eqb r.number 0) (ascii "kept " ++ (decimal r.len ++ (newline ∷ hex_lines 16 (left r))))
     (ascii "refused " ++ (decimal r.number ++ (newline ∷ [])))
 
 -- how many bytes the program lends for the result

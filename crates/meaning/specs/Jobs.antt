@@ -67,9 +67,9 @@ jobs =
     ∷ []
 
 -- each job prints what its row states, here with 64 bytes lent; the crate `limits` has the same of the program, with all that it lends
-pub each-job : map (λ r. printed (job r.file (replicate 64 0))) jobs ≡ map (λ r. ascii r.prints) jobs
+pub each_job : map (λ r. printed (job r.file (replicate 64 0))) jobs ≡ map (λ r. ascii r.prints) jobs
 unfolding job printed ascii jobs
-each-job = refl
+each_job = refl
 
 -- the program lends 262,144 bytes, so that a layout longer than its job has room
 pub lends : room ≡ 262144

@@ -319,9 +319,9 @@ points =
     ∷ []
 
 -- each call gives what is stated
-pub each-point : map call points ≡ map stated points
+pub each_point : map call points ≡ map stated points
 unfolding subset points
-each-point = refl
+each_point = refl
 
 -- calls with the mark of their glyph map's form before them
 unfoldable pub forms : List (ℕ × Row)
@@ -351,9 +351,9 @@ forms =
     ∷ []
 
 -- each call gives what is stated
-pub each-form : map (λ e. call_in e.0 0 e.1) forms ≡ map (λ e. stated e.1) forms
+pub each_form : map (λ e. call_in e.0 0 e.1) forms ≡ map (λ e. stated e.1) forms
 unfolding subset forms
-each-form = refl
+each_form = refl
 
 -- calls with the marks of their form and of the layout before them
 unfoldable pub layouts : List (ℕ × ℕ × Row)

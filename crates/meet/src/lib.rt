@@ -2,7 +2,7 @@
 ghost use Rattle.std.specs.Prelude.{◌+◌, ◌*◌, ◌/◌, ◌<◌};
 ghost use Rattle.meaning.specs.Words.{words};
 ghost use Rattle.meaning.specs.Parts.{coverage};
-ghost use Rattle.meaning.specs.Maps.{mapEntries};
+ghost use Rattle.meaning.specs.Maps.{map_entries};
 ghost use Rattle.meaning.specs.Words.{find};
 ghost use Rattle.cell_maps.specs.Cells.{folded};
 ghost use Rattle.range_meets.specs.Met.{Met, Meets};
@@ -40,7 +40,7 @@ pub fn meet_list(src: &[u8], at: usize, n: usize, m: Map, t: &mut [u32], to: usi
 // The glyphs of the map that the coverage at `at` has, noted from `to` on; how many. The coverage is asked for one entry after the other.
 fn meet_entries(src: &[u8], at: usize, glyphs: &[u8], t: &mut [u32], to: usize) -> usize
     requires { MeetsEntries src.now at glyphs.now t.old to }
-    ensures { Met (find (mapEntries glyphs.now)) (coverage src.now at) t.old to t.new result }
+    ensures { Met (find (map_entries glyphs.now)) (coverage src.now at) t.old to t.new result }
 {
     let mut k = 0;
     let mut e = 0;
@@ -60,7 +60,7 @@ fn meet_entries(src: &[u8], at: usize, glyphs: &[u8], t: &mut [u32], to: usize) 
 // The retained glyphs of the coverage at `at`, in order, noted in the cells from `to` on, each as its coverage index times 65,536, plus its new number; how many. `m` holds the glyph map.
 pub fn meet(src: &[u8], at: usize, glyphs: &[u8], m: Map, t: &mut [u32], to: usize) -> usize
     requires { Meets src.now at glyphs.now m t.old to }
-    ensures { Met (find (mapEntries glyphs.now)) (coverage src.now at) t.old to t.new result }
+    ensures { Met (find (map_entries glyphs.now)) (coverage src.now at) t.old to t.new result }
 {
     let n = word_inside(src, at + 2);
     if glyphs.len() / 4 < n / LONG {

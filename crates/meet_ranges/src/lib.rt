@@ -1,8 +1,8 @@
 // Where a listed glyph map meets the ranges of a coverage: the covered glyphs that the map has, noted in cells.
 ghost use Rattle.std.specs.Prelude.{◌+◌, ◌*◌, ◌/◌, ◌<◌};
 ghost use Rattle.meaning.specs.Words.{triples};
-ghost use Rattle.meaning.specs.Parts.{rangeGlyphs};
-ghost use Rattle.meaning.specs.Maps.{mapEntries};
+ghost use Rattle.meaning.specs.Parts.{range_glyphs};
+ghost use Rattle.meaning.specs.Maps.{map_entries};
 ghost use Rattle.meaning.specs.Words.{find};
 ghost use Rattle.range_meets.specs.Met.{Met};
 ghost use Rattle.range_meets.specs.Walks.{MeetsRanges};
@@ -20,7 +20,7 @@ pub fn meet_ranges(
     to: usize,
 ) -> usize
     requires { MeetsRanges src.now at n glyphs.now t.old to }
-    ensures { Met (find (mapEntries glyphs.now)) (rangeGlyphs (triples src.now at n)) t.old to t.new result }
+    ensures { Met (find (map_entries glyphs.now)) (range_glyphs (triples src.now at n)) t.old to t.new result }
 {
     let mut e = 0;
     let mut k = 0;

@@ -2,8 +2,8 @@
 // Runs meet ranges stretch by stretch: a range costs the glyphs of it that the map has, a step for each run that has some, and a few to find the first.
 ghost use Rattle.std.specs.Prelude.{◌+◌, ◌<◌};
 ghost use Rattle.meaning.specs.Words.{triples, find};
-ghost use Rattle.meaning.specs.Maps.{glyphEntries};
-ghost use Rattle.meaning.specs.Parts.{rangeGlyphs, coverage};
+ghost use Rattle.meaning.specs.Maps.{glyph_entries};
+ghost use Rattle.meaning.specs.Parts.{range_glyphs, coverage};
 ghost use Rattle.range_meets.specs.Met.{Met};
 ghost use Rattle.noted_runs.specs.Walks.{MeetsSpan, InSpan, MeetsRanges};
 ghost use Rattle.meets.specs.Either.{MeetsGlyphs};
@@ -45,7 +45,7 @@ fn meet_span(
 // The glyphs of the `n` ranges from `at` on that the map of runs has, noted from `to` on; how many.
 fn meet_ranges(src: &[u8], at: usize, n: usize, glyphs: &[u8], t: &mut [u32], to: usize) -> usize
     requires { MeetsRanges src.now at n glyphs.now t.old to }
-    ensures { Met (find (glyphEntries 6 glyphs.now)) (rangeGlyphs (triples src.now at n)) t.old to t.new result }
+    ensures { Met (find (glyph_entries 6 glyphs.now)) (range_glyphs (triples src.now at n)) t.old to t.new result }
 {
     let mut e = 0;
     let mut k = 0;
@@ -72,7 +72,7 @@ pub fn meet(
     to: usize,
 ) -> usize
     requires { MeetsGlyphs form src.now at glyphs.now m t.old to }
-    ensures { Met (find (glyphEntries form glyphs.now)) (coverage src.now at) t.old to t.new result }
+    ensures { Met (find (glyph_entries form glyphs.now)) (coverage src.now at) t.old to t.new result }
 {
     if form == 4 {
         return meet::meet(src, at, glyphs, m, t, to);

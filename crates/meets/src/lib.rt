@@ -1,9 +1,9 @@
 // Whether a glyph map in either form meets a coverage, and a bound for how often.
 ghost use Rattle.std.specs.Prelude.{◌≡◌, true, ◌+◌, ◌<◌};
 ghost use Rattle.meaning.specs.Words.{triples, find, is_some};
-ghost use Rattle.meaning.specs.Maps.{glyphEntries};
-ghost use Rattle.meaning.specs.Parts.{rangeGlyphs, coverage, coverageSound};
-ghost use Rattle.meaning.specs.Cut.{unlessEmpty, newCoverage};
+ghost use Rattle.meaning.specs.Maps.{glyph_entries};
+ghost use Rattle.meaning.specs.Parts.{range_glyphs, coverage, coverage_sound};
+ghost use Rattle.meaning.specs.Cut.{unless_empty, new_coverage};
 ghost use Rattle.glyph_runs.specs.Runs.{GlyphMap};
 ghost use Rattle.listed_meets.specs.Answered.{answered};
 ghost use Rattle.noted_runs.specs.Walks.{SeeksRanges};
@@ -16,7 +16,7 @@ use wire::word_inside;
 
 // A bound for how many glyphs `meet` notes, found in a few steps: the entries of a listed map, and the covered glyphs for a map of runs.
 pub fn most(src: &[u8], at: usize, glyphs: &[u8], form: usize) -> usize
-    requires { (coverageSound src.now at ≡ true) × GlyphMap form glyphs.now }
+    requires { (coverage_sound src.now at ≡ true) × GlyphMap form glyphs.now }
     ensures { Most form glyphs.now src.now at result }
 {
     if form == 6 {
@@ -28,7 +28,7 @@ pub fn most(src: &[u8], at: usize, glyphs: &[u8], form: usize) -> usize
 // Whether the map has a glyph of the `n` ranges from `at` on. The first range in which a run of the map has a glyph settles it.
 fn meets_ranges(src: &[u8], at: usize, n: usize, glyphs: &[u8], form: usize) -> bool
     requires { SeeksRanges src.now at n form glyphs.now }
-    ensures { result ≡ answered (find (glyphEntries form glyphs.now)) (rangeGlyphs (triples src.now at n)) }
+    ensures { result ≡ answered (find (glyph_entries form glyphs.now)) (range_glyphs (triples src.now at n)) }
 {
     let mut e = 0;
     let mut i = 0;
@@ -50,7 +50,7 @@ fn meets_ranges(src: &[u8], at: usize, n: usize, glyphs: &[u8], form: usize) -> 
 // Whether a glyph of the coverage at `at` is retained. `m` holds the glyph map.
 pub fn meets(src: &[u8], at: usize, glyphs: &[u8], form: usize, m: Map, t: &[u32]) -> bool
     requires { SeeksGlyphs form src.now at glyphs.now m t.now }
-    ensures { result ≡ is_some (unlessEmpty (newCoverage (glyphEntries form glyphs.now) (coverage src.now at))) }
+    ensures { result ≡ is_some (unless_empty (new_coverage (glyph_entries form glyphs.now) (coverage src.now at))) }
 {
     let n = word_inside(src, at + 2);
     if word_inside(src, at) == 1 {

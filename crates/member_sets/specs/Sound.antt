@@ -3,9 +3,9 @@ use Rattle.std.specs.Prelude.{ℕ, zero, suc, ◌+◌, ◌*◌, ◌≤◌, ◌<�
 use Rattle.std.proofs.Common.{sym, ap, ◌∙◌, arith, leb-true, ne_eqb}
 use Rattle.std.proofs.Math.Option.{Option, none, some}
 use Rattle.meaning.specs.Words.{word, inside}
-use Rattle.meaning.specs.Fault.{lowest, partFault, faultThrough, setFault}
+use Rattle.meaning.specs.Fault.{lowest, part_fault, fault_through, set_fault}
 use Rattle.laws.specs.Runs.{both}
-use Rattle.laws.specs.SoundGood.{part_sound, lowest-none}
+use Rattle.laws.specs.SoundGood.{part_sound, lowest_none}
 
 -- bytes that lie inside
 pub inside_is : (s : List ℕ) (at n : ℕ) → inside s at n ≡ true → at + n ≤ length s
@@ -13,27 +13,27 @@ unfolding inside
 inside_is s at n h = leb-true (at + n) (length s) h
 
 -- each part that offsets reach is sound, if none is faulty
-pub through-sound : (faultAt : ℕ → Option ℕ) (s : List ℕ) (base slot n i : ℕ) → faultThrough faultAt s base slot n ≡ none → i < n → (word s (slot + 2 * i) ≡ 0 → ⊥)
-    → faultAt (base + word s (slot + 2 * i)) ≡ none
-unfolding faultThrough
-through-sound faultAt s base slot zero i h l z = absurd (omega arith)
-through-sound faultAt s base slot (suc n) zero h l z =
+pub through_sound : (fault_at : ℕ → Option ℕ) (s : List ℕ) (base slot n i : ℕ) → fault_through fault_at s base slot n ≡ none → i < n → (word s (slot + 2 * i) ≡ 0 → ⊥)
+    → fault_at (base + word s (slot + 2 * i)) ≡ none
+unfolding fault_through
+through_sound fault_at s base slot zero i h l z = absurd (omega arith)
+through_sound fault_at s base slot (suc n) zero h l z =
     let e : slot + 2 * 0 ≡ slot = omega arith in
-    let o = (lowest-none _ _ h).0 in
+    let o = (lowest_none _ _ h).0 in
     rw e (rw (ne_eqb (word s slot) 0 (rw e at z)) at o)
-through-sound faultAt s base slot (suc n) (suc i) h l z =
+through_sound fault_at s base slot (suc n) (suc i) h l z =
     let e : slot + 2 * suc i ≡ slot + 2 + 2 * i = omega arith in
-    rw e (through-sound faultAt s base (slot + 2) n i (lowest-none _ _ h).1 (omega arith) (rw e at z))
+    rw e (through_sound fault_at s base (slot + 2) n i (lowest_none _ _ h).1 (omega arith) (rw e at z))
 
-module _ (faultAt : ℕ → Option ℕ) (s : List ℕ) (at : ℕ) (h : setFault faultAt s at ≡ none) where
-  sound : (inside s at 2 && inside s (at + 2) (2 * word s at) ≡ true) × (faultThrough faultAt s at (at + 2) (word s at) ≡ none)
-  unfolding setFault
+module _ (fault_at : ℕ → Option ℕ) (s : List ℕ) (at : ℕ) (h : set_fault fault_at s at ≡ none) where
+  sound : (inside s at 2 && inside s (at + 2) (2 * word s at) ≡ true) × (fault_through fault_at s at (at + 2) (word s at) ≡ none)
+  unfolding set_fault
   sound = part_sound at _ _ h
 
   -- its count and its offsets lie inside
-  pub set-inside : at + 2 + 2 * word s at ≤ length s
-  set-inside = inside_is s (at + 2) (2 * word s at) (both (inside s at 2) _ sound.0).1
+  pub set_inside : at + 2 + 2 * word s at ≤ length s
+  set_inside = inside_is s (at + 2) (2 * word s at) (both (inside s at 2) _ sound.0).1
 
   -- and its members are sound
-  pub member-sound : {i off : ℕ} → i < word s at → off ≡ word s (at + 2 + 2 * i) → (off ≡ 0 → ⊥) → faultAt (at + off) ≡ none
-  member-sound {i} {off} l e z = rw e (through-sound faultAt s at (at + 2) (word s at) i sound.1 l (λ w. z (e ∙ w)))
+  pub member_sound : {i off : ℕ} → i < word s at → off ≡ word s (at + 2 + 2 * i) → (off ≡ 0 → ⊥) → fault_at (at + off) ≡ none
+  member_sound {i} {off} l e z = rw e (through_sound fault_at s at (at + 2) (word s at) i sound.1 l (λ w. z (e ∙ w)))

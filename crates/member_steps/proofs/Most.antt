@@ -11,93 +11,93 @@ use lib.ListN.{length, replicate}
 use lib.Dec.{eqb}
 use borrow.Author.Tests.{lt-ltb, le-ltb, eqb-true, eqb-false, eq-eqb, ne_eqb}
 use Rattle.meaning.specs.Words.{word}
-use Rattle.meaning.specs.Tables.{reach, reaches, dropNull, rule, ruleSet}
-use Rattle.replaying.specs.Cost.{larger, largest, ruleSteps, setsSteps}
+use Rattle.meaning.specs.Tables.{reach, reaches, drop_null, rule, rule_set}
+use Rattle.replaying.specs.Cost.{larger, largest, rule_steps, sets_steps}
 use Rattle.bits.specs.Bits.{marked, Put}
-use Rattle.bits.specs.Reading.{none-marked}
+use Rattle.bits.specs.Reading.{none_marked}
 use Rattle.member_steps.specs.Most.{Counted}
 
-pub larger-second : (a b : ℕ) → a < b → b ≡ larger a b
+pub larger_second : (a b : ℕ) → a < b → b ≡ larger a b
 unfolding larger
-larger-second a b h = rw (lt-ltb a b h)
+larger_second a b h = rw (lt-ltb a b h)
 
-pub larger-first : (a b : ℕ) → b ≤ a → a ≡ larger a b
+pub larger_first : (a b : ℕ) → b ≤ a → a ≡ larger a b
 unfolding larger
-larger-first a b h = rw (le-ltb a b h)
+larger_first a b h = rw (le-ltb a b h)
 
 -- it is above both, and no more than what is above both
-pub larger-above : (a b : ℕ) → (a ≤ larger a b) × (b ≤ larger a b)
-larger-above a b = step (dec_lt a b)
+pub larger_above : (a b : ℕ) → (a ≤ larger a b) × (b ≤ larger a b)
+larger_above a b = step (dec_lt a b)
   where
     step : Dec (a < b) → (a ≤ larger a b) × (b ≤ larger a b)
-    step (yes l) = let e = larger-second a b l in (omega arith, omega arith)
-    step (no l) = let e = larger-first a b (omega arith) in (omega arith, omega arith)
+    step (yes l) = let e = larger_second a b l in (omega arith, omega arith)
+    step (no l) = let e = larger_first a b (omega arith) in (omega arith, omega arith)
 
-larger-least : (a b m : ℕ) → a ≤ m → b ≤ m → larger a b ≤ m
-larger-least a b m h k = step (dec_lt a b)
+larger_least : (a b m : ℕ) → a ≤ m → b ≤ m → larger a b ≤ m
+larger_least a b m h k = step (dec_lt a b)
   where
     step : Dec (a < b) → larger a b ≤ m
-    step (yes l) = let e = larger-second a b l in omega arith
-    step (no l) = let e = larger-first a b (omega arith) in omega arith
+    step (yes l) = let e = larger_second a b l in omega arith
+    step (no l) = let e = larger_first a b (omega arith) in omega arith
 
-larger-assoc : (a b c : ℕ) → larger (larger a b) c ≡ larger a (larger b c)
-larger-assoc a b c =
-    let x = larger-above a b in
-    let y = larger-above (larger a b) c in
-    let u = larger-above b c in
-    let v = larger-above a (larger b c) in
-    let p = larger-least (larger a b) c (larger a (larger b c)) (larger-least a b (larger a (larger b c)) v.0 (omega (arith, u.0, v.1))) (omega (arith, u.1, v.1)) in
-    let q = larger-least a (larger b c) (larger (larger a b) c) (omega (arith, x.0, y.0)) (larger-least b c (larger (larger a b) c) (omega (arith, x.1, y.0)) y.1) in
+larger_assoc : (a b c : ℕ) → larger (larger a b) c ≡ larger a (larger b c)
+larger_assoc a b c =
+    let x = larger_above a b in
+    let y = larger_above (larger a b) c in
+    let u = larger_above b c in
+    let v = larger_above a (larger b c) in
+    let p = larger_least (larger a b) c (larger a (larger b c)) (larger_least a b (larger a (larger b c)) v.0 (omega (arith, u.0, v.1))) (omega (arith, u.1, v.1)) in
+    let q = larger_least a (larger b c) (larger (larger a b) c) (omega (arith, x.0, y.0)) (larger_least b c (larger (larger a b) c) (omega (arith, x.1, y.0)) y.1) in
     omega arith
 
-larger-zero : (a : ℕ) → larger a 0 ≡ a
-larger-zero a = sym (larger-first a 0 (omega arith))
+larger_zero : (a : ℕ) → larger a 0 ≡ a
+larger_zero a = sym (larger_first a 0 (omega arith))
 
 -- Marks: none at first, and one more.
 
 module _ {chained : Bool} {s steps : List ℕ} {most : ℕ} where
-  pub none-counted : (n : ℕ) → Counted chained s steps most (replicate n 0)
-  none-counted n = record { counted = λ p m. absurd (true≢false (sym m ∙ none-marked n 0 p)) }
+  pub none_counted : (n : ℕ) → Counted chained s steps most (replicate n 0)
+  none_counted n = record { counted = λ p m. absurd (true≢false (sym m ∙ none_marked n 0 p)) }
 
   -- a rule with a mark changes nothing
-  pub counted-before : {marks : List ℕ} → Counted chained s steps most marks → (at : ℕ) → marked marks 0 at ≡ true → most ≡ larger most (ruleSteps steps (rule chained s at))
-  counted-before k at m = sym (k.counted at m)
+  pub counted_before : {marks : List ℕ} → Counted chained s steps most marks → (at : ℕ) → marked marks 0 at ≡ true → most ≡ larger most (rule_steps steps (rule chained s at))
+  counted_before k at m = sym (k.counted at m)
 
   -- one that is counted gets a mark
-  pub counted-more : {marks next : List ℕ} {r : ℕ} (at : ℕ) → Counted chained s steps most marks → r ≡ larger most (ruleSteps steps (rule chained s at)) → Put 0 at marks next
+  pub counted_more : {marks next : List ℕ} {r : ℕ} (at : ℕ) → Counted chained s steps most marks → r ≡ larger most (rule_steps steps (rule chained s at)) → Put 0 at marks next
       → Counted chained s steps r next
-  counted-more {marks} {next} {r} at k g e = record { counted = λ p m. step p (eqb p at) refl m }
+  counted_more {marks} {next} {r} at k g e = record { counted = λ p m. step p (eqb p at) refl m }
     where
       a : most ≤ r
-      a = let x = larger-above most (ruleSteps steps (rule chained s at)) in omega (arith, x.0)
+      a = let x = larger_above most (rule_steps steps (rule chained s at)) in omega (arith, x.0)
 
-      step : (p : ℕ) (b : Bool) → eqb p at ≡ b → marked next 0 p ≡ true → larger r (ruleSteps steps (rule chained s p)) ≡ r
+      step : (p : ℕ) (b : Bool) → eqb p at ≡ b → marked next 0 p ≡ true → larger r (rule_steps steps (rule chained s p)) ≡ r
       step p true q m =
-          let x = larger-above most (ruleSteps steps (rule chained s at)) in
-          rw (eqb-true p at q) (sym (larger-first r (ruleSteps steps (rule chained s at)) (omega (arith, x.1))))
+          let x = larger_above most (rule_steps steps (rule chained s at)) in
+          rw (eqb-true p at q) (sym (larger_first r (rule_steps steps (rule chained s at)) (omega (arith, x.1))))
       step p false q m =
           let c = k.counted p (sym (e.others p (eqb-false p at q)) ∙ m) in
-          let x = larger-above most (ruleSteps steps (rule chained s p)) in
-          sym (larger-first r (ruleSteps steps (rule chained s p)) (omega (arith, a, x.1)))
+          let x = larger_above most (rule_steps steps (rule chained s p)) in
+          sym (larger_first r (rule_steps steps (rule chained s p)) (omega (arith, a, x.1)))
 
 -- What a loop over offsets keeps: the larger of the most so far and the most among the parts that are left is the whole.
 pub record Topping {A : Type 0} (f : A → ℕ) (read : ℕ → A) (s : List ℕ) (base slot n first top i : ℕ) : Type 0 where
   pub within : i ≤ n
-  pub left : larger top (largest f (dropNull (reaches read s base (slot + 2 * i) (n - i)))) ≡ larger first (largest f (dropNull (reaches read s base slot n)))
+  pub left : larger top (largest f (drop_null (reaches read s base (slot + 2 * i) (n - i)))) ≡ larger first (largest f (drop_null (reaches read s base slot n)))
 
 module _ {A : Type 0} {f : A → ℕ} {read : ℕ → A} {s : List ℕ} {base slot n first : ℕ} where
-  pub topping-all : Topping f read s base slot n first first 0
-  topping-all =
+  pub topping_all : Topping f read s base slot n first first 0
+  topping_all =
       let e : slot + 2 * 0 ≡ slot = omega arith in
       let d : n - 0 ≡ n = omega arith in
       record { within = omega arith; left = rw (e, d) }
 
   module _ {top i off : ℕ} (k : Topping f read s base slot n first top i) (h : i < n) (e : off ≡ word s (slot + 2 * i)) where
     abbrev rest : ℕ
-    rest = largest f (dropNull (reaches read s base (slot + 2 * (i + 1)) (n - (i + 1))))
+    rest = largest f (drop_null (reaches read s base (slot + 2 * (i + 1)) (n - (i + 1))))
 
-    turn : larger top (largest f (dropNull (cond (eqb off 0) none (some (read (base + off))) ∷ reaches read s base (slot + 2 * (i + 1)) (n - (i + 1)))))
-        ≡ larger first (largest f (dropNull (reaches read s base slot n)))
+    turn : larger top (largest f (drop_null (cond (eqb off 0) none (some (read (base + off))) ∷ reaches read s base (slot + 2 * (i + 1)) (n - (i + 1)))))
+        ≡ larger first (largest f (drop_null (reaches read s base slot n)))
     unfolding reach reaches
     turn =
         let a : n - i ≡ suc (n - (i + 1)) = omega arith in
@@ -105,75 +105,75 @@ module _ {A : Type 0} {f : A → ℕ} {read : ℕ → A} {s : List ℕ} {base sl
         rw (e, b) (rw a at k.left)
 
     -- a null offset reaches no part
-    pub topping-null : off ≡ 0 → Topping f read s base slot n first top (i + 1)
-    unfolding dropNull
-    topping-null z = record { within = omega arith; left = rw (eq-eqb off 0 z) at turn }
+    pub topping_null : off ≡ 0 → Topping f read s base slot n first top (i + 1)
+    unfolding drop_null
+    topping_null z = record { within = omega arith; left = rw (eq-eqb off 0 z) at turn }
 
     -- another reaches a part
-    pub topping-part : (off ≡ 0 → ⊥) → {r : ℕ} → r ≡ larger top (f (read (base + off))) → Topping f read s base slot n first r (i + 1)
-    unfolding dropNull largest
-    topping-part z {r} g =
+    pub topping_part : (off ≡ 0 → ⊥) → {r : ℕ} → r ≡ larger top (f (read (base + off))) → Topping f read s base slot n first r (i + 1)
+    unfolding drop_null largest
+    topping_part z {r} g =
         let t = rw (ne_eqb off 0 z) at turn in
-        record { within = omega arith; left = ap (λ (x : ℕ). larger x rest) g ∙ larger-assoc top (f (read (base + off))) rest ∙ t }
+        record { within = omega arith; left = ap (λ (x : ℕ). larger x rest) g ∙ larger_assoc top (f (read (base + off))) rest ∙ t }
 
-  pub topping-end : {top i : ℕ} → Topping f read s base slot n first top i → n ≤ i → top ≡ larger first (largest f (dropNull (reaches read s base slot n)))
-  unfolding reaches dropNull largest
-  topping-end {top} {i} k h =
+  pub topping_end : {top i : ℕ} → Topping f read s base slot n first top i → n ≤ i → top ≡ larger first (largest f (drop_null (reaches read s base slot n)))
+  unfolding reaches drop_null largest
+  topping_end {top} {i} k h =
       let e : n - i ≡ 0 = omega arith in
-      sym (larger-zero top) ∙ (rw e at k.left)
+      sym (larger_zero top) ∙ (rw e at k.left)
 
 -- What the loop over the rules of the set at `set` keeps: the most so far, and the marks of what was counted.
 pub record InSet (chained : Bool) (s steps : List ℕ) (set n first : ℕ) (marks₀ : List ℕ) (top i : ℕ) (marks : List ℕ) : Type 0 where
-  pub topping : Topping (ruleSteps steps) (rule chained s) s set (set + 2) n first top i
+  pub topping : Topping (rule_steps steps) (rule chained s) s set (set + 2) n first top i
   pub counted : Counted chained s steps top marks
   pub long : length marks ≡ length marks₀
 
 module _ {chained : Bool} {s steps : List ℕ} {at n first : ℕ} {marks₀ : List ℕ} where
   pub set_all : Counted chained s steps first marks₀ → InSet chained s steps at n first marks₀ first 0 marks₀
-  set_all k = record { topping = topping-all; counted = k; long = refl }
+  set_all k = record { topping = topping_all; counted = k; long = refl }
 
   module _ {top i off : ℕ} {marks : List ℕ} (k : InSet chained s steps at n first marks₀ top i marks) (h : i < n) (e : off ≡ word s (at + 2 + 2 * i)) where
-    pub set-null : off ≡ 0 → InSet chained s steps at n first marks₀ top (i + 1) marks
-    set-null z = record { topping = topping-null k.topping h e z; counted = k.counted; long = k.long }
+    pub set_null : off ≡ 0 → InSet chained s steps at n first marks₀ top (i + 1) marks
+    set_null z = record { topping = topping_null k.topping h e z; counted = k.counted; long = k.long }
 
-    pub set-rule : (off ≡ 0 → ⊥) → {r : ℕ} {next : List ℕ} → (r ≡ larger top (ruleSteps steps (rule chained s (at + off)))) × Counted chained s steps r next → length next ≡ length marks
+    pub set_rule : (off ≡ 0 → ⊥) → {r : ℕ} {next : List ℕ} → (r ≡ larger top (rule_steps steps (rule chained s (at + off)))) × Counted chained s steps r next → length next ≡ length marks
         → InSet chained s steps at n first marks₀ r (i + 1) next
-    set-rule z g l = record { topping = topping-part k.topping h e z g.0; counted = g.1; long = l ∙ k.long }
+    set_rule z g l = record { topping = topping_part k.topping h e z g.0; counted = g.1; long = l ∙ k.long }
 
-  pub set-end : {top i : ℕ} {marks : List ℕ} → InSet chained s steps at n first marks₀ top i marks → n ≤ i → n ≡ word s at
-      → (top ≡ larger first (largest (ruleSteps steps) (ruleSet chained s at))) × Counted chained s steps top marks
-  unfolding ruleSet
-  set-end k h e = (rw (← e) (topping-end k.topping h), k.counted)
+  pub set_end : {top i : ℕ} {marks : List ℕ} → InSet chained s steps at n first marks₀ top i marks → n ≤ i → n ≡ word s at
+      → (top ≡ larger first (largest (rule_steps steps) (rule_set chained s at))) × Counted chained s steps top marks
+  unfolding rule_set
+  set_end k h e = (rw (← e) (topping_end k.topping h), k.counted)
 
 -- What the loop over the sets keeps.
 pub record InSets (chained : Bool) (s steps : List ℕ) (slot n : ℕ) (marks₀ : List ℕ) (top i : ℕ) (marks : List ℕ) : Type 0 where
-  pub topping : Topping (largest (ruleSteps steps)) (ruleSet chained s) s 0 slot n 0 top i
+  pub topping : Topping (largest (rule_steps steps)) (rule_set chained s) s 0 slot n 0 top i
   pub counted : Counted chained s steps top marks
   pub long : length marks ≡ length marks₀
 
 module _ {chained : Bool} {s steps : List ℕ} {slot n : ℕ} {marks₀ : List ℕ} where
-  pub sets-all : Counted chained s steps 0 marks₀ → InSets chained s steps slot n marks₀ 0 0 marks₀
-  sets-all k = record { topping = topping-all; counted = k; long = refl }
+  pub sets_all : Counted chained s steps 0 marks₀ → InSets chained s steps slot n marks₀ 0 0 marks₀
+  sets_all k = record { topping = topping_all; counted = k; long = refl }
 
   module _ {top i off : ℕ} {marks : List ℕ} (k : InSets chained s steps slot n marks₀ top i marks) (h : i < n) (e : off ≡ word s (slot + 2 * i)) where
-    pub sets-null : off ≡ 0 → InSets chained s steps slot n marks₀ top (i + 1) marks
-    sets-null z = record { topping = topping-null k.topping h e z; counted = k.counted; long = k.long }
+    pub sets_null : off ≡ 0 → InSets chained s steps slot n marks₀ top (i + 1) marks
+    sets_null z = record { topping = topping_null k.topping h e z; counted = k.counted; long = k.long }
 
-    pub sets-set : (off ≡ 0 → ⊥) → {r : ℕ} {next : List ℕ} → (r ≡ larger top (largest (ruleSteps steps) (ruleSet chained s off))) × Counted chained s steps r next → length next ≡ length marks
+    pub sets_set : (off ≡ 0 → ⊥) → {r : ℕ} {next : List ℕ} → (r ≡ larger top (largest (rule_steps steps) (rule_set chained s off))) × Counted chained s steps r next → length next ≡ length marks
         → InSets chained s steps slot n marks₀ r (i + 1) next
-    sets-set z g l =
-        record { topping = topping-part k.topping h e z (g.0 ∙ ap (λ (p : ℕ). larger top (largest (ruleSteps steps) (ruleSet chained s p))) (sym (zero-add off))); counted = g.1; long = l ∙ k.long }
+    sets_set z g l =
+        record { topping = topping_part k.topping h e z (g.0 ∙ ap (λ (p : ℕ). larger top (largest (rule_steps steps) (rule_set chained s p))) (sym (zero-add off))); counted = g.1; long = l ∙ k.long }
 
-  pub sets_end : {top i : ℕ} {marks : List ℕ} → InSets chained s steps slot n marks₀ top i marks → n ≤ i → top ≡ setsSteps steps (reaches (ruleSet chained s) s 0 slot n)
-  unfolding setsSteps
-  sets_end k h = topping-end k.topping h ∙ zero-larger (largest (largest (ruleSteps steps)) (dropNull (reaches (ruleSet chained s) s 0 slot n)))
+  pub sets_end : {top i : ℕ} {marks : List ℕ} → InSets chained s steps slot n marks₀ top i marks → n ≤ i → top ≡ sets_steps steps (reaches (rule_set chained s) s 0 slot n)
+  unfolding sets_steps
+  sets_end k h = topping_end k.topping h ∙ zero_larger (largest (largest (rule_steps steps)) (drop_null (reaches (rule_set chained s) s 0 slot n)))
     where
-      zero-larger : (a : ℕ) → larger 0 a ≡ a
-      zero-larger a =
-          let x = larger-above 0 a in
-          let y = larger-least 0 a a (omega arith) (omega arith) in
+      zero_larger : (a : ℕ) → larger 0 a ≡ a
+      zero_larger a =
+          let x = larger_above 0 a in
+          let y = larger_least 0 a a (omega arith) (omega arith) in
           omega (arith, x.1)
 
 -- the larger of a number and what a rule takes
-pub larger-of : (most : ℕ) {found steps r : ℕ} → found ≡ steps → r ≡ larger most found → r ≡ larger most steps
-larger-of most e f = f ∙ ap (larger most) e
+pub larger_of : (most : ℕ) {found steps r : ℕ} → found ≡ steps → r ≡ larger most found → r ≡ larger most steps
+larger_of most e f = f ∙ ap (larger most) e

@@ -2,7 +2,7 @@
 ghost use Rattle.std.specs.Prelude.{◌≡◌, ◌+◌, ◌*◌, ◌≤◌, ◌<◌};
 ghost use Rattle.meaning.specs.Words.{entries};
 ghost use Rattle.meaning.specs.Tables.{rule};
-ghost use Rattle.replaying.specs.Cost.{stepLimit, cutOff, larger, steps_of, recordSteps, ruleSteps};
+ghost use Rattle.replaying.specs.Cost.{step_limit, cut_off, larger, steps_of, record_steps, rule_steps};
 ghost use Rattle.member_steps.specs.Most.{Counted};
 
 use bits::{has_bit, put_bit};
@@ -14,8 +14,8 @@ const STEP_LIMIT: usize = 0x8000_0000_0000_0000;
 
 // Two numbers of steps together, cut off at the limit.
 pub fn add_steps(a: usize, b: usize) -> usize
-    requires { a ≤ stepLimit }
-    ensures { (result ≡ cutOff (a + b)) × (result ≤ stepLimit) }
+    requires { a ≤ step_limit }
+    ensures { (result ≡ cut_off (a + b)) × (result ≤ step_limit) }
 {
     if STEP_LIMIT - a <= b {
         return STEP_LIMIT;
@@ -46,7 +46,7 @@ fn steps_of(steps: &[usize], n: usize) -> usize
 // What the `n` records from `at` on take together.
 pub fn record_steps(src: &[u8], at: usize, n: usize, steps: &[usize]) -> usize
     requires { at + 4 * n < 0x1_0000_0000_0000 }
-    ensures { result ≡ recordSteps steps.now (entries src.now at n) }
+    ensures { result ≡ record_steps steps.now (entries src.now at n) }
 {
     let mut sum = 0;
     let mut i = 0;
@@ -61,7 +61,7 @@ pub fn record_steps(src: &[u8], at: usize, n: usize, steps: &[usize]) -> usize
 // What the rule at `at` takes.
 fn rule_steps(chained: bool, src: &[u8], at: usize, steps: &[usize]) -> usize
     requires { at < 0x100_0000_0000 }
-    ensures { result ≡ ruleSteps steps.now (rule chained src.now at) }
+    ensures { result ≡ rule_steps steps.now (rule chained src.now at) }
 {
     let r = rule_parts(chained, src, at);
     record_steps(src, r.records.at, r.records.len, steps)
@@ -77,7 +77,7 @@ pub fn most_once(
     marks: &mut [u32],
 ) -> usize
     requires { (at < 0x100_0000_0000) × Counted chained src.now steps.now most marks.old }
-    ensures { (result ≡ larger most (ruleSteps steps.now (rule chained src.now at))) × Counted chained src.now steps.now result marks.new }
+    ensures { (result ≡ larger most (rule_steps steps.now (rule chained src.now at))) × Counted chained src.now steps.now result marks.new }
 {
     if has_bit(marks, 0, at) {
         return most;

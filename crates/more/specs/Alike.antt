@@ -4,15 +4,15 @@ use Rattle.std.proofs.Common.{sym, ◌∙◌, ap}
 use Rattle.std.proofs.Math.Option.{Option, none, some, map}
 use Rattle.meaning.specs.Words.{find}
 use Rattle.promises.specs.Strings.{Retained}
-use Rattle.promises.specs.Rules.{withLookup, renumbered}
-use Rattle.promises.specs.Covers.{keys-same}
-use Rattle.promises.specs.Survives.{isRetained}
+use Rattle.promises.specs.Rules.{with_lookup, renumbered}
+use Rattle.promises.specs.Covers.{keys_same}
+use Rattle.promises.specs.Survives.{is_retained}
 use Rattle.more.specs.Wider.{Wider}
 
 -- what a wider map retains
-pub retained-more : (g h : List (ℕ × ℕ)) → Wider g h → (x : ℕ) → Retained g x → Retained h x
-unfolding isRetained
-retained-more g h w x r = sym (keys-same h x) ∙ w x (keys-same g x ∙ r)
+pub retained_more : (g h : List (ℕ × ℕ)) → Wider g h → (x : ℕ) → Retained g x → Retained h x
+unfolding is_retained
+retained_more g h w x r = sym (keys_same h x) ∙ w x (keys_same g x ∙ r)
 
 -- two answers are alike: there is none, or there is one each, and they are related
 abbrev pub Alike : {A B : Type 0} → (A → B → Type 0) → Option A → Option B → Type 0
@@ -22,9 +22,9 @@ Alike R (some a) none = ⊥
 Alike R (some a) (some b) = R a b
 
 -- two answers made of one
-pub alike-map : {A B C : Type 0} (R : A → B → Type 0) (s : Option C) (f : C → A) (k : C → B) → ((x : C) → s ≡ some x → R (f x) (k x)) → Alike R (map f s) (map k s)
-alike-map R none f k r = tt
-alike-map R (some x) f k r = r x refl
+pub alike_map : {A B C : Type 0} (R : A → B → Type 0) (s : Option C) (f : C → A) (k : C → B) → ((x : C) → s ≡ some x → R (f x) (k x)) → Alike R (map f s) (map k s)
+alike_map R none f k r = tt
+alike_map R (some x) f k r = r x refl
 
 -- alike answers have equal images under what the relation makes equal
 pub alike_same : {A B C : Type 0} (R : A → B → Type 0) (f : A → C) (k : B → C) → ((a : A) (b : B) → R a b → f a ≡ k b) → (o : Option A) (p : Option B) → Alike R o p → map f o ≡ map k p
@@ -38,22 +38,22 @@ alike_same R f k e (some a) (some b) r = ap some (e a b r)
 pub record SameMatch (l m : List (ℕ × ℕ)) (source : Option (ℕ × List (ℕ × ℕ))) (a b : ℕ × List (ℕ × ℕ)) : Type 0 where
   pub input : a.0 ≡ b.0
   pub records : List (ℕ × ℕ)
-  pub of-source : source ≡ some (a.0, records)
-  pub of-first : a.1 ≡ renumbered l records
-  pub of-second : b.1 ≡ renumbered m records
-  pub less : withLookup l (withLookup m records) ≡ withLookup l records
+  pub of_source : source ≡ some (a.0, records)
+  pub of_first : a.1 ≡ renumbered l records
+  pub of_second : b.1 ≡ renumbered m records
+  pub less : with_lookup l (with_lookup m records) ≡ with_lookup l records
 
 -- one ligature of the source, under both glyph maps: its glyph's two new numbers, and its count of components
 pub record SameLigature (g h : List (ℕ × ℕ)) (source : Option (ℕ × ℕ)) (a b : ℕ × ℕ) : Type 0 where
   pub count : a.1 ≡ b.1
   pub glyph : ℕ
-  pub of-source : source ≡ some (glyph, a.1)
-  pub of-first : find g glyph ≡ some a.0
-  pub of-second : find h glyph ≡ some b.0
+  pub of_source : source ≡ some (glyph, a.1)
+  pub of_first : find g glyph ≡ some a.0
+  pub of_second : find h glyph ≡ some b.0
 
 -- one substitute of the source, under both glyph maps: its two new numbers
 pub record SameSubstitute (g h : List (ℕ × ℕ)) (source : Option ℕ) (a b : ℕ) : Type 0 where
   pub glyph : ℕ
-  pub of-source : source ≡ some glyph
-  pub of-first : find g glyph ≡ some a
-  pub of-second : find h glyph ≡ some b
+  pub of_source : source ≡ some glyph
+  pub of_first : find g glyph ≡ some a
+  pub of_second : find h glyph ≡ some b

@@ -1,14 +1,14 @@
 // The lookups that records name: 17 where one is not of the list, in any rule, reached by a run or not.
 ghost use Rattle.std.specs.Prelude.{◌≡◌, true, ◌/◌, length, replicate};
-ghost use Rattle.replaying.specs.Listed.{goodList, lookupsOf, allNamed};
+ghost use Rattle.replaying.specs.Listed.{good_list, lookups_of, all_named};
 
 use lookup_list::LIST_LIMIT;
 use rule_steps::listed_steps;
 
 // Whether each record of each lookup of a good list names one of the list. `zeros` has a 0 for each listed lookup: where these take no steps, a rule takes one for each of its records that names another.
 fn named_by(list: &[u8], buffer: &[u8], zeros: &[usize]) -> bool
-    requires { (goodList list.now buffer.now ≡ true) × (zeros.now ≡ replicate (length list.now / 10) 0) }
-    ensures { result ≡ allNamed (lookupsOf list.now buffer.now) }
+    requires { (good_list list.now buffer.now ≡ true) × (zeros.now ≡ replicate (length list.now / 10) 0) }
+    ensures { result ≡ all_named (lookups_of list.now buffer.now) }
 {
     let many = list.len() / 10;
     let mut lookup = 0;
@@ -23,8 +23,8 @@ fn named_by(list: &[u8], buffer: &[u8], zeros: &[usize]) -> bool
 
 // Whether each record of each lookup of a good list names one of the list.
 pub fn all_named(list: &[u8], buffer: &[u8]) -> bool
-    requires { goodList list.now buffer.now ≡ true }
-    ensures { result ≡ allNamed (lookupsOf list.now buffer.now) }
+    requires { good_list list.now buffer.now ≡ true }
+    ensures { result ≡ all_named (lookups_of list.now buffer.now) }
 {
     let many = list.len() / 10;
     let zeros = [0usize; LIST_LIMIT];

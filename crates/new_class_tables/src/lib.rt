@@ -1,6 +1,6 @@
 // One new class table, written into the area behind those so far, or placed as an equal one before it.
 ghost use Rattle.std.specs.Prelude.{◌+◌, ◌<◌};
-ghost use Rattle.remade_classes.specs.Made.{tableBlock, TableIn};
+ghost use Rattle.remade_classes.specs.Made.{table_block, TableIn};
 ghost use Rattle.remade_classes.specs.Tail.{BlockAsked, PlacedTable};
 
 use area::{over, put};
@@ -18,8 +18,8 @@ pub fn write_table(
     turn: Turn,
     gap: usize,
 ) -> usize
-    requires { TableIn t.now table × BlockAsked (tableBlock t.now table) turn gap area.old book.old }
-    ensures { PlacedTable (tableBlock t.now table) turn gap area.old book.old area.new book.new result }
+    requires { TableIn t.now table × BlockAsked (table_block t.now table) turn gap area.old book.old }
+    ensures { PlacedTable (table_block t.now table) turn gap area.old book.old area.new book.new result }
 {
     if table.old == 0 {
         put(area, turn.slot, 0);

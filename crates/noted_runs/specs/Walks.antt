@@ -2,9 +2,9 @@
 use Rattle.std.specs.Prelude.{ℕ, ◌+◌, ◌-◌, ◌*◌, ◌/◌, ◌≤◌, ◌<◌, ◌≡◌, true, List, ◌++◌, length}
 use Rattle.std.proofs.Math.Option.{Option}
 use Rattle.meaning.specs.Words.{triples, find, up_from}
-use Rattle.meaning.specs.Maps.{steps, glyphEntries}
-use Rattle.meaning.specs.Parts.{rangeGlyphs, rangesAscend, rangesCount}
-use Rattle.glyph_runs.specs.Runs.{GlyphMap, old_of, newOf, size_of}
+use Rattle.meaning.specs.Maps.{steps, glyph_entries}
+use Rattle.meaning.specs.Parts.{range_glyphs, ranges_ascend, ranges_count}
+use Rattle.glyph_runs.specs.Runs.{GlyphMap, old_of, new_of, size_of}
 use Rattle.cell_maps.specs.Cells.{Kept}
 use Rattle.area.specs.Part.{notes}
 use Rattle.range_meets.specs.Met.{met}
@@ -18,8 +18,8 @@ abbrev pub end : List ℕ → ℕ → ℕ
 end m e = old_of 6 m e + size_of 6 m e
 
 -- what a map of runs answers
-abbrev pub inRuns : List ℕ → ℕ → Option ℕ
-inRuns m = find (glyphEntries 6 m)
+abbrev pub in_runs : List ℕ → ℕ → Option ℕ
+in_runs m = find (glyph_entries 6 m)
 
 -- n notes in step from `to` on
 pub record NotedSteps (t₀ t : List ℕ) (to index new n : ℕ) : Type 0 where
@@ -48,7 +48,7 @@ pub record InRun (m : List ℕ) (e first last index : ℕ) (t₀ : List ℕ) (to
   pub ends : r.next ≤ end m e
   pub whole : r.next < last + 1 → r.next ≡ end m e
   pub kept : Kept to t₀ t
-  pub noted : notes t to r.count ≡ steps (index + (from - first)) (newOf 6 m e + (from - start m e)) r.count
+  pub noted : notes t to r.count ≡ steps (index + (from - first)) (new_of 6 m e + (from - start m e)) r.count
 
 -- what a walk over the runs of a range asks: those before `from` end before `first`, that one does not, and there are cells for the range's glyphs
 pub record MeetsSpan (m : List ℕ) (from first last index : ℕ) (t : List ℕ) (to : ℕ) : Type 0 where
@@ -64,18 +64,18 @@ pub record MeetsSpan (m : List ℕ) (from first last index : ℕ) (t : List ℕ)
 pub record InSpan (m : List ℕ) (first last index : ℕ) (t₀ : List ℕ) (to : ℕ) (t : List ℕ) (r : ℕ) : Type 0 where
   pub kept : Kept to t₀ t
   pub few : r ≤ last + 1 - first
-  pub noted : (cov : List ℕ) → notes t to r ++ met (inRuns m) (index + (last + 1 - first)) cov ≡ met (inRuns m) index (up_from first (last + 1 - first) ++ cov)
+  pub noted : (cov : List ℕ) → notes t to r ++ met (in_runs m) (index + (last + 1 - first)) cov ≡ met (in_runs m) index (up_from first (last + 1 - first) ++ cov)
 
 -- what a walk over ranges asks: they lie inside, ascend, and have their indices, the runs are good, and there are cells for the ranges' glyphs
 pub record MeetsRanges (s : List ℕ) (at n : ℕ) (m t : List ℕ) (to : ℕ) : Type 0 where
   pub inside : at + 6 * n ≤ length s
-  pub ranges : rangesAscend 0 (triples s at n) ≡ true
-  pub indices : rangesCount 0 (triples s at n) ≡ true
+  pub ranges : ranges_ascend 0 (triples s at n) ≡ true
+  pub indices : ranges_count 0 (triples s at n) ≡ true
   pub map : GlyphMap 6 m
-  pub room : to + length (rangeGlyphs (triples s at n)) ≤ length t
+  pub room : to + length (range_glyphs (triples s at n)) ≤ length t
 
 -- what a search through ranges asks: they lie inside and ascend, and the map is good
 pub record SeeksRanges (s : List ℕ) (at n form : ℕ) (m : List ℕ) : Type 0 where
   pub inside : at + 6 * n ≤ length s
-  pub ranges : rangesAscend 0 (triples s at n) ≡ true
+  pub ranges : ranges_ascend 0 (triples s at n) ≡ true
   pub map : GlyphMap form m

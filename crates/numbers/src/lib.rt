@@ -2,9 +2,9 @@
 // A writer answers the place after what it wrote, which is 0 where nothing is left, and more than the area's length where there is no room.
 ghost use Rattle.std.specs.Prelude.{◌≡◌, ◌||◌, [], ◌∷◌, ◌+◌, ◌-◌, ◌*◌, ◌<◌, ◌≤◌, length, eqb, ltb};
 ghost use Rattle.std.proofs.Math.Option.{some};
-ghost use Rattle.meaning.specs.Words.{words, find, mapAll};
+ghost use Rattle.meaning.specs.Words.{words, find, map_all};
 ghost use Rattle.cell_maps.specs.Cells.{Inside};
-ghost use Rattle.numbers.specs.Entries.{entriesIn};
+ghost use Rattle.numbers.specs.Entries.{entries_in};
 ghost use Rattle.numbers.specs.Leaves.{Leaves, joined};
 
 use area::{over, put};
@@ -43,7 +43,7 @@ pub fn renumber(
     pos: usize,
 ) -> usize
     requires { (at + 2 * n ≤ length src.now) × Inside t.now m × (pos ≤ length area.old) }
-    ensures { Leaves area.old pos (mapAll (find (entriesIn t.now m)) (words src.now at n)) (2 * n) area.new result }
+    ensures { Leaves area.old pos (map_all (find (entries_in t.now m)) (words src.now at n)) (2 * n) area.new result }
 {
     if area.len() < pos + 2 * n {
         return over(area);
@@ -71,7 +71,7 @@ pub fn write_counted(
     pos: usize,
 ) -> usize
     requires { (at + 2 * n ≤ length src.now) × Inside t.now m × (pos ≤ length area.old) }
-    ensures { Leaves area.old pos (joined (some (count ∷ [])) (mapAll (find (entriesIn t.now m)) (words src.now at n))) (2 + 2 * n) area.new result }
+    ensures { Leaves area.old pos (joined (some (count ∷ [])) (map_all (find (entries_in t.now m)) (words src.now at n))) (2 + 2 * n) area.new result }
 {
     if area.len() < pos + 2 {
         return over(area);

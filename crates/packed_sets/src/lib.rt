@@ -1,7 +1,7 @@
 // The sets of a table of format 1: what is left of them, written into the area in the layout that is asked for.
 ghost use Rattle.std.specs.Prelude.{true, ◌-◌, ◌≤◌, length, eqb};
-ghost use Rattle.room.specs.Laid.{enoughArea};
-ghost use Rattle.kept_rules.specs.Left.{mapsIn};
+ghost use Rattle.room.specs.Laid.{enough_area};
+ghost use Rattle.kept_rules.specs.Left.{maps_in};
 ghost use Rattle.placed_sets.specs.Sorts.{Told};
 ghost use Rattle.placed_sets.specs.Kept.{Ready, WroteKept};
 
@@ -22,7 +22,7 @@ fn write_packed(
     rounds: usize,
     area: &mut [u8],
 ) -> Sets
-    requires { Ready sort src.now t.old maps notes.at notes.count × (length area.old ≤ enoughArea) × Told sort (mapsIn t.old maps) src.now told.old }
+    requires { Ready sort src.now t.old maps notes.at notes.count × (length area.old ≤ enough_area) × Told sort (maps_in t.old maps) src.now told.old }
     ensures { WroteKept sort src.now t.old maps notes.at notes.count true area.old t.new area.new result }
 {
     if rounds != 0 {
@@ -42,7 +42,7 @@ pub fn write_sets(
     maps: Maps,
     area: &mut [u8],
 ) -> Sets
-    requires { Ready sort src.now t.old maps notes.at notes.count × (length area.old ≤ enoughArea) × Told sort (mapsIn t.old maps) src.now told.old }
+    requires { Ready sort src.now t.old maps notes.at notes.count × (length area.old ≤ enough_area) × Told sort (maps_in t.old maps) src.now told.old }
     ensures { WroteKept sort src.now t.old maps notes.at notes.count (eqb notes.packing 1) area.old t.new area.new result }
 {
     if notes.packing == 1 {

@@ -1,14 +1,14 @@
 // Class kerning, pairs by class: a coverage, first and second classes, and a row of cells for each first class; cut in one walk, from the source into the area.
 ghost use Rattle.std.specs.Prelude.{◌≡◌, [], ◌+◌, ◌≤◌, ◌<◌, length};
-ghost use Rattle.meaning.specs.Maps.{glyphEntries};
-ghost use Rattle.meaning.specs.Tables.{pairTable};
-ghost use Rattle.meaning.specs.Cut.{classMap, secondMap, cut};
-ghost use Rattle.meaning.specs.Subset.{limit, writtenIn};
-ghost use Rattle.class_stretches.specs.Tables.{classesAt};
+ghost use Rattle.meaning.specs.Maps.{glyph_entries};
+ghost use Rattle.meaning.specs.Tables.{pair_table};
+ghost use Rattle.meaning.specs.Cut.{class_map, second_map, cut};
+ghost use Rattle.meaning.specs.Subset.{limit, written_in};
+ghost use Rattle.class_stretches.specs.Tables.{classes_at};
 ghost use Rattle.tried.specs.Tries.{Tries};
 ghost use Rattle.pair_classes.specs.Sides.{Asks, Sided};
 ghost use Rattle.pair_layouts.specs.Laying.{Front};
-ghost use Rattle.pair_classes.specs.Cutting.{enoughCells, hasNull, Sound, Begins, Noting, FirstIn};
+ghost use Rattle.pair_classes.specs.Cutting.{enough_cells, has_null, Sound, Begins, Noting, FirstIn};
 
 use cell_maps::Map;
 use class_entries::new_entries;
@@ -37,7 +37,7 @@ fn first_classes(
     list: usize,
 ) -> Classed
     requires { Asks src.now at form glyphs.now list }
-    ensures { Sided (classMap (glyphEntries form glyphs.now) (classesAt src.now at)) (classesAt src.now at) (glyphEntries form glyphs.now) t.old t.new list result }
+    ensures { Sided (class_map (glyph_entries form glyphs.now) (classes_at src.now at)) (classes_at src.now at) (glyph_entries form glyphs.now) t.old t.new list result }
 {
     let l = list_classes(src, at, glyphs, form, t, list);
     let c = class_map(t, list, l, list + l.len);
@@ -67,7 +67,7 @@ fn second_classes(
     list: usize,
 ) -> Classed
     requires { Asks src.now at form glyphs.now list }
-    ensures { Sided (secondMap (glyphEntries form glyphs.now) (classesAt src.now at)) (classesAt src.now at) (glyphEntries form glyphs.now) t.old t.new list result }
+    ensures { Sided (second_map (glyph_entries form glyphs.now) (classes_at src.now at)) (classes_at src.now at) (glyph_entries form glyphs.now) t.old t.new list result }
 {
     let l = list_classes(src, at, glyphs, form, t, list);
     let c = pinned_map(t, list, l, list + l.len);
@@ -99,7 +99,7 @@ fn cut_first(
     out: &mut [u8],
 ) -> Tried
     requires { FirstIn src.now marks.form glyphs.now cover first t.old × (length area.old ≤ limit) }
-    ensures { Tries (length t.old < enoughCells) (length area.old < limit) result out.old out.new (writtenIn marks.layout out.old (cut (glyphEntries marks.form glyphs.now) [] (pairTable src.now))) }
+    ensures { Tries (length t.old < enough_cells) (length area.old < limit) result out.old out.new (written_in marks.layout out.old (cut (glyph_entries marks.form glyphs.now) [] (pair_table src.now))) }
 {
     let list = first.map.at + first.map.mask + 1;
     let second = second_classes(src, word_inside(src, 10), marks.form, glyphs, t, list);
@@ -120,7 +120,7 @@ fn cut_noted(
     out: &mut [u8],
 ) -> Tried
     requires { Noting src.now marks.form glyphs.now cover t.old × (length area.old ≤ limit) }
-    ensures { Tries (length t.old < enoughCells) (length area.old < limit) result out.old out.new (writtenIn marks.layout out.old (cut (glyphEntries marks.form glyphs.now) [] (pairTable src.now))) }
+    ensures { Tries (length t.old < enough_cells) (length area.old < limit) result out.old out.new (written_in marks.layout out.old (cut (glyph_entries marks.form glyphs.now) [] (pair_table src.now))) }
 {
     let n = 4 * cover.len;
     if area.len() < n {
@@ -146,7 +146,7 @@ fn cut_map(
     out: &mut [u8],
 ) -> Tried
     requires { Begins src.now marks.form glyphs.now m t.old × (length area.old ≤ limit) }
-    ensures { Tries (length t.old < enoughCells) (length area.old < limit) result out.old out.new (writtenIn marks.layout out.old (cut (glyphEntries marks.form glyphs.now) [] (pairTable src.now))) }
+    ensures { Tries (length t.old < enough_cells) (length area.old < limit) result out.old out.new (written_in marks.layout out.old (cut (glyph_entries marks.form glyphs.now) [] (pair_table src.now))) }
 {
     let at = m.mask + 1;
     let cover = word_inside(src, 2);
@@ -163,7 +163,7 @@ fn cut_map(
 // Whether the coverage or one of the class tables is null.
 fn has_null(src: &[u8]) -> bool
     requires { 16 ≤ length src.now }
-    ensures { result ≡ hasNull src.now }
+    ensures { result ≡ has_null src.now }
 {
     if word_inside(src, 2) == 0 {
         return true;
@@ -184,7 +184,7 @@ fn cut_in(
     out: &mut [u8],
 ) -> Tried
     requires { Sound src.now marks.form glyphs.now × (length area.old ≤ limit) }
-    ensures { Tries (length t.old < enoughCells) (length area.old < limit) result out.old out.new (writtenIn marks.layout out.old (cut (glyphEntries marks.form glyphs.now) [] (pairTable src.now))) }
+    ensures { Tries (length t.old < enough_cells) (length area.old < limit) result out.old out.new (written_in marks.layout out.old (cut (glyph_entries marks.form glyphs.now) [] (pair_table src.now))) }
 {
     if has_null(src) {
         return Tried::Became(Laid::Nothing);
@@ -217,7 +217,7 @@ pub fn class_pairs(
     out: &mut [u8],
 ) -> Tried
     requires { Sound src.now marks.form glyphs.now }
-    ensures { Tries (length t.old < enoughCells) (length area.old < limit) result out.old out.new (writtenIn marks.layout out.old (cut (glyphEntries marks.form glyphs.now) [] (pairTable src.now))) }
+    ensures { Tries (length t.old < enough_cells) (length area.old < limit) result out.old out.new (written_in marks.layout out.old (cut (glyph_entries marks.form glyphs.now) [] (pair_table src.now))) }
 {
     let n = front(area);
     cut_in(src, marks, glyphs, t, &mut area[..n], out)

@@ -4,14 +4,14 @@ ghost use Rattle.std.proofs.Math.Option.{none};
 ghost use Rattle.meaning.specs.Words.{word, words, up_from};
 ghost use Rattle.meaning.specs.Tables.{table};
 ghost use Rattle.meaning.specs.Fault.{fault};
-ghost use Rattle.meaning.specs.Cut.{glyphsOf};
+ghost use Rattle.meaning.specs.Cut.{glyphs_of};
 ghost use Rattle.laws.specs.Runs.{Up};
 ghost use Rattle.differences.specs.Content.{content};
-ghost use Rattle.differences.specs.Entries.{each, atField, pairEntries, differences};
+ghost use Rattle.differences.specs.Entries.{each, at_field, pair_entries, differences};
 ghost use Rattle.listing.specs.Listed.{Listed};
-ghost use Rattle.first_glyphs.specs.First.{atGlyph};
-ghost use Rattle.value_differences.specs.Held.{valuesAt, size_of, countIn, nextSecond, held};
-ghost use Rattle.pair_differences.specs.Whole.{pairsIn, PairTable};
+ghost use Rattle.first_glyphs.specs.First.{at_glyph};
+ghost use Rattle.value_differences.specs.Held.{values_at, size_of, count_in, next_second, held};
+ghost use Rattle.pair_differences.specs.Whole.{pairs_in, PairTable};
 
 use coverage_index::Covered;
 use first_glyphs::{cover_index, list_right};
@@ -38,7 +38,7 @@ fn same_words(left: &[u8], p: usize, right: &[u8], q: usize, n: usize) -> bool
 // Whether the pair records at `p` on the left and at `q` on the right say the same in the same words: both tables have the same value formats, and the records the same values behind each other.
 fn alike(left: &[u8], p: usize, right: &[u8], q: usize) -> bool
     requires { (p < 0x1_0000_0000) × (q < 0x1_0000_0000) }
-    ensures { result ≡ true → valuesAt left.now p ≡ valuesAt right.now q }
+    ensures { result ≡ true → values_at left.now p ≡ values_at right.now q }
 {
     let f = word_at(left, 4);
     let h = word_at(left, 6);
@@ -67,7 +67,7 @@ fn list_values(
     pos: usize,
 ) -> usize
     requires { (p < 0x1_0000_0000) × (q < 0x1_0000_0000) × (pos < 0x4000_0000_0000) }
-    ensures { Listed (each (atField g second (valuesAt left.now p) (valuesAt right.now q)) (up_from 0 8)) out.old pos out.new result × (result ≤ pos + 96) }
+    ensures { Listed (each (at_field g second (values_at left.now p) (values_at right.now q)) (up_from 0 8)) out.old pos out.new result × (result ≤ pos + 96) }
 {
     if alike(left, p, right, q) {
         return pos;
@@ -84,7 +84,7 @@ fn pair_size(src: &[u8]) -> usize
 
 // How many pairs the set at `at` has; a null one has none.
 fn count_in(src: &[u8], at: usize) -> usize
-    ensures { (result ≡ countIn src.now at) × (result < 65536) }
+    ensures { (result ≡ count_in src.now at) × (result < 65536) }
 {
     if at == 0 {
         return 0;
@@ -94,7 +94,7 @@ fn count_in(src: &[u8], at: usize) -> usize
 
 // The second glyph of the record at `p`, where `n` records are left; past all glyphs where none is.
 fn next_second(src: &[u8], p: usize, n: usize) -> usize
-    ensures { (result ≡ nextSecond src.now p n) × (result < 65536 + (1 - n)) }
+    ensures { (result ≡ next_second src.now p n) × (result < 65536 + (1 - n)) }
 {
     if n == 0 {
         return 65536;
@@ -112,8 +112,8 @@ fn list_sets(
     out: &mut [u8],
     pos: usize,
 ) -> usize
-    requires { (l < 65536) × (r < 65536) × (pos < 0x2000_0000_0000) × Up 0 (glyphsOf (held left.now l)) × Up 0 (glyphsOf (held right.now r)) }
-    ensures { Listed (pairEntries g (held left.now l) (held right.now r)) out.old pos out.new result × (result ≤ pos + 0x100_0000) }
+    requires { (l < 65536) × (r < 65536) × (pos < 0x2000_0000_0000) × Up 0 (glyphs_of (held left.now l)) × Up 0 (glyphs_of (held right.now r)) }
+    ensures { Listed (pair_entries g (held left.now l) (held right.now r)) out.old pos out.new result × (result ≤ pos + 0x100_0000) }
 {
     let lsize = pair_size(left);
     let rsize = pair_size(right);
@@ -149,7 +149,7 @@ fn list_sets(
 // What differs for the first glyph `g`, listed from `pos` on; the place after it.
 fn list_glyph(left: &[u8], right: &[u8], g: usize, out: &mut [u8], pos: usize) -> usize
     requires { PairTable left.now × PairTable right.now × (g < 65536) × (pos < 0x1000_0000_0000) }
-    ensures { Listed (atGlyph pairEntries (pairsIn left.now) (pairsIn right.now) g) out.old pos out.new result × (result ≤ pos + 0x100_0000) }
+    ensures { Listed (at_glyph pair_entries (pairs_in left.now) (pairs_in right.now) g) out.old pos out.new result × (result ≤ pos + 0x100_0000) }
 {
     let Covered::At(i) = cover_index(left, g) else {
         return list_right(right, g, out, pos);

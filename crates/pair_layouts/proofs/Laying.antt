@@ -9,24 +9,24 @@ use lib.Seq.{sets}
 use lib.Dec.{leb}
 use borrow.Author.Tests.{le-leb, lt-leb}
 use Rattle.meaning.specs.Words.{flat}
-use Rattle.meaning.specs.Layout.{coverageWords, classWords}
+use Rattle.meaning.specs.Layout.{coverage_words, class_words}
 use Rattle.meaning.specs.Subset.{Outcome, refused, limit}
-use Rattle.laws.specs.Stands.{flat-length}
-use Rattle.laws.specs.Written.{Wrote, wrote_none, wrote-two, wrote-three}
-use Rattle.room.specs.Laid.{outcomeOf, laidAs, laid-over}
+use Rattle.laws.specs.Stands.{flat_length}
+use Rattle.laws.specs.Written.{Wrote, wrote_none, wrote_two, wrote_three}
+use Rattle.room.specs.Laid.{outcome_of, laid_as, laid_over}
 use Rattle.room.specs.declared.Laid.{Laid}
 use Rattle.room.specs.declared.Laid.TheVariants.{TooBig}
-use Rattle.area.specs.Extends.{Extends, Tried, extends-more, extends-said}
-use Rattle.area.specs.Stored.{extends-before}
+use Rattle.area.specs.Extends.{Extends, Tried, extends_more, extends_said}
+use Rattle.area.specs.Stored.{extends_before}
 use Rattle.area.specs.Part.{part, take_part, news, notes}
-use Rattle.numbers.specs.Entries.{entriesIn}
+use Rattle.numbers.specs.Entries.{entries_in}
 use Rattle.pair_sets.specs.declared.Formats.{Formats}
-use Rattle.class_formats.specs.Kept.{NewFormats, keptCells}
+use Rattle.class_formats.specs.Kept.{NewFormats, kept_cells}
 use Rattle.tried.specs.Tries.{Tries}
 use Rattle.tried.specs.declared.Tried as Answer
 use Rattle.tried.specs.declared.Tried.TheVariants.{Short, Became}
-use Rattle.pair_layouts.specs.Kerning.{shared, headWords, fitsAt, coverAt, first_at, secondAt, last, end_at, kernWords, partsInto, kernInto, leftInto}
-use Rattle.pair_layouts.specs.Laying.{oneTable, Ended, Ordered, NoRoom}
+use Rattle.pair_layouts.specs.Kerning.{shared, head_words, fits_at, cover_at, first_at, second_at, last, end_at, kern_words, parts_into, kern_into, left_into}
+use Rattle.pair_layouts.specs.Laying.{one_table, Ended, Ordered, NoRoom}
 use Rattle.pair_layouts.specs.declared.Noted.{Noted}
 use Rattle.pair_layouts.specs.declared.Classed.{Classed}
 use Rattle.pair_layouts.specs.declared.Ends.{Ends}
@@ -36,71 +36,71 @@ module _ (one : Bool) {a : List ℕ} {p : ℕ} (cover first second : List ℕ) {
   abbrev rest : List ℕ
   rest = cond one [] second
 
-  pub cover-over : length b < q → {e : Ends} → e ≡ oneTable p q q → Ended one a p cover first second b e
-  cover-over l d = rw d (record {
+  pub cover_over : length b < q → {e : Ends} → e ≡ one_table p q q → Ended one a p cover first second b e
+  cover_over l d = rw d (record {
     same = w.same;
-    cover-at = refl;
-    first-at = λ h. absurd (omega (arith, w.same));
-    second_at = λ h. absurd (omega (arith, w.same));
+    cover_at_lem = refl;
+    first_at_lem = λ h. absurd (omega (arith, w.same));
+    second_at_lem = λ h. absurd (omega (arith, w.same));
     fits = λ h. absurd (omega (arith, w.same));
     full = λ h. omega (arith, w.full h, length-append cover (first ++ rest));
   })
 
   module _ (l : q ≤ length b) {c : List ℕ} {r : ℕ} (v : Tried b q first c r) where
-    cover-stands : Extends a p cover b q
-    cover-stands = w.fits (omega (arith, w.same))
+    cover_stands : Extends a p cover b q
+    cover_stands = w.fits (omega (arith, w.same))
 
-    pub first-over : length c < r → {e : Ends} → e ≡ oneTable p q r → Ended one a p cover first second c e
-    first-over k d = rw d (record {
+    pub first_over : length c < r → {e : Ends} → e ≡ one_table p q r → Ended one a p cover first second c e
+    first_over k d = rw d (record {
       same = v.same ∙ w.same;
-      cover-at = refl;
-      first-at = λ h. absurd (omega (arith, w.same, v.same));
-      second_at = λ h. absurd (omega (arith, w.same, v.same));
+      cover_at_lem = refl;
+      first_at_lem = λ h. absurd (omega (arith, w.same, v.same));
+      second_at_lem = λ h. absurd (omega (arith, w.same, v.same));
       fits = λ h. absurd (omega (arith, w.same, v.same));
-      full = λ h. omega (arith, v.full (omega (arith, w.same)), w.same, cover-stands.place, length-append cover (first ++ rest), length-append first rest);
+      full = λ h. omega (arith, v.full (omega (arith, w.same)), w.same, cover_stands.place, length-append cover (first ++ rest), length-append first rest);
     })
 
     module _ (k : r ≤ length c) where
-      first-stands : Extends b q first c r
-      first-stands = v.fits (omega (arith, v.same))
+      first_stands : Extends b q first c r
+      first_stands = v.fits (omega (arith, v.same))
 
-      pub one_ended : one ≡ true → {e : Ends} → e ≡ oneTable p q r → Ended one a p cover first second c e
+      pub one_ended : one ≡ true → {e : Ends} → e ≡ one_table p q r → Ended one a p cover first second c e
       one_ended o d = rw (d, o) (record {
         same = v.same ∙ w.same;
-        cover-at = refl;
-        first-at = λ h. cover-stands.place;
-        second_at = λ h. cover-stands.place;
-        fits = λ h. extends-more cover-stands (extends-said first-stands (sym (append-nil first)));
+        cover_at_lem = refl;
+        first_at_lem = λ h. cover_stands.place;
+        second_at_lem = λ h. cover_stands.place;
+        fits = λ h. extends_more cover_stands (extends_said first_stands (sym (append-nil first)));
         full = λ h. absurd (omega (arith, w.same, v.same));
       })
 
-      pub all-ended : one ≡ false → {d : List ℕ} {e : ℕ} → Tried c r second d e → Ended one a p cover first second d (record { cover = p; first = q; second = r; end = e })
-      all-ended o u = rw o (record {
+      pub all_ended : one ≡ false → {d : List ℕ} {e : ℕ} → Tried c r second d e → Ended one a p cover first second d (record { cover = p; first = q; second = r; end = e })
+      all_ended o u = rw o (record {
         same = u.same ∙ v.same ∙ w.same;
-        cover-at = refl;
-        first-at = λ h. cover-stands.place;
-        second_at = λ h. omega (arith, cover-stands.place, first-stands.place);
-        fits = λ h. extends-more cover-stands (extends-more first-stands (u.fits (omega (arith, w.same, v.same))));
-        full = λ h. omega (arith, u.full (omega (arith, w.same, v.same)), w.same, v.same, cover-stands.place, first-stands.place, length-append cover (first ++ second), length-append first second);
+        cover_at_lem = refl;
+        first_at_lem = λ h. cover_stands.place;
+        second_at_lem = λ h. omega (arith, cover_stands.place, first_stands.place);
+        fits = λ h. extends_more cover_stands (extends_more first_stands (u.fits (omega (arith, w.same, v.same))));
+        full = λ h. omega (arith, u.full (omega (arith, w.same, v.same)), w.same, v.same, cover_stands.place, first_stands.place, length-append cover (first ++ second), length-append first second);
       })
 
 -- the header
-pub head-written : (a : List ℕ) {b c d : List ℕ} {p q r : ℕ} (n1 n2 rows columns cover first second : ℕ) → (p ≡ 0 + 6) × (b ≡ sets a 0 (flat (2 ∷ cover ∷ n1 ∷ []))) → (q ≡ p + 6) × (c ≡ sets b p (flat (n2 ∷ first ∷ second ∷ [])))
-    → (r ≡ q + 4) × (d ≡ sets c q (flat (rows ∷ columns ∷ []))) → d ≡ sets a 0 (flat (headWords n1 n2 rows columns cover first second))
-head-written a n1 n2 rows columns cover first second e f g =
-    let x : Wrote a 0 (2 ∷ cover ∷ n1 ∷ []) _ _ = wrote-three 2 cover n1 wrote_none e in
-    let y = wrote-three n2 first second x f in
-    (wrote-two rows columns y g).bytes
+pub head_written : (a : List ℕ) {b c d : List ℕ} {p q r : ℕ} (n1 n2 rows columns cover first second : ℕ) → (p ≡ 0 + 6) × (b ≡ sets a 0 (flat (2 ∷ cover ∷ n1 ∷ []))) → (q ≡ p + 6) × (c ≡ sets b p (flat (n2 ∷ first ∷ second ∷ [])))
+    → (r ≡ q + 4) × (d ≡ sets c q (flat (rows ∷ columns ∷ []))) → d ≡ sets a 0 (flat (head_words n1 n2 rows columns cover first second))
+head_written a n1 n2 rows columns cover first second e f g =
+    let x : Wrote a 0 (2 ∷ cover ∷ n1 ∷ []) _ _ = wrote_three 2 cover n1 wrote_none e in
+    let y = wrote_three n2 first second x f in
+    (wrote_two rows columns y g).bytes
 
 -- whether all fits
 module _ (e : Ends) where
-  pub high-unfit : 65535 < e.second → false ≡ fitsAt e.first e.second e.end
-  high-unfit h = rw (lt-leb e.second 65535 h)
+  pub high_unfit : 65535 < e.second → false ≡ fits_at e.first e.second e.end
+  high_unfit h = rw (lt-leb e.second 65535 h)
 
-  pub long-unfit : e.second ≤ 65535 → 131076 < e.second - e.first → false ≡ fitsAt e.first e.second e.end
-  long-unfit h k = rw (le-leb e.second 65535 h, lt-leb (e.second - e.first) 131076 k)
+  pub long_unfit : e.second ≤ 65535 → 131076 < e.second - e.first → false ≡ fits_at e.first e.second e.end
+  long_unfit h k = rw (le-leb e.second 65535 h, lt-leb (e.second - e.first) 131076 k)
 
-  pub last_fits : e.second ≤ 65535 → e.second - e.first ≤ 131076 → {b : Bool} → b ≡ leb (e.end - e.second) 131076 → b ≡ fitsAt e.first e.second e.end
+  pub last_fits : e.second ≤ 65535 → e.second - e.first ≤ 131076 → {b : Bool} → b ≡ leb (e.end - e.second) 131076 → b ≡ fits_at e.first e.second e.end
   last_fits h k d = rw (le-leb e.second 65535 h, le-leb (e.second - e.first) 131076 k) d
 
 -- no room
@@ -108,12 +108,12 @@ pub too_short : {n : ℕ} → n < 262144 → NoRoom n Short
 unfolding limit
 too_short h = record { told = λ out made k. (h, refl) }
 
-pub too-big : {n : ℕ} → 262144 ≤ n → NoRoom n (Became TooBig)
+pub too_big : {n : ℕ} → 262144 ≤ n → NoRoom n (Became TooBig)
 unfolding limit
-too-big h = record { told = λ out made k. k h }
+too_big h = record { told = λ out made k. k h }
 
-pub room-told : {n m : ℕ} {r : Answer.Tried} {out : List ℕ} {made : Outcome} → NoRoom n r → n ≡ m → (limit ≤ n → refused out 9 ≡ made) → Tries ⊥ (m < limit) r out out made
-room-told {n} {m} {r} {out} {made} h e k = subst (λ (i : ℕ). Tries ⊥ (i < limit) r out out made) e (h.told out made k)
+pub room_told : {n m : ℕ} {r : Answer.Tried} {out : List ℕ} {made : Outcome} → NoRoom n r → n ≡ m → (limit ≤ n → refused out 9 ≡ made) → Tries ⊥ (m < limit) r out out made
+room_told {n} {m} {r} {out} {made} h e k = subst (λ (i : ℕ). Tries ⊥ (i < limit) r out out made) e (h.told out made k)
 
 -- an area that is not over the limit
 pub area_small : (area : List ℕ) → length area ≤ limit → length area ≤ 262144
@@ -126,105 +126,105 @@ unfolding limit
 no_header area h = omega arith
 
 -- the second classes stand where the first ones do, or behind them
-second-between : (one : Bool) (q a b : ℕ) → (q ≤ cond one q (q + 2 * a)) × (cond one q (q + 2 * a) ≤ q + 2 * a + 2 * b)
-second-between true q a b = (omega arith, omega arith)
-second-between false q a b = (omega arith, omega arith)
+second_between : (one : Bool) (q a b : ℕ) → (q ≤ cond one q (q + 2 * a)) × (cond one q (q + 2 * a) ≤ q + 2 * a + 2 * b)
+second_between true q a b = (omega arith, omega arith)
+second_between false q a b = (omega arith, omega arith)
 
 -- What was written, and what becomes of it.
 module _ (one : Bool) (cells cover first second : List ℕ) (out : List ℕ) (n1 n2 rows columns : ℕ) where
   abbrev behind : List ℕ
   behind = last one cells cover first second
 
-  words-many : length (kernWords one cells cover first second n1 n2 rows columns) ≡ 8 + length (cells ++ (cover ++ (first ++ behind)))
-  unfolding kernWords
-  words-many = omega arith
+  words_many : length (kern_words one cells cover first second n1 n2 rows columns) ≡ 8 + length (cells ++ (cover ++ (first ++ behind)))
+  unfolding kern_words
+  words_many = omega arith
 
   -- words that are longer than the limit
-  over-limit : limit < 2 * (8 + length (cells ++ (cover ++ (first ++ behind)))) → refused out 9 ≡ partsInto one cells cover first second out n1 n2 rows columns
-  unfolding partsInto
-  over-limit h =
-      let ws = kernWords one cells cover first second n1 n2 rows columns in
-      sym (laid-over (fitsAt (first_at one cells cover first second) (secondAt one cells cover first second) (end_at one cells cover first second)) out (flat ws) (omega (arith, flat-length ws, words-many)))
+  over_limit : limit < 2 * (8 + length (cells ++ (cover ++ (first ++ behind)))) → refused out 9 ≡ parts_into one cells cover first second out n1 n2 rows columns
+  unfolding parts_into
+  over_limit h =
+      let ws = kern_words one cells cover first second n1 n2 rows columns in
+      sym (laid_over (fits_at (first_at one cells cover first second) (second_at one cells cover first second) (end_at one cells cover first second)) out (flat ws) (omega (arith, flat_length ws, words_many)))
 
   module _ {a b : List ℕ} {p : ℕ} (w : Tried a 16 cells b p) where
     -- the cells have no room
-    pub cells_over : length b < p → limit ≤ length b → refused out 9 ≡ partsInto one cells cover first second out n1 n2 rows columns
-    cells_over l h = over-limit (omega (arith, w.full (omega (arith, w.same)), w.same, length-append cells (cover ++ (first ++ behind))))
+    pub cells_over : length b < p → limit ≤ length b → refused out 9 ≡ parts_into one cells cover first second out n1 n2 rows columns
+    cells_over l h = over_limit (omega (arith, w.full (omega (arith, w.same)), w.same, length-append cells (cover ++ (first ++ behind))))
 
     module _ (l : p ≤ length b) {c : List ℕ} {e : Ends} (v : Ended one b p cover first second c e) where
-      cells-stand : Extends a 16 cells b p
-      cells-stand = w.fits (omega (arith, w.same))
+      cells_stand : Extends a 16 cells b p
+      cells_stand = w.fits (omega (arith, w.same))
 
       -- what follows them has none
-      pub tail-over : length c < e.end → limit ≤ length c → refused out 9 ≡ partsInto one cells cover first second out n1 n2 rows columns
-      tail-over k h = over-limit (omega (arith, v.full (omega (arith, v.same)), v.same, w.same, cells-stand.place, length-append cells (cover ++ (first ++ behind))))
+      pub tail_over : length c < e.end → limit ≤ length c → refused out 9 ≡ parts_into one cells cover first second out n1 n2 rows columns
+      tail_over k h = over_limit (omega (arith, v.full (omega (arith, v.same)), v.same, w.same, cells_stand.place, length-append cells (cover ++ (first ++ behind))))
 
       module _ (k : e.end ≤ length c) where
-        all-stands : Extends b p (cover ++ (first ++ behind)) c e.end
-        all-stands = v.fits (omega (arith, v.same))
+        all_stands : Extends b p (cover ++ (first ++ behind)) c e.end
+        all_stands = v.fits (omega (arith, v.same))
 
-        first-is : e.first ≡ first_at one cells cover first second
-        first-is = v.first-at (omega (arith, v.same)) ∙ omega (arith, cells-stand.place)
+        first_is : e.first ≡ first_at one cells cover first second
+        first_is = v.first_at_lem (omega (arith, v.same)) ∙ omega (arith, cells_stand.place)
 
-        second_is : e.second ≡ secondAt one cells cover first second
-        second_is = v.second_at (omega (arith, v.same)) ∙ ap (λ (n : ℕ). cond one (n + 2 * length cover) (n + 2 * length cover + 2 * length first)) cells-stand.place
+        second_is : e.second ≡ second_at one cells cover first second
+        second_is = v.second_at (omega (arith, v.same)) ∙ ap (λ (n : ℕ). cond one (n + 2 * length cover) (n + 2 * length cover + 2 * length first)) cells_stand.place
 
         end_is : e.end ≡ end_at one cells cover first second
-        end_is = omega (arith, all-stands.place, cells-stand.place, length-append cover (first ++ behind), length-append first behind)
+        end_is = omega (arith, all_stands.place, cells_stand.place, length-append cover (first ++ behind), length-append first behind)
 
-        pub in_order : Ordered e
-        in_order = let q = second-between one (first_at one cells cover first second) (length first) (length behind) in record { first = omega (arith, first-is, second_is, q.0); second = omega (arith, second_is, end_is, q.1) }
+        pub in_order_lem : Ordered e
+        in_order_lem = let q = second_between one (first_at one cells cover first second) (length first) (length behind) in record { first = omega (arith, first_is, second_is, q.0); second = omega (arith, second_is, end_is, q.1) }
 
-        pub all_laid : {d : List ℕ} {fit : Bool} (laid : Laid) (after : List ℕ) → d ≡ sets c 0 (flat (headWords n1 n2 rows columns e.cover e.first e.second)) → fit ≡ fitsAt e.first e.second e.end
-            → outcomeOf laid after ≡ laidAs fit out (part d 0 0 ++ part d 0 (e.end - 0)) → outcomeOf laid after ≡ partsInto one cells cover first second out n1 n2 rows columns
-        unfolding partsInto kernWords part
+        pub all_laid : {d : List ℕ} {fit : Bool} (laid : Laid) (after : List ℕ) → d ≡ sets c 0 (flat (head_words n1 n2 rows columns e.cover e.first e.second)) → fit ≡ fits_at e.first e.second e.end
+            → outcome_of laid after ≡ laid_as fit out (part d 0 0 ++ part d 0 (e.end - 0)) → outcome_of laid after ≡ parts_into one cells cover first second out n1 n2 rows columns
+        unfolding parts_into kern_words part
         all_laid {d} {fit} laid after headed fitted handed =
-            let cover-is : e.cover ≡ coverAt one cells cover first second = v.cover-at ∙ cells-stand.place in
-            let h = headWords n1 n2 rows columns e.cover e.first e.second in
-            let x = extends-before {p = 0} h (extends-more cells-stand all-stands) (omega arith) in
+            let cover_is : e.cover ≡ cover_at one cells cover first second = v.cover_at_lem ∙ cells_stand.place in
+            let h = head_words n1 n2 rows columns e.cover e.first e.second in
+            let x = extends_before {p = 0} h (extends_more cells_stand all_stands) (omega arith) in
             let f : 0 + e.end ≡ e.end = omega arith in
             let g : e.end - 0 ≡ e.end = omega arith in
             let whole : part (sets c 0 (flat h)) 0 e.end ≡ flat (h ++ (cells ++ (cover ++ (first ++ behind)))) = sym (rw f at (take_part (sets c 0 (flat h)) 0 e.end (omega (arith, x.room, x.same)))) ∙ x.front in
             handed
-            ∙ ap (λ (n : ℕ). laidAs fit out (part d 0 n)) g
-            ∙ ap (λ (z : List ℕ). laidAs fit out (part z 0 e.end)) headed
-            ∙ ap (laidAs fit out) whole
-            ∙ ap (λ (z : Bool). laidAs z out (flat (h ++ (cells ++ (cover ++ (first ++ behind)))))) fitted
-            ∙ rw (cover-is, first-is, second_is, end_is) refl
+            ∙ ap (λ (n : ℕ). laid_as fit out (part d 0 n)) g
+            ∙ ap (λ (z : List ℕ). laid_as fit out (part z 0 e.end)) headed
+            ∙ ap (laid_as fit out) whole
+            ∙ ap (λ (z : Bool). laid_as z out (flat (h ++ (cells ++ (cover ++ (first ++ behind)))))) fitted
+            ∙ rw (cover_is, first_is, second_is, end_is) refl
 
 -- What is left, as the cells say it, with the new formats that they ask for.
-module _ (packing : ℕ) (s t : List ℕ) (cover : Noted) (first second : Classed) {f : Formats} (n : NewFormats (entriesIn t first.map) (entriesIn t second.map) s f) (out : List ℕ) where
+module _ (packing : ℕ) (s t : List ℕ) (cover : Noted) (first second : Classed) {f : Formats} (n : NewFormats (entries_in t first.map) (entries_in t second.map) s f) (out : List ℕ) where
   abbrev one : Bool
   one = shared packing (notes t first.entries.at first.entries.len) (notes t second.entries.at second.entries.len)
 
   abbrev cells : List ℕ
-  cells = keptCells (entriesIn t first.map) (entriesIn t second.map) s f.n1 f.n2
+  cells = kept_cells (entries_in t first.map) (entries_in t second.map) s f.n1 f.n2
 
   abbrev glyphs : List ℕ
-  glyphs = coverageWords (news t cover.at cover.len)
+  glyphs = coverage_words (news t cover.at cover.len)
 
   abbrev firsts : List ℕ
-  firsts = classWords (notes t first.entries.at first.entries.len)
+  firsts = class_words (notes t first.entries.at first.entries.len)
 
   abbrev seconds : List ℕ
-  seconds = classWords (notes t second.entries.at second.entries.len)
+  seconds = class_words (notes t second.entries.at second.entries.len)
 
-  parts-left : partsInto one cells glyphs firsts seconds out f.n1 f.n2 first.count second.count ≡ leftInto packing out s t cover first second
-  unfolding kernInto
-  parts-left = rw (n.n1, n.n2) refl
+  parts_left : parts_into one cells glyphs firsts seconds out f.n1 f.n2 first.count second.count ≡ left_into packing out s t cover first second
+  unfolding kern_into
+  parts_left = rw (n.n1, n.n2) refl
 
   module _ {a b : List ℕ} {p : ℕ} (w : Tried a 16 cells b p) where
-    pub no_cells : length b < p → limit ≤ length b → refused out 9 ≡ leftInto packing out s t cover first second
-    no_cells l h = cells_over one cells glyphs firsts seconds out f.n1 f.n2 first.count second.count w l h ∙ parts-left
+    pub no_cells : length b < p → limit ≤ length b → refused out 9 ≡ left_into packing out s t cover first second
+    no_cells l h = cells_over one cells glyphs firsts seconds out f.n1 f.n2 first.count second.count w l h ∙ parts_left
 
     module _ (l : p ≤ length b) {c : List ℕ} {e : Ends} (v : Ended one b p glyphs firsts seconds c e) where
-      pub no-tail : length c < e.end → limit ≤ length c → refused out 9 ≡ leftInto packing out s t cover first second
-      no-tail k h = tail-over one cells glyphs firsts seconds out f.n1 f.n2 first.count second.count w l v k h ∙ parts-left
+      pub no_tail : length c < e.end → limit ≤ length c → refused out 9 ≡ left_into packing out s t cover first second
+      no_tail k h = tail_over one cells glyphs firsts seconds out f.n1 f.n2 first.count second.count w l v k h ∙ parts_left
 
       module _ (k : e.end ≤ length c) where
         pub ordered : Ordered e
-        ordered = in_order one cells glyphs firsts seconds out f.n1 f.n2 first.count second.count w l v k
+        ordered = in_order_lem one cells glyphs firsts seconds out f.n1 f.n2 first.count second.count w l v k
 
-        pub left_laid : {d : List ℕ} {fit : Bool} (laid : Laid) (after : List ℕ) → d ≡ sets c 0 (flat (headWords f.n1 f.n2 first.count second.count e.cover e.first e.second)) → fit ≡ fitsAt e.first e.second e.end
-            → outcomeOf laid after ≡ laidAs fit out (part d 0 0 ++ part d 0 (e.end - 0)) → outcomeOf laid after ≡ leftInto packing out s t cover first second
-        left_laid laid after x y z = all_laid one cells glyphs firsts seconds out f.n1 f.n2 first.count second.count w l v k laid after x y z ∙ parts-left
+        pub left_laid : {d : List ℕ} {fit : Bool} (laid : Laid) (after : List ℕ) → d ≡ sets c 0 (flat (head_words f.n1 f.n2 first.count second.count e.cover e.first e.second)) → fit ≡ fits_at e.first e.second e.end
+            → outcome_of laid after ≡ laid_as fit out (part d 0 0 ++ part d 0 (e.end - 0)) → outcome_of laid after ≡ left_into packing out s t cover first second
+        left_laid laid after x y z = all_laid one cells glyphs firsts seconds out f.n1 f.n2 first.count second.count w l v k laid after x y z ∙ parts_left

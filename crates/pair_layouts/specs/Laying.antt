@@ -26,15 +26,15 @@ pub record TailIn (t : List ℕ) (glyphs firsts seconds : Noted) : Type 0 where
   pub second : EntriesIn t seconds
 
 -- a coverage and one class table behind it, which is that of the first classes and of the second
-abbrev pub oneTable : ℕ → ℕ → ℕ → Ends
-oneTable cover first end = record { cover = cover; first = first; second = first; end = end }
+abbrev pub one_table : ℕ → ℕ → ℕ → Ends
+one_table cover first end = record { cover = cover; first = first; second = first; end = end }
 
 -- The three parts stand from p on, where `e` says, both class tables in one place if they are one; or its end is past the area, which is too short for them.
 pub record Ended (one : Bool) (before : List ℕ) (p : ℕ) (cover first second after : List ℕ) (e : Ends) : Type 0 where
   pub same : length after ≡ length before
-  pub cover-at : e.cover ≡ p
-  pub first-at : e.end ≤ length before → e.first ≡ p + 2 * length cover
-  pub second_at : e.end ≤ length before → e.second ≡ cond one (p + 2 * length cover) (p + 2 * length cover + 2 * length first)
+  pub cover_at_lem : e.cover ≡ p
+  pub first_at_lem : e.end ≤ length before → e.first ≡ p + 2 * length cover
+  pub second_at_lem : e.end ≤ length before → e.second ≡ cond one (p + 2 * length cover) (p + 2 * length cover + 2 * length first)
   pub fits : e.end ≤ length before → Extends before p (cover ++ (first ++ cond one [] second)) after e.end
   pub full : length before < e.end → length before < p + 2 * length (cover ++ (first ++ cond one [] second))
 

@@ -2,12 +2,12 @@
 ghost use Rattle.std.specs.Prelude.{◌≡◌, ◌+◌, ◌≤◌, ◌<◌, length};
 ghost use Rattle.std.proofs.lemmas.List.Edits.{sets};
 ghost use Rattle.meaning.specs.Words.{flat};
-ghost use Rattle.meaning.specs.Layout.{coverageWords, classWords};
+ghost use Rattle.meaning.specs.Layout.{coverage_words, class_words};
 ghost use Rattle.meaning.specs.Subset.{limit};
 ghost use Rattle.area.specs.Part.{news, notes};
 ghost use Rattle.tried.specs.Tries.{Tries};
-ghost use Rattle.pair_layouts.specs.Kerning.{shared, headWords, fitsAt, leftInto};
-ghost use Rattle.pair_layouts.specs.Laying.{EntriesIn, TailIn, oneTable, Ended, Ordered, NoRoom, Ready};
+ghost use Rattle.pair_layouts.specs.Kerning.{shared, head_words, fits_at, left_into};
+ghost use Rattle.pair_layouts.specs.Laying.{EntriesIn, TailIn, one_table, Ended, Ordered, NoRoom, Ready};
 
 use area::{put_three, put_two};
 use area_parts::{write_classes, write_cover};
@@ -66,7 +66,7 @@ fn shares(t: &[u32], first: Noted, second: Noted, packing: usize) -> bool
 
 // A coverage and one class table behind it, which is that of the first classes and of the second.
 fn one_table(cover: usize, first: usize, end: usize) -> Ends
-    ensures { result ≡ oneTable cover first end }
+    ensures { result ≡ one_table cover first end }
 {
     Ends {
         cover,
@@ -87,7 +87,7 @@ fn write_tail(
     p: usize,
 ) -> Ends
     requires { TailIn t.now cover first second × (p ≤ length area.old) × (length area.old ≤ limit) }
-    ensures { Ended (shared packing (notes t.now first.at first.len) (notes t.now second.at second.len)) area.old p (coverageWords (news t.now cover.at cover.len)) (classWords (notes t.now first.at first.len)) (classWords (notes t.now second.at second.len)) area.new result }
+    ensures { Ended (shared packing (notes t.now first.at first.len) (notes t.now second.at second.len)) area.old p (coverage_words (news t.now cover.at cover.len)) (class_words (notes t.now first.at first.len)) (class_words (notes t.now second.at second.len)) area.new result }
 {
     let q = write_cover(t, cover.at, cover.len, area, p);
     if area.len() < q {
@@ -112,7 +112,7 @@ fn write_tail(
 // The header before the cells: the format, the offsets of coverage and class tables, the new value formats and the counts of classes.
 fn write_head(area: &mut [u8], ends: Ends, f: Formats, rows: usize, columns: usize)
     requires { 16 ≤ length area.old }
-    ensures { area.new ≡ sets area.old 0 (flat (headWords f.n1 f.n2 rows columns ends.cover ends.first ends.second)) }
+    ensures { area.new ≡ sets area.old 0 (flat (head_words f.n1 f.n2 rows columns ends.cover ends.first ends.second)) }
 {
     let p = put_three(area, 0, 2, ends.cover, f.n1);
     let q = put_three(area, p, f.n2, ends.first, ends.second);
@@ -122,7 +122,7 @@ fn write_head(area: &mut [u8], ends: Ends, f: Formats, rows: usize, columns: usi
 // Whether the offsets fit words, of which the last is the highest, and the counts of the class tables.
 fn fits(ends: Ends) -> bool
     requires { Ordered ends }
-    ensures { result ≡ fitsAt ends.first ends.second ends.end }
+    ensures { result ≡ fits_at ends.first ends.second ends.end }
 {
     if HIGHEST < ends.second {
         return false;
@@ -155,7 +155,7 @@ pub fn lay_pairs(
     out: &mut [u8],
 ) -> Tried
     requires { Ready src.now t.now cover first second × (length area.old ≤ limit) }
-    ensures { Tries (⊥) (length area.old < limit) result out.old out.new (leftInto packing out.old src.now t.now cover first second) }
+    ensures { Tries (⊥) (length area.old < limit) result out.old out.new (left_into packing out.old src.now t.now cover first second) }
 {
     if area.len() < 16 {
         return Tried::Short;

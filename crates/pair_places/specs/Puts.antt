@@ -2,9 +2,9 @@
 use Rattle.std.specs.Prelude.{ℕ, suc, ◌+◌, ◌*◌, ◌/◌, ◌%◌, ◌<◌, ◌≡◌, refl, Bool, true, false, cond, List, [], ◌∷◌, ◌++◌, length, take, set, eqb}
 use Rattle.std.proofs.Common.{sym, ap, ◌∙◌, append_assoc, append-nil, arith, length-set, length-append, take-suc-set, eq-eqb, ne_eqb}
 use Rattle.std.proofs.Math.Option.{Option, none, some}
-use Rattle.meaning.specs.Words.{push, mapSome}
-use Rattle.meaning.specs.Tables.{bit, fieldCount, fieldsBelow}
-use Rattle.pair_places.specs.Formats.{fields, fieldPlace, keptPlaces}
+use Rattle.meaning.specs.Words.{push, map_some}
+use Rattle.meaning.specs.Tables.{bit, field_count, fields_below}
+use Rattle.pair_places.specs.Formats.{fields, field_place, kept_places}
 
 -- the numbers ns stand from `at` on, what stood before them is as before, and r is the place after them
 pub record Puts (before : List ℕ) (at : ℕ) (ns after : List ℕ) (r : ℕ) : Type 0 where
@@ -21,46 +21,46 @@ module _ {a : List ℕ} {p : ℕ} where
       let e : p + 1 ≡ suc p = omega arith in
       record { place = refl; same = length-set a p v; front = rw e (take-suc-set a p v h) }
 
-  pub puts-more : {ns ms b c : List ℕ} {q r : ℕ} → Puts a p ns b q → Puts b q ms c r → Puts a p (ns ++ ms) c r
-  puts-more {ns} {ms} h k = record {
+  pub puts_more : {ns ms b c : List ℕ} {q r : ℕ} → Puts a p ns b q → Puts b q ms c r → Puts a p (ns ++ ms) c r
+  puts_more {ns} {ms} h k = record {
     place = omega (arith, h.place, k.place, length-append ns ms);
     same = k.same ∙ h.same;
     front = k.front ∙ ap (λ (l : List ℕ). l ++ ms) h.front ∙ append_assoc (take p a) ns ms;
   }
 
-  pub puts-said : {ns ms b : List ℕ} {q : ℕ} → Puts a p ns b q → ns ≡ ms → Puts a p ms b q
-  puts-said h e = rw e at h
+  pub puts_said : {ns ms b : List ℕ} {q : ℕ} → Puts a p ns b q → ns ≡ ms → Puts a p ms b q
+  puts_said h e = rw e at h
 
 module _ (start f k : ℕ) where
   -- the two ways through `field_place`
-  pub place_none : (f / k % 2 ≡ 1 → ⊥) → 0 ≡ fieldPlace start f k
-  unfolding bit fieldPlace
+  pub place_none : (f / k % 2 ≡ 1 → ⊥) → 0 ≡ field_place start f k
+  unfolding bit field_place
   place_none b = rw (ne_eqb (bit f k) 1 b)
 
-  pub place_is : f / k % 2 ≡ 1 → {n : ℕ} → n ≡ fieldCount (f % k) → start + 2 * n ≡ fieldPlace start f k
-  unfolding bit fieldsBelow fieldPlace
+  pub place_is : f / k % 2 ≡ 1 → {n : ℕ} → n ≡ field_count (f % k) → start + 2 * n ≡ field_place start f k
+  unfolding bit fields_below field_place
   place_is b e = rw (eq-eqb (bit f k) 1 b, e)
 
   -- and through `put_place`
-  pub kept-none : (new : ℕ) → (new / k % 2 ≡ 1 → ⊥) → [] ≡ keptPlaces start f new (k ∷ [])
-  unfolding bit keptPlaces mapSome push
-  kept-none new b = rw (ne_eqb (bit new k) 1 b)
+  pub kept_none : (new : ℕ) → (new / k % 2 ≡ 1 → ⊥) → [] ≡ kept_places start f new (k ∷ [])
+  unfolding bit kept_places map_some push
+  kept_none new b = rw (ne_eqb (bit new k) 1 b)
 
-  pub kept-one : (new : ℕ) → new / k % 2 ≡ 1 → {v : ℕ} → v ≡ fieldPlace start f k → v ∷ [] ≡ keptPlaces start f new (k ∷ [])
-  unfolding bit keptPlaces mapSome push
-  kept-one new b e = rw (eq-eqb (bit new k) 1 b, e)
+  pub kept_one : (new : ℕ) → new / k % 2 ≡ 1 → {v : ℕ} → v ≡ field_place start f k → v ∷ [] ≡ kept_places start f new (k ∷ [])
+  unfolding bit kept_places map_some push
+  kept_one new b e = rw (eq-eqb (bit new k) 1 b, e)
 
 -- one field and the others
-kept-front : (start f new k : ℕ) (ks : List ℕ) → keptPlaces start f new (k ∷ []) ++ keptPlaces start f new ks ≡ keptPlaces start f new (k ∷ ks)
-unfolding keptPlaces mapSome push
-kept-front start f new k ks = step (eqb (bit new k) 1) (mapSome (λ k. cond (eqb (bit new k) 1) (some (fieldPlace start f k)) none) ks)
+kept_front : (start f new k : ℕ) (ks : List ℕ) → kept_places start f new (k ∷ []) ++ kept_places start f new ks ≡ kept_places start f new (k ∷ ks)
+unfolding kept_places map_some push
+kept_front start f new k ks = step (eqb (bit new k) 1) (map_some (λ k. cond (eqb (bit new k) 1) (some (field_place start f k)) none) ks)
   where
-    step : (b : Bool) (r : List ℕ) → push (cond b (some (fieldPlace start f k)) none) [] ++ r ≡ push (cond b (some (fieldPlace start f k)) none) r
+    step : (b : Bool) (r : List ℕ) → push (cond b (some (field_place start f k)) none) [] ++ r ≡ push (cond b (some (field_place start f k)) none) r
     step true r = refl
     step false r = refl
 
 -- the four fields one by one
-pub kept-all : (start f new : ℕ) → keptPlaces start f new (1 ∷ []) ++ (keptPlaces start f new (2 ∷ []) ++ (keptPlaces start f new (4 ∷ []) ++ keptPlaces start f new (8 ∷ []))) ≡ keptPlaces start f new fields
-kept-all start f new =
-    ap (λ (l : List ℕ). keptPlaces start f new (1 ∷ []) ++ l) (ap (λ (l : List ℕ). keptPlaces start f new (2 ∷ []) ++ l) (kept-front start f new 4 (8 ∷ [])) ∙ kept-front start f new 2 (4 ∷ 8 ∷ []))
-    ∙ kept-front start f new 1 (2 ∷ 4 ∷ 8 ∷ [])
+pub kept_all : (start f new : ℕ) → kept_places start f new (1 ∷ []) ++ (kept_places start f new (2 ∷ []) ++ (kept_places start f new (4 ∷ []) ++ kept_places start f new (8 ∷ []))) ≡ kept_places start f new fields
+kept_all start f new =
+    ap (λ (l : List ℕ). kept_places start f new (1 ∷ []) ++ l) (ap (λ (l : List ℕ). kept_places start f new (2 ∷ []) ++ l) (kept_front start f new 4 (8 ∷ [])) ∙ kept_front start f new 2 (4 ∷ 8 ∷ []))
+    ∙ kept_front start f new 1 (2 ∷ 4 ∷ 8 ∷ [])

@@ -1,12 +1,12 @@
 // Where the fields of value records stand in a pair record, and the places of those that stay.
 ghost use Rattle.std.specs.Prelude.{◌≡◌, [], ◌∷◌, ◌+◌, ◌*◌, ◌<◌, ◌≤◌, length};
-ghost use Rattle.meaning.specs.Tables.{fieldCount};
-ghost use Rattle.pair_places.specs.Formats.{fields, fieldPlace, keptPlaces, places_of};
+ghost use Rattle.meaning.specs.Tables.{field_count};
+ghost use Rattle.pair_places.specs.Formats.{fields, field_place, kept_places, places_of};
 ghost use Rattle.pair_places.specs.Puts.{Puts};
 
 // How many fields a value record of the format `f` has: one for each set bit of the lower eight.
 pub fn field_count(f: usize) -> usize
-    ensures { (result ≡ fieldCount f) × (result ≤ 8) }
+    ensures { (result ≡ field_count f) × (result ≤ 8) }
 {
     f % 2 + f / 2 % 2 + f / 4 % 2 + f / 8 % 2 + f / 16 % 2 + f / 32 % 2 + f / 64 % 2 + f / 128 % 2
 }
@@ -14,7 +14,7 @@ pub fn field_count(f: usize) -> usize
 // Where the field `k` stands in a pair record, if the value record of the format `f` starts there at `start`; 0 where the format has no such field.
 pub fn field_place(start: usize, f: usize, k: usize) -> usize
     requires { (start ≤ 18) × (0 < k) }
-    ensures { (result ≡ fieldPlace start f k) × (result ≤ 34) }
+    ensures { (result ≡ field_place start f k) × (result ≤ 34) }
 {
     if f / k % 2 != 1 {
         return 0;
@@ -25,7 +25,7 @@ pub fn field_place(start: usize, f: usize, k: usize) -> usize
 // The place of the field `k` put at `at`, if the new format has the field; the place after it.
 fn put_place(start: usize, f: usize, new: usize, k: usize, places: &mut [u32], at: usize) -> usize
     requires { (start ≤ 18) × (0 < k) × (at < length places.old) }
-    ensures { Puts places.old at (keptPlaces start f new (k ∷ [])) places.new result × (result ≤ at + 1) }
+    ensures { Puts places.old at (kept_places start f new (k ∷ [])) places.new result × (result ≤ at + 1) }
 {
     if new / k % 2 != 1 {
         return at;
@@ -37,7 +37,7 @@ fn put_place(start: usize, f: usize, new: usize, k: usize, places: &mut [u32], a
 // The places of the fields that the new format has, from `at` on; the place after them.
 fn put_places(start: usize, f: usize, new: usize, places: &mut [u32], at: usize) -> usize
     requires { (start ≤ 18) × (at + 4 ≤ length places.old) }
-    ensures { Puts places.old at (keptPlaces start f new fields) places.new result × (result ≤ at + 4) }
+    ensures { Puts places.old at (kept_places start f new fields) places.new result × (result ≤ at + 4) }
 {
     let a = put_place(start, f, new, 1, places, at);
     let b = put_place(start, f, new, 2, places, a);

@@ -1,38 +1,38 @@
 // Pair sets and value formats of pair positioning: checked; device bits.
 ghost use Rattle.std.specs.Prelude.{◌≡◌, ◌&&◌, ◌||◌, ◌+◌, ◌*◌, ◌≤◌, ◌<◌, eqb};
 ghost use Rattle.meaning.specs.Words.{word};
-ghost use Rattle.meaning.specs.Tables.{fieldCount};
-ghost use Rattle.meaning.specs.Fault.{pairSetFault};
-ghost use Rattle.meaning.specs.Subset.{hasDevice};
-ghost use Rattle.faults.specs.Fault.{faultOf};
+ghost use Rattle.meaning.specs.Tables.{field_count};
+ghost use Rattle.meaning.specs.Fault.{pair_set_fault};
+ghost use Rattle.meaning.specs.Subset.{has_device};
+ghost use Rattle.faults.specs.Fault.{fault_of};
 
 use faults::Fault;
 use wire::{ascending, inside, word_at};
 
 // How many fields a value record of the format `f` has: one for each set bit of the lower eight.
 fn field_count(f: usize) -> usize
-    ensures { (result ≡ fieldCount f) × (result ≤ 8) }
+    ensures { (result ≡ field_count f) × (result ≤ 8) }
 {
     f % 2 + f / 2 % 2 + f / 4 % 2 + f / 8 % 2 + f / 16 % 2 + f / 32 % 2 + f / 64 % 2 + f / 128 % 2
 }
 
 // How many bytes a pair record takes: the second glyph and the fields of both value records.
 pub fn pair_size(f1: usize, f2: usize) -> usize
-    ensures { (result ≡ 2 + 2 * fieldCount f1 + 2 * fieldCount f2) × (result ≤ 34) }
+    ensures { (result ≡ 2 + 2 * field_count f1 + 2 * field_count f2) × (result ≤ 34) }
 {
     2 + 2 * field_count(f1) + 2 * field_count(f2)
 }
 
 // Whether a value format has a bit of 0x00F0.
 fn has_device(format: usize) -> bool
-    ensures { result ≡ hasDevice format }
+    ensures { result ≡ has_device format }
 {
     format / 16 % 16 != 0
 }
 
 // Whether the kind is pair, and one of the two value formats has such a bit.
 pub fn pair_device(kind: usize, src: &[u8]) -> bool
-    ensures { result ≡ eqb kind 4 && (hasDevice (word src.now 4) || hasDevice (word src.now 6)) }
+    ensures { result ≡ eqb kind 4 && (has_device (word src.now 4) || has_device (word src.now 6)) }
 {
     if kind != 4 {
         return false;
@@ -46,7 +46,7 @@ pub fn pair_device(kind: usize, src: &[u8]) -> bool
 // Where the pair set at `at` is faulty: at its start, if it does not lie inside the source or its second glyphs do not ascend.
 pub fn check_set(src: &[u8], at: usize, f1: usize, f2: usize) -> Fault
     requires { at < 0x1_0000_0000 }
-    ensures { result ≡ faultOf (pairSetFault (fieldCount f1) (fieldCount f2) src.now at) }
+    ensures { result ≡ fault_of (pair_set_fault (field_count f1) (field_count f2) src.now at) }
 {
     if !inside(src, at, 2) {
         return Fault::At(at);

@@ -3,9 +3,9 @@ ghost use Rattle.std.specs.Prelude.{◌∷◌, map, ◌+◌, ◌*◌, ◌<◌, �
 ghost use Rattle.meaning.specs.Words.{word, find};
 ghost use Rattle.cell_maps.specs.Cells.{Inside};
 ghost use Rattle.area.specs.Extends.{Extends};
-ghost use Rattle.numbers.specs.Entries.{entriesIn};
+ghost use Rattle.numbers.specs.Entries.{entries_in};
 ghost use Rattle.numbers.specs.Leaves.{Leaves};
-ghost use Rattle.pair_fields.specs.Pairs.{value_at, Places, Reads, pairsLeft, pairsMost};
+ghost use Rattle.pair_fields.specs.Pairs.{value_at, Places, Reads, pairs_left, pairs_most};
 
 use area::{over, put};
 use cell_maps::Map;
@@ -67,7 +67,7 @@ pub fn write_pairs(
     pos: usize,
 ) -> usize
     requires { (at + 2 + size * word src.now at ≤ length src.now) × Places places.now size × Inside t.now glyphs × (pos ≤ length area.old) }
-    ensures { Leaves area.old pos (pairsLeft (entriesIn t.now glyphs) src.now size places.now at) (pairsMost (pairsLeft (entriesIn t.now glyphs) src.now size places.now at) places.now) area.new result }
+    ensures { Leaves area.old pos (pairs_left (entries_in t.now glyphs) src.now size places.now at) (pairs_most (pairs_left (entries_in t.now glyphs) src.now size places.now at) places.now) area.new result }
 {
     let n = word_inside(src, at);
     let each = 2 + 2 * places.len();

@@ -2,18 +2,18 @@
 ghost use Rattle.std.specs.Prelude.{◌≡◌, [], ◌+◌, ◌≤◌, ◌<◌, length};
 ghost use Rattle.std.proofs.Math.Option.{none};
 ghost use Rattle.meaning.specs.Words.{word};
-ghost use Rattle.meaning.specs.Maps.{glyphEntries};
+ghost use Rattle.meaning.specs.Maps.{glyph_entries};
 ghost use Rattle.meaning.specs.Cut.{cut};
 ghost use Rattle.meaning.specs.Layout.{block};
-ghost use Rattle.meaning.specs.Subset.{limit, words_in, writtenIn};
-ghost use Rattle.room.specs.Laid.{enoughArea};
+ghost use Rattle.meaning.specs.Subset.{limit, words_in, written_in};
+ghost use Rattle.room.specs.Laid.{enough_area};
 ghost use Rattle.glyph_runs.specs.Runs.{GlyphMap};
 ghost use Rattle.placed_sets.specs.Kept.{Ready};
 ghost use Rattle.tried.specs.Tries.{Tries};
 ghost use Rattle.kept_header.specs.Answers.{Answered};
 ghost use Rattle.cut_sets.specs.Asked.{SoundSets, behind, MapsLaid};
-ghost use Rattle.cut_sets.specs.PairTables.{pairsOf, oneMap, pairFault, pairTable, AnsweredPairs};
-ghost use Rattle.cut_sets.specs.Whole.{cellsMost};
+ghost use Rattle.cut_sets.specs.PairTables.{pair_sort, one_map, pair_fault, pair_table, AnsweredPairs};
+ghost use Rattle.cut_sets.specs.Whole.{cells_most};
 
 use cell_maps::Map;
 use fold_glyphs::lay_glyphs;
@@ -39,7 +39,7 @@ fn write_pair_table(
     area: &mut [u8],
     out: &mut [u8],
 ) -> Tried
-    requires { Ready (pairsOf src.now) src.now t.old (oneMap g) notes.at notes.count × (length area.old ≤ enoughArea) }
+    requires { Ready (pair_sort src.now) src.now t.old (one_map g) notes.at notes.count × (length area.old ≤ enough_area) }
     ensures { AnsweredPairs notes.packing src.now t.old g notes.at notes.count out.old (length area.old) result out.new }
 {
     let f = new_formats(src, t, notes.at, notes.count, g);
@@ -73,8 +73,8 @@ fn cut_pair_sets(
     area: &mut [u8],
     out: &mut [u8],
 ) -> Tried
-    requires { SoundSets (pairsOf src.now) src.now × MapsLaid marks.form glyphs.now t.old (oneMap g) × (length area.old ≤ enoughArea) × (word src.now 2 ≡ 0 → ⊥) }
-    ensures { Answered (length t.old ≤ behind (oneMap g) + 65536) out.old (block (words_in marks.layout) (cut (glyphEntries marks.form glyphs.now) [] (pairTable src.now))) (length area.old) result out.new }
+    requires { SoundSets (pair_sort src.now) src.now × MapsLaid marks.form glyphs.now t.old (one_map g) × (length area.old ≤ enough_area) × (word src.now 2 ≡ 0 → ⊥) }
+    ensures { Answered (length t.old ≤ behind (one_map g) + 65536) out.old (block (words_in marks.layout) (cut (glyph_entries marks.form glyphs.now) [] (pair_table src.now))) (length area.old) result out.new }
 {
     let cover = word_inside(src, 2);
     let notes = g.at + g.mask + 1;
@@ -99,8 +99,8 @@ fn cut_pairs(
     area: &mut [u8],
     out: &mut [u8],
 ) -> Tried
-    requires { (pairFault src.now ≡ none) × (length src.now ≤ limit) × GlyphMap marks.form glyphs.now × (length area.old ≤ enoughArea) }
-    ensures { Tries (length t.old < cellsMost) (length area.old < enoughArea) result out.old out.new (writtenIn marks.layout out.old (cut (glyphEntries marks.form glyphs.now) [] (pairTable src.now))) }
+    requires { (pair_fault src.now ≡ none) × (length src.now ≤ limit) × GlyphMap marks.form glyphs.now × (length area.old ≤ enough_area) }
+    ensures { Tries (length t.old < cells_most) (length area.old < enough_area) result out.old out.new (written_in marks.layout out.old (cut (glyph_entries marks.form glyphs.now) [] (pair_table src.now))) }
 {
     if word_inside(src, 2) == 0 {
         return Tried::Became(Laid::Nothing);
@@ -122,8 +122,8 @@ pub fn pairs(
     area: &mut [u8],
     out: &mut [u8],
 ) -> Tried
-    requires { (pairFault src.now ≡ none) × (length src.now ≤ limit) × GlyphMap marks.form glyphs.now }
-    ensures { Tries (length t.old < cellsMost) (length area.old < enoughArea) result out.old out.new (writtenIn marks.layout out.old (cut (glyphEntries marks.form glyphs.now) [] (pairTable src.now))) }
+    requires { (pair_fault src.now ≡ none) × (length src.now ≤ limit) × GlyphMap marks.form glyphs.now }
+    ensures { Tries (length t.old < cells_most) (length area.old < enough_area) result out.old out.new (written_in marks.layout out.old (cut (glyph_entries marks.form glyphs.now) [] (pair_table src.now))) }
 {
     let bytes = least(area.len(), AREA);
     cut_pairs(src, glyphs, marks, t, &mut area[..bytes], out)

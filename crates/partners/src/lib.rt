@@ -2,7 +2,7 @@
 // `heads` has a cell for each number: the first rank, plus 1, of the others that have this number and are left.
 // `links` has two rows of 65,536 cells for partners, and then a cell for each rank of the others: the next rank of its number, plus 1.
 ghost use Rattle.std.specs.Prelude.{◌≡◌, ◌+◌, ◌≤◌, ◌<◌, length};
-ghost use Rattle.partners.specs.Chains.{numbersIn, nextIn, next_of, Below, Cleared, Linked, Kept, Paired};
+ghost use Rattle.partners.specs.Chains.{numbers_in, next_in, next_of, Below, Cleared, Linked, Kept, Paired};
 
 use cells::{cell, put_cell};
 
@@ -24,7 +24,7 @@ fn clear(own: &[u32], m: usize, heads: &mut [u32])
 // All ranks of the `n` others are left, by number, ascending: they are linked from the last on.
 fn link(own: &[u32], m: usize, others: &[u32], n: usize, heads: &mut [u32], links: &mut [u32])
     requires { (n < 65536) × (131072 + n ≤ length links.old) × Below own.now m (length heads.old) × Cleared own.now m heads.old }
-    ensures { Linked own.now m (numbersIn others.now n) 0 heads.new (nextIn links.new) × Kept 131072 links.old links.new }
+    ensures { Linked own.now m (numbers_in others.now n) 0 heads.new (next_in links.new) × Kept 131072 links.old links.new }
 {
     let mut j = n;
     while 0 < j {
@@ -38,7 +38,7 @@ fn link(own: &[u32], m: usize, others: &[u32], n: usize, heads: &mut [u32], link
 // The rank, plus 1, that follows `h` on its chain.
 fn next_of(links: &[u32], h: usize) -> usize
     requires { h < 0x1_0000_0000 }
-    ensures { (result ≡ next_of (nextIn links.now) h) × (result < 0x1_0000_0000) }
+    ensures { (result ≡ next_of (next_in links.now) h) × (result < 0x1_0000_0000) }
 {
     if h == 0 {
         return 0;
@@ -56,7 +56,7 @@ fn take(
     links: &mut [u32],
     at: usize,
 )
-    requires { (at + m ≤ 131072) × (131072 ≤ length links.old) × Below own.now m (length heads.old) × Linked own.now m (numbersIn others.now n) 0 heads.old (nextIn links.old) }
+    requires { (at + m ≤ 131072) × (131072 ≤ length links.old) × Below own.now m (length heads.old) × Linked own.now m (numbers_in others.now n) 0 heads.old (next_in links.old) }
     ensures { Paired own.now m others.now n at links.old links.new }
 {
     let mut i = 0;

@@ -3,8 +3,8 @@ ghost use Rattle.std.specs.Prelude.{◌≡◌, ◌≤◌, length};
 ghost use Rattle.std.proofs.Math.Option.{none};
 ghost use Rattle.meaning.specs.Subset.{limit};
 ghost use Rattle.numbers.specs.Leaves.{Leaves};
-ghost use Rattle.kept_rules.specs.Left.{AllInside, mapsIn};
-ghost use Rattle.placed_sets.specs.Sorts.{setFaultOf, headerSize, leftIn, most_of, Told};
+ghost use Rattle.kept_rules.specs.Left.{AllInside, maps_in};
+ghost use Rattle.placed_sets.specs.Sorts.{set_fault_of, header_size, left_in, most_of, Told};
 ghost use Rattle.placed_sets.specs.Kept.{TurnInside, KeptSet, PlacedSet};
 
 use area::{over, put};
@@ -42,7 +42,7 @@ pub struct Sets {
 
 // How many bytes stand before the offsets of the sets: the format, the coverage's offset and the count, and for pairs the two value formats.
 pub fn header_size(sort: Sort) -> usize
-    ensures { (result ≡ headerSize sort) × (result ≤ 10) }
+    ensures { (result ≡ header_size sort) × (result ≤ 10) }
 {
     match sort {
         Sort::Rules(_) => 6,
@@ -62,8 +62,8 @@ fn write_set(
     area: &mut [u8],
     pos: usize,
 ) -> usize
-    requires { (setFaultOf sort src.now at ≡ none) × (length src.now ≤ limit) × AllInside t.now maps × (pos ≤ length area.old) × Told sort (mapsIn t.now maps) src.now told.old }
-    ensures { Leaves area.old pos (leftIn sort t.now maps src.now at) (most_of (leftIn sort t.now maps src.now at) src.now) area.new result × Told sort (mapsIn t.now maps) src.now told.new }
+    requires { (set_fault_of sort src.now at ≡ none) × (length src.now ≤ limit) × AllInside t.now maps × (pos ≤ length area.old) × Told sort (maps_in t.now maps) src.now told.old }
+    ensures { Leaves area.old pos (left_in sort t.now maps src.now at) (most_of (left_in sort t.now maps src.now at) src.now) area.new result × Told sort (maps_in t.now maps) src.now told.new }
 {
     match sort {
         Sort::Rules(chained) => write_rules(chained, src, at, t, maps, told, area, pos),
@@ -99,8 +99,8 @@ pub fn place_set(
     book: &mut [u32],
     turn: Turn,
 ) -> usize
-    requires { (setFaultOf sort src.now turn.at ≡ none) × (length src.now ≤ limit) × AllInside t.now maps × TurnInside area.old book.old turn × Told sort (mapsIn t.now maps) src.now told.old }
-    ensures { PlacedSet (leftIn sort t.now maps src.now) turn area.old book.old area.new book.new result × Told sort (mapsIn t.now maps) src.now told.new }
+    requires { (set_fault_of sort src.now turn.at ≡ none) × (length src.now ≤ limit) × AllInside t.now maps × TurnInside area.old book.old turn × Told sort (maps_in t.now maps) src.now told.old }
+    ensures { PlacedSet (left_in sort t.now maps src.now) turn area.old book.old area.new book.new result × Told sort (maps_in t.now maps) src.now told.new }
 {
     let before = again(book, turn.first, turn.at);
     if before != 0 {

@@ -4,18 +4,18 @@ use Rattle.std.specs.Prelude.{ℕ, ◌+◌, ◌≡◌, refl, Bool, true, false, 
 use Rattle.std.proofs.Common.{ap, subst}
 use Rattle.std.proofs.Math.Option.{Option, none, some}
 use Rattle.meaning.specs.Words.{word, bytes2, flat}
-use Rattle.meaning.specs.Tables.{Table, pairTable, table}
+use Rattle.meaning.specs.Tables.{Table, pair_table, table}
 use Rattle.meaning.specs.Cut.{cut}
 use Rattle.meaning.specs.Subset.{left, subset}
-use Rattle.meaning.specs.Matching.{Move, adjust, secondFormat}
+use Rattle.meaning.specs.Matching.{Move, adjust, second_format}
 use Rattle.laws.specs.Through.{Opt}
 use Rattle.promises.specs.Strings.{All, Retained, new}
-use Rattle.promises.specs.Pairs.{second-left}
+use Rattle.promises.specs.Pairs.{second_left}
 use Rattle.promises.specs.ClassPairs as ClassPairs
 
 -- a pair table has a nonzero second format
 abbrev pub skipping : Table → Bool
-skipping t = not (eqb (secondFormat t) 0)
+skipping t = not (eqb (second_format t) 0)
 
 -- the pairs found from place i on: the one at i, if it is found, and then those from its second glyph on, or, if that is skipped, those after it
 unfoldable pub found_at : ℕ → Option (Move × Move) → Bool → List (ℕ × (Move × Move)) → List (ℕ × (Move × Move)) → List (ℕ × (Move × Move))
@@ -42,12 +42,12 @@ walks_same g t u e k i (x ∷ y ∷ string) r =
     λ j. found_at i (k x y r.0 r.1.0 j) (e j) (from j) (after j)
 
 -- what is left of a pair table has a nonzero second format exactly if the source has one
-pub skipping-same : (g l : List (ℕ × ℕ)) (kind : ℕ) → kind ≡ 4 → (source : List ℕ) (small : Table) → cut g l (table kind source) ≡ some small → skipping small ≡ skipping (table kind source)
-unfolding table pairTable secondFormat
-skipping-same g l kind k source small e = ap not (subst (Opt (λ u. eqb (secondFormat u) 0 ≡ eqb (secondFormat (table kind source)) 0)) e (left kind k))
+pub skipping_same : (g l : List (ℕ × ℕ)) (kind : ℕ) → kind ≡ 4 → (source : List ℕ) (small : Table) → cut g l (table kind source) ≡ some small → skipping small ≡ skipping (table kind source)
+unfolding table pair_table second_format
+skipping_same g l kind k source small e = ap not (subst (Opt (λ u. eqb (second_format u) 0 ≡ eqb (second_format (table kind source)) 0)) e (left kind k))
   where
     Kept : Table → Type 0
-    Kept t = Opt (λ u. eqb (secondFormat u) 0 ≡ eqb (secondFormat t) 0) (cut g l t)
+    Kept t = Opt (λ u. eqb (second_format u) 0 ≡ eqb (second_format t) 0) (cut g l t)
 
     either : (t : Bool) (a b : Table) → Kept a → Kept b → Kept (cond t a b)
     either true a b h k = h
@@ -55,8 +55,8 @@ skipping-same g l kind k source small e = ap not (subst (Opt (λ u. eqb (secondF
 
     left : (kind : ℕ) → kind ≡ 4 → Kept (table kind source)
     left kind k =
-        rw k (either (eqb (word source 0) 1) _ _ (second-left g l _ (word source 4) (word source 6) _)
-        (ClassPairs.second-left g l _ _ _ (word source 4) (word source 6) (word source 14) _))
+        rw k (either (eqb (word source 0) 1) _ _ (second_left g l _ (word source 4) (word source 6) _)
+        (ClassPairs.second_left g l _ _ _ (word source 4) (word source 6) (word source 14) _))
 
 -- A worked case: glyph 5 before glyph 5 is advanced by 10, with the second format 0x0004, whose values are all 0, or 0.
 
@@ -79,10 +79,10 @@ small source = left (subset 4 4 0 source (flat (5 ∷ 0 ∷ 7 ∷ 1 ∷ [])) [] 
 
 -- the places of the pairs that are found, each with the advance of its first glyph
 abbrev advances : List ℕ → List ℕ → List (ℕ × ℤ)
-advances source glyphs = map (λ e. (e.0, e.1.0.x-advance)) (walk (table 4 source) 0 glyphs)
+advances source glyphs = map (λ e. (e.0, e.1.0.x_advance)) (walk (table 4 source) 0 glyphs)
 
 -- every second pair is skipped under the nonzero format, in the source and in what is left, and none under the format 0
-pub every-second : ((advances silent string ≡ (1, pos 10) ∷ (3, pos 10) ∷ []) × (advances (small silent) renumbered ≡ (1, pos 10) ∷ (3, pos 10) ∷ []))
+pub every_second : ((advances silent string ≡ (1, pos 10) ∷ (3, pos 10) ∷ []) × (advances (small silent) renumbered ≡ (1, pos 10) ∷ (3, pos 10) ∷ []))
     × ((advances no_second string ≡ (1, pos 10) ∷ (2, pos 10) ∷ (3, pos 10) ∷ []) × (advances (small no_second) renumbered ≡ (1, pos 10) ∷ (2, pos 10) ∷ (3, pos 10) ∷ []))
-unfolding flat bytes2 table adjust secondFormat walk subset
-every-second = ((refl, refl), (refl, refl))
+unfolding flat bytes2 table adjust second_format walk subset
+every_second = ((refl, refl), (refl, refl))

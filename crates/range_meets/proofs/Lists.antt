@@ -6,11 +6,11 @@ use mathlib.Core.List.{List, [], ◌∷◌, ◌++◌, map, append-nil, append_as
 use native.Mathlib.Omega.{arith}
 use lib.ListN.{length, set, length-append, length-map}
 use Rattle.meaning.specs.Words.{word, words, bind, push}
-use Rattle.laws.specs.Left.{words_left, words-all, words-none}
-use Rattle.cell_maps.specs.Cells.{cellEntry, folded, answer_in, Kept, kept-all, kept_more, kept_set, entry_kept, answer-own, answer-other}
+use Rattle.laws.specs.Left.{words_left_lem, words_all, words_none}
+use Rattle.cell_maps.specs.Cells.{cell_entry, folded, answer_in, Kept, kept_all, kept_more, kept_set, entry_kept, answer_own, answer_other}
 use Rattle.cell_maps.specs.declared.Map.{Map}
 use Rattle.area.specs.Part.{part, part_length, notes}
-use Rattle.area.specs.Stored.{part_same, part-store}
+use Rattle.area.specs.Stored.{part_same, part_store}
 use Rattle.range_meets.specs.Met.{met, Met}
 use Rattle.range_meets.specs.Walks.{MeetsList}
 
@@ -19,15 +19,15 @@ abbrev pub note_of : ℕ → ℕ × ℕ
 note_of c = (c / 65536, c % 65536)
 
 -- a note more
-pub notes-store : (t : List ℕ) (to k v : ℕ) → to + k < length t → notes (set t (to + k) v) to (k + 1) ≡ notes t to k ++ ((v / 65536, v % 65536) ∷ [])
-notes-store t to k v h = ap (map note_of) (part-store t to k v h) ∙ map-append note_of (part t to k) (v ∷ [])
+pub notes_store : (t : List ℕ) (to k v : ℕ) → to + k < length t → notes (set t (to + k) v) to (k + 1) ≡ notes t to k ++ ((v / 65536, v % 65536) ∷ [])
+notes_store t to k v h = ap (map note_of) (part_store t to k v h) ∙ map-append note_of (part t to k) (v ∷ [])
 
 -- what is stored behind the notes leaves them
-pub notes-kept : {t next : List ℕ} (to k : ℕ) → Kept (to + k) t next → notes next to k ≡ notes t to k
-notes-kept {t} {next} to k h = ap (map note_of) (part_same next t to k (λ j l g. h.same j g))
+pub notes_kept : {t next : List ℕ} (to k : ℕ) → Kept (to + k) t next → notes next to k ≡ notes t to k
+notes_kept {t} {next} to k h = ap (map note_of) (part_same next t to k (λ j l g. h.same j g))
 
-pub notes-length : (t : List ℕ) (to k : ℕ) → length (notes t to k) ≡ k
-notes-length t to k = length-map (part t to k) note_of ∙ part_length t to k
+pub notes_length : (t : List ℕ) (to k : ℕ) → length (notes t to k) ≡ k
+notes_length t to k = length-map (part t to k) note_of ∙ part_length t to k
 
 module _ (s : List ℕ) (at n : ℕ) (m : Map) (t₀ : List ℕ) (to : ℕ) where
   -- what is met from the i-th glyph on, and in all
@@ -45,39 +45,39 @@ module _ (s : List ℕ) (at n : ℕ) (m : Map) (t₀ : List ℕ) (to : ℕ) wher
     pub noted : notes t to k ++ from i ≡ all
 
 module _ {s : List ℕ} {at n : ℕ} {m : Map} {t₀ : List ℕ} {to : ℕ} where
-  pub listing-all : Listing s at n m t₀ to t₀ 0 0
+  pub listing_all : Listing s at n m t₀ to t₀ 0 0
   unfolding part
-  listing-all = record { within = omega arith; kept = kept-all to t₀; few = omega arith; noted = rw (words-all s at n) }
+  listing_all = record { within = omega arith; kept = kept_all to t₀; few = omega arith; noted = rw (words_all s at n) }
 
-  module _ {t : List ℕ} {k i glyph e : ℕ} (a : MeetsList s at n m t₀ to) (c : Listing s at n m t₀ to t k i) (h : i < n) (w : glyph ≡ word s (at + 2 * i)) (f : e ≡ cellEntry t m glyph) where
+  module _ {t : List ℕ} {k i glyph e : ℕ} (a : MeetsList s at n m t₀ to) (c : Listing s at n m t₀ to t k i) (h : i < n) (w : glyph ≡ word s (at + 2 * i)) (f : e ≡ cell_entry t m glyph) where
     -- the cell is as it was at the start
-    same-cell : e ≡ cellEntry t₀ m glyph
-    same-cell = f ∙ entry_kept c.kept m a.behind glyph
+    same_cell : e ≡ cell_entry t₀ m glyph
+    same_cell = f ∙ entry_kept c.kept m a.behind glyph
 
     -- there is a cell for one note more
-    pub listing-room : to + k < length t
-    listing-room = omega (arith, a.room, c.few, c.kept.size)
+    pub listing_room : to + k < length t
+    listing_room = omega (arith, a.room, c.few, c.kept.size)
 
     stored : (v : ℕ) → Kept to t₀ (set t (to + k) v)
     stored v = kept_more c.kept (kept_set to t (to + k) v (omega arith))
 
     -- the map has the glyph
-    pub listing-one : e / 65536 ≡ glyph → Listing s at n m t₀ to (set t (to + k) (i * 65536 + e % 65536)) (k + 1) (i + 1)
+    pub listing_one : e / 65536 ≡ glyph → Listing s at n m t₀ to (set t (to + k) (i * 65536 + e % 65536)) (k + 1) (i + 1)
     unfolding met bind push
-    listing-one g =
+    listing_one g =
         let v = i * 65536 + e % 65536 in
-        let o : folded t₀ m glyph ≡ some (e % 65536) = ap (λ (x : ℕ). answer_in x glyph) (sym same-cell) ∙ answer-own e glyph g in
-        let d : from s at n m t₀ to i ≡ (i, e % 65536) ∷ from s at n m t₀ to (i + 1) = rw (words_left s at n i h, ← w, o) in
+        let o : folded t₀ m glyph ≡ some (e % 65536) = ap (λ (x : ℕ). answer_in x glyph) (sym same_cell) ∙ answer_own e glyph g in
+        let d : from s at n m t₀ to i ≡ (i, e % 65536) ∷ from s at n m t₀ to (i + 1) = rw (words_left_lem s at n i h, ← w, o) in
         let q : v / 65536 ≡ i = omega arith in
         let r : v % 65536 ≡ e % 65536 = omega arith in
-        let p : notes (set t (to + k) v) to (k + 1) ≡ notes t to k ++ ((i, e % 65536) ∷ []) = notes-store t to k v listing-room ∙ ap (λ (x : ℕ × ℕ). notes t to k ++ (x ∷ [])) (λ j. (q j, r j)) in
+        let p : notes (set t (to + k) v) to (k + 1) ≡ notes t to k ++ ((i, e % 65536) ∷ []) = notes_store t to k v listing_room ∙ ap (λ (x : ℕ × ℕ). notes t to k ++ (x ∷ [])) (λ j. (q j, r j)) in
         let b : notes (set t (to + k) v) to (k + 1) ++ from s at n m t₀ to (i + 1) ≡ all s at n m t₀ to =
         ap (λ (l : List (ℕ × ℕ)). l ++ from s at n m t₀ to (i + 1)) p ∙ append_assoc (notes t to k) ((i, e % 65536) ∷ []) (from s at n m t₀ to (i + 1)) ∙ rw d at c.noted
         in
         record {
           within = omega arith;
           kept = stored v;
-          few = omega (arith, ap length b, length-append (notes (set t (to + k) v) to (k + 1)) (from s at n m t₀ to (i + 1)), notes-length (set t (to + k) v) to (k + 1));
+          few = omega (arith, ap length b, length-append (notes (set t (to + k) v) to (k + 1)) (from s at n m t₀ to (i + 1)), notes_length (set t (to + k) v) to (k + 1));
           noted = b;
         }
 
@@ -85,19 +85,19 @@ module _ {s : List ℕ} {at n : ℕ} {m : Map} {t₀ : List ℕ} {to : ℕ} wher
     pub listing_none : (v : ℕ) → (e / 65536 ≡ glyph → ⊥) → Listing s at n m t₀ to (set t (to + k) v) k (i + 1)
     unfolding met bind push
     listing_none v g =
-        let o : folded t₀ m glyph ≡ none = ap (λ (x : ℕ). answer_in x glyph) (sym same-cell) ∙ answer-other e glyph g in
-        let d : from s at n m t₀ to i ≡ from s at n m t₀ to (i + 1) = rw (words_left s at n i h, ← w, o) in
+        let o : folded t₀ m glyph ≡ none = ap (λ (x : ℕ). answer_in x glyph) (sym same_cell) ∙ answer_other e glyph g in
+        let d : from s at n m t₀ to i ≡ from s at n m t₀ to (i + 1) = rw (words_left_lem s at n i h, ← w, o) in
         record {
           within = omega arith;
           kept = stored v;
           few = c.few;
-          noted = ap (λ (l : List (ℕ × ℕ)). l ++ from s at n m t₀ to (i + 1)) (notes-kept to k (kept_set (to + k) t (to + k) v (omega arith))) ∙ rw d at c.noted;
+          noted = ap (λ (l : List (ℕ × ℕ)). l ++ from s at n m t₀ to (i + 1)) (notes_kept to k (kept_set (to + k) t (to + k) v (omega arith))) ∙ rw d at c.noted;
         }
 
-  pub listing-end : {t : List ℕ} {k i : ℕ} → MeetsList s at n m t₀ to → Listing s at n m t₀ to t k i → n ≤ i → Met (folded t₀ m) (words s at n) t₀ to t k
+  pub listing_end : {t : List ℕ} {k i : ℕ} → MeetsList s at n m t₀ to → Listing s at n m t₀ to t k i → n ≤ i → Met (folded t₀ m) (words s at n) t₀ to t k
   unfolding met
-  listing-end {t} {k} {i} a c h = record {
+  listing_end {t} {k} {i} a c h = record {
     kept = c.kept;
     fits = omega (arith, a.room, c.few);
-    noted = sym (append-nil (notes t to k)) ∙ rw (words-none s (at + 2 * i) n i h) at c.noted;
+    noted = sym (append-nil (notes t to k)) ∙ rw (words_none s (at + 2 * i) n i h) at c.noted;
   }

@@ -9,10 +9,10 @@ use native.Mathlib.Omega.{arith}
 use Rattle.std.proofs.lemmas.List.{length-map}
 use Rattle.std.proofs.Math.Dec.{eqb}
 use borrow.Author.Tests.{ne_eqb, eqb-true}
-use Rattle.meaning.specs.Words.{find, bind, push, mapSome, values, keys, ascends}
-use Rattle.meaning.specs.Maps.{mapEntries}
-use Rattle.meaning.specs.Parts.{coverage, coverageSound}
-use Rattle.meaning.specs.Cut.{newCoverage}
+use Rattle.meaning.specs.Words.{find, bind, push, map_some, values, keys, ascends}
+use Rattle.meaning.specs.Maps.{map_entries}
+use Rattle.meaning.specs.Parts.{coverage, coverage_sound}
+use Rattle.meaning.specs.Cut.{new_coverage}
 use Rattle.laws.specs.Stands.{All}
 use Rattle.laws.specs.Runs.{Up}
 use Rattle.cell_maps.specs.Cells.{Kept, Holds}
@@ -32,32 +32,32 @@ pub record Met (f : ℕ → Option ℕ) (cov t₀ : List ℕ) (to : ℕ) (t : Li
 
 -- what `meet` asks: the coverage is sound, m holds the glyph map, whose old numbers ascend, and behind its cells there is one cell more than the map has entries
 pub record Meets (s : List ℕ) (at : ℕ) (glyphs : List ℕ) (m : Map) (t : List ℕ) (to : ℕ) : Type 0 where
-  pub sound : coverageSound s at ≡ true
-  pub ascend : ascends (keys (mapEntries glyphs)) ≡ true
-  pub holds : Holds t m (mapEntries glyphs)
+  pub sound : coverage_sound s at ≡ true
+  pub ascend : ascends (keys (map_entries glyphs)) ≡ true
+  pub holds : Holds t m (map_entries glyphs)
   pub behind : m.at + m.mask < to
   pub room : to + length glyphs / 4 < length t
 
 -- maps that answer the same meet the same
-pub met-same : (f h : ℕ → Option ℕ) → ((x : ℕ) → f x ≡ h x) → (i : ℕ) (cov : List ℕ) → met f i cov ≡ met h i cov
+pub met_same : (f h : ℕ → Option ℕ) → ((x : ℕ) → f x ≡ h x) → (i : ℕ) (cov : List ℕ) → met f i cov ≡ met h i cov
 unfolding met
-met-same f h e i [] = refl
-met-same f h e i (c ∷ cov) = rw (e c) (ap (push (bind (h c) (λ n. some (i, n)))) (met-same f h e (i + 1) cov))
+met_same f h e i [] = refl
+met_same f h e i (c ∷ cov) = rw (e c) (ap (push (bind (h c) (λ n. some (i, n)))) (met_same f h e (i + 1) cov))
 
 -- their new numbers are the new coverage
-pub met-values : (g : List (ℕ × ℕ)) (i : ℕ) (cov : List ℕ) → values (met (find g) i cov) ≡ newCoverage g cov
-unfolding met values newCoverage mapSome push bind
-met-values g i [] = refl
-met-values g i (c ∷ cov) = step (find g c) (met-values g (i + 1) cov)
+pub met_values : (g : List (ℕ × ℕ)) (i : ℕ) (cov : List ℕ) → values (met (find g) i cov) ≡ new_coverage g cov
+unfolding met values new_coverage map_some push bind
+met_values g i [] = refl
+met_values g i (c ∷ cov) = step (find g c) (met_values g (i + 1) cov)
   where
-    step : (o : Option ℕ) → values (met (find g) (i + 1) cov) ≡ newCoverage g cov → values (push (bind o (λ n. some (i, n))) (met (find g) (i + 1) cov)) ≡ push o (newCoverage g cov)
+    step : (o : Option ℕ) → values (met (find g) (i + 1) cov) ≡ new_coverage g cov → values (push (bind o (λ n. some (i, n))) (met (find g) (i + 1) cov)) ≡ push o (new_coverage g cov)
     step none e = e
     step (some n) e = ap (λ (l : List ℕ). n ∷ l) e
 
-values-notes : (l : List ℕ) → values (map (λ c. (c / 65536, c % 65536)) l) ≡ map (λ c. c % 65536) l
+values_notes : (l : List ℕ) → values (map (λ c. (c / 65536, c % 65536)) l) ≡ map (λ c. c % 65536) l
 unfolding values
-values-notes [] = refl
-values-notes (c ∷ l) = ap (λ (r : List ℕ). c % 65536 ∷ r) (values-notes l)
+values_notes [] = refl
+values_notes (c ∷ l) = ap (λ (r : List ℕ). c % 65536 ∷ r) (values_notes l)
 
 values_length : (es : List (ℕ × ℕ)) → length (values es) ≡ length es
 unfolding values
@@ -66,12 +66,12 @@ values_length (e ∷ es) = ap suc (values_length es)
 
 module _ {cov t₀ : List ℕ} {to : ℕ} {t : List ℕ} {r : ℕ} where
   -- the new numbers that the cells hold
-  pub met-news : (g : List (ℕ × ℕ)) → Met (find g) cov t₀ to t r → news t to r ≡ newCoverage g cov
-  met-news g h = sym (values-notes (part t to r)) ∙ ap values h.noted ∙ met-values g 0 cov
+  pub met_news : (g : List (ℕ × ℕ)) → Met (find g) cov t₀ to t r → news t to r ≡ new_coverage g cov
+  met_news g h = sym (values_notes (part t to r)) ∙ ap values h.noted ∙ met_values g 0 cov
 
   -- there are as many as are met
-  pub met-count : {f : ℕ → Option ℕ} → Met f cov t₀ to t r → length (met f 0 cov) ≡ r
-  met-count h = ap length (sym h.noted) ∙ length-map (part t to r) (λ c. (c / 65536, c % 65536)) ∙ part_length t to r
+  pub met_count : {f : ℕ → Option ℕ} → Met f cov t₀ to t r → length (met f 0 cov) ≡ r
+  met_count h = ap length (sym h.noted) ∙ length-map (part t to r) (λ c. (c / 65536, c % 65536)) ∙ part_length t to r
 
 -- A map has no say in glyphs above its entries, so that a coverage that ascends has no more retained glyphs than the map has entries.
 pub up_least : (low : ℕ) (cov : List ℕ) → Up low cov → All (λ c. low ≤ c) cov
@@ -82,21 +82,21 @@ up_least low (c ∷ cov) u = (u.0, more cov (up_least (c + 1) cov u.1))
     more [] h = tt
     more (x ∷ l) h = (omega (arith, u.0, h.0), more l h.1)
 
-pub met-none : (i : ℕ) (cov : List ℕ) → met (find []) i cov ≡ []
+pub met_none : (i : ℕ) (cov : List ℕ) → met (find []) i cov ≡ []
 unfolding met find bind push
-met-none i [] = refl
-met-none i (c ∷ cov) = met-none (i + 1) cov
+met_none i [] = refl
+met_none i (c ∷ cov) = met_none (i + 1) cov
 
 module _ (k v : ℕ) (g : List (ℕ × ℕ)) where
-  pub entry-below : (i : ℕ) (cov : List ℕ) → All (λ c. k < c) cov → met (find ((k, v) ∷ g)) i cov ≡ met (find g) i cov
+  pub entry_below : (i : ℕ) (cov : List ℕ) → All (λ c. k < c) cov → met (find ((k, v) ∷ g)) i cov ≡ met (find g) i cov
   unfolding met find
-  entry-below i [] h = refl
-  entry-below i (c ∷ cov) h = rw (ne_eqb k c (omega (arith, h.0))) (ap (push (bind (find g c) (λ n. some (i, n)))) (entry-below (i + 1) cov h.1))
+  entry_below i [] h = refl
+  entry_below i (c ∷ cov) h = rw (ne_eqb k c (omega (arith, h.0))) (ap (push (bind (find g c) (λ n. some (i, n)))) (entry_below (i + 1) cov h.1))
 
-  entry-retains : (i low : ℕ) (cov : List ℕ) → Up low cov → length (met (find ((k, v) ∷ g)) i cov) ≤ suc (length (met (find g) i cov))
+  entry_retains : (i low : ℕ) (cov : List ℕ) → Up low cov → length (met (find ((k, v) ∷ g)) i cov) ≤ suc (length (met (find g) i cov))
   unfolding met find push bind
-  entry-retains i low [] u = omega arith
-  entry-retains i low (c ∷ cov) u = step (eqb k c) refl (find g c) (entry-retains (i + 1) (c + 1) cov u.1)
+  entry_retains i low [] u = omega arith
+  entry_retains i low (c ∷ cov) u = step (eqb k c) refl (find g c) (entry_retains (i + 1) (c + 1) cov u.1)
     where
       above : eqb k c ≡ true → (l : List ℕ) → All (λ x. c + 1 ≤ x) l → All (λ x. k < x) l
       above e [] h = tt
@@ -104,11 +104,11 @@ module _ (k v : ℕ) (g : List (ℕ × ℕ)) where
 
       step : (b : Bool) → eqb k c ≡ b → (o : Option ℕ) → length (met (find ((k, v) ∷ g)) (i + 1) cov) ≤ suc (length (met (find g) (i + 1) cov))
           → length (push (bind (cond b (some v) o) (λ n. some (i, n))) (met (find ((k, v) ∷ g)) (i + 1) cov)) ≤ suc (length (push (bind o (λ n. some (i, n))) (met (find g) (i + 1) cov)))
-      step true e none h = omega (arith, ap length (entry-below (i + 1) cov (above e cov (up_least (c + 1) cov u.1))))
-      step true e (some n) h = omega (arith, ap length (entry-below (i + 1) cov (above e cov (up_least (c + 1) cov u.1))))
+      step true e none h = omega (arith, ap length (entry_below (i + 1) cov (above e cov (up_least (c + 1) cov u.1))))
+      step true e (some n) h = omega (arith, ap length (entry_below (i + 1) cov (above e cov (up_least (c + 1) cov u.1))))
       step false e none h = h
       step false e (some n) h = omega arith
 
-pub met-few : (g : List (ℕ × ℕ)) (cov : List ℕ) → Up 0 cov → length (met (find g) 0 cov) ≤ length g
-met-few [] cov u = omega (arith, ap length (met-none 0 cov))
-met-few ((k, v) ∷ g) cov u = omega (arith, entry-retains k v g 0 0 cov u, met-few g cov u)
+pub met_few : (g : List (ℕ × ℕ)) (cov : List ℕ) → Up 0 cov → length (met (find g) 0 cov) ≤ length g
+met_few [] cov u = omega (arith, ap length (met_none 0 cov))
+met_few ((k, v) ∷ g) cov u = omega (arith, entry_retains k v g 0 0 cov u, met_few g cov u)

@@ -1,8 +1,8 @@
 -- What the walks over a coverage and a map ask and answer.
 use Rattle.std.specs.Prelude.{ℕ, ◌+◌, ◌-◌, ◌*◌, ◌/◌, ◌≤◌, ◌<◌, ◌≡◌, true, cond, List, [], ◌∷◌, length, ltb}
 use Rattle.meaning.specs.Words.{word, words, entries, triples, keys, ascends}
-use Rattle.meaning.specs.Maps.{mapEntries}
-use Rattle.meaning.specs.Parts.{rangesAscend, rangesCount, coverageSound}
+use Rattle.meaning.specs.Maps.{map_entries}
+use Rattle.meaning.specs.Parts.{ranges_ascend, ranges_count, coverage_sound}
 use Rattle.cell_maps.specs.Cells.{folded, Inside, Kept}
 use Rattle.cell_maps.specs.declared.Map.{Map}
 use Rattle.area.specs.Part.{notes}
@@ -32,7 +32,7 @@ past z ((o, n) ∷ es) = cond (ltb z o) ((o, n) ∷ es) (past z es)
 -- what a walk over the entries in a range asks: they ascend from the range's first glyph on, and there are cells for them
 pub record MeetsRange (m : List ℕ) (from first index : ℕ) (t : List ℕ) (to : ℕ) : Type 0 where
   pub start : from ≤ length m / 4
-  pub ascend : ascends (keys (mapEntries m)) ≡ true
+  pub ascend : ascends (keys (map_entries m)) ≡ true
   pub low : from < length m / 4 → first ≤ word m (4 * from)
   pub small : index ≤ first
   pub room : to + (length m / 4 - from) ≤ length t
@@ -47,9 +47,9 @@ pub record InRange (m : List ℕ) (from first last index : ℕ) (t₀ : List ℕ
 -- what a walk over ranges asks: they lie inside, ascend, and have their indices, the old numbers of the map ascend, and there are cells for them
 pub record MeetsRanges (s : List ℕ) (at n : ℕ) (m t : List ℕ) (to : ℕ) : Type 0 where
   pub inside : at + 6 * n ≤ length s
-  pub ranges : rangesAscend 0 (triples s at n) ≡ true
-  pub indices : rangesCount 0 (triples s at n) ≡ true
-  pub ascend : ascends (keys (mapEntries m)) ≡ true
+  pub ranges : ranges_ascend 0 (triples s at n) ≡ true
+  pub indices : ranges_count 0 (triples s at n) ≡ true
+  pub ascend : ascends (keys (map_entries m)) ≡ true
   pub room : to + length m / 4 ≤ length t
 
 -- what a walk over listed glyphs asks: they lie inside, the map's cells lie before `to`, and from there on is one cell more than glyphs that are met
@@ -62,6 +62,6 @@ pub record MeetsList (s : List ℕ) (at n : ℕ) (m : Map) (t : List ℕ) (to : 
 
 -- what a walk over the entries asks: the coverage is sound, the old numbers of the map ascend, and there are cells for them
 pub record MeetsEntries (s : List ℕ) (at : ℕ) (m t : List ℕ) (to : ℕ) : Type 0 where
-  pub sound : coverageSound s at ≡ true
-  pub ascend : ascends (keys (mapEntries m)) ≡ true
+  pub sound : coverage_sound s at ≡ true
+  pub ascend : ascends (keys (map_entries m)) ≡ true
   pub room : to + length m / 4 ≤ length t

@@ -1,6 +1,6 @@
 // One range of a coverage and a listed glyph map: the entries of the map that lie in the range, noted in cells.
 ghost use Rattle.std.specs.Prelude.{◌≡◌, true, ◌+◌, ◌*◌, ◌/◌, ◌≤◌, ◌<◌, length};
-ghost use Rattle.meaning.specs.Maps.{mapEntries};
+ghost use Rattle.meaning.specs.Maps.{map_entries};
 ghost use Rattle.meaning.specs.Words.{keys, ascends};
 ghost use Rattle.range_meets.specs.Walks.{MeetsRange, InRange, Reached};
 
@@ -9,7 +9,7 @@ use wire::word_inside;
 // The first entry of the map, from the entry `from` on, whose old number is `value` or more; the number of entries if none is.
 // It is mostly close: the search looks at four entries one by one, then it halves.
 pub fn reach(glyphs: &[u8], from: usize, value: usize) -> usize
-    requires { (from ≤ length glyphs.now / 4) × (ascends (keys (mapEntries glyphs.now)) ≡ true) }
+    requires { (from ≤ length glyphs.now / 4) × (ascends (keys (map_entries glyphs.now)) ≡ true) }
     ensures { Reached glyphs.now from value result }
 {
     halving::reach(glyphs, 0, 4, glyphs.len() / 4, from, from + 4, value)

@@ -10,76 +10,76 @@ use lib.ListN.{length, get_or, set}
 use lib.Dec.{eqb}
 use lib.Pow.{pow_mono}
 use borrow.Author.Tests.{eqb-true}
-use Rattle.meaning.specs.Words.{keys, values, member, push, mapSome}
+use Rattle.meaning.specs.Words.{keys, values, member, push, map_some}
 use Rattle.meaning.specs.Parts.{class_of}
-use Rattle.meaning.specs.Cut.{insertUp, heldBy, numbered, classMap, secondMap}
+use Rattle.meaning.specs.Cut.{insert_up, held_by, numbered, class_map, second_map}
 use Rattle.laws.specs.Runs.{Up}
-use Rattle.laws.specs.CutCells.{insert-up, held_up, numbered-length}
-use Rattle.cell_maps.specs.Cells.{rankedMask, Holds, Kept, kept-all, kept_more}
-use Rattle.cell_maps.specs.Laid.{Power, Next, power-even}
+use Rattle.laws.specs.CutCells.{insert_up_lem, held_up, numbered_length}
+use Rattle.cell_maps.specs.Cells.{ranked_mask, Holds, Kept, kept_all, kept_more}
+use Rattle.cell_maps.specs.Laid.{Power, Next, power_even}
 use Rattle.cell_maps.specs.declared.Map.{Map}
 use Rattle.area.specs.Part.{part, news, notes}
 use Rattle.area.specs.Stored.{part_same}
-use Rattle.class_lists.specs.Listed.{classed, holdsZero}
+use Rattle.class_lists.specs.Listed.{classed, holds_zero}
 use Rattle.class_lists.specs.declared.ClassList.{ClassList}
-use Rattle.ranked_maps.specs.Once.{eachOnce, once-up, same-members, insert-member, or-twice, or_swap}
-use Rattle.ranked_maps.specs.Present.{mostCells, present, top-even}
-use Rattle.ranked_maps.specs.Mapped.{Direct, ToMark, Marked, Ranked, Lists, ToMap, Held, withZero, Numbers, Mapped}
+use Rattle.ranked_maps.specs.Once.{each_once, once_up, same_members, insert_member, or_twice, or_swap}
+use Rattle.ranked_maps.specs.Present.{most_cells, present, top_even}
+use Rattle.ranked_maps.specs.Mapped.{Direct, ToMark, Marked, Ranked, Lists, ToMap, Held, with_zero, Numbers, Mapped}
 use Rattle.ranked_maps.specs.declared.ClassMap.{ClassMap}
 use Rattle.ranked_maps.proofs.Direct.{top_mask}
-use Rattle.ranked_maps.proofs.Marking.{cleared-direct, cleared-free, marked-one}
+use Rattle.ranked_maps.proofs.Marking.{cleared_direct, cleared_free, marked_one}
 
 -- the classes of notes
-notes-values : (t : List ℕ) (list n : ℕ) → values (notes t list n) ≡ news t list n
+notes_values : (t : List ℕ) (list n : ℕ) → values (notes t list n) ≡ news t list n
 unfolding part values
-notes-values t list zero = refl
-notes-values t list (suc n) = ap (λ (l : List ℕ). get_or t list 0 % 65536 ∷ l) (notes-values t (list + 1) n)
+notes_values t list zero = refl
+notes_values t list (suc n) = ap (λ (l : List ℕ). get_or t list 0 % 65536 ∷ l) (notes_values t (list + 1) n)
 
 -- The classes that glyphs hold: those that are listed, and class 0 if some glyph holds it.
-in-zero : (x : ℕ) (z : Bool) (l : List ℕ) → member x (withZero z l) ≡ cond z (eqb 0 x || member x l) (member x l)
-in-zero x true l = insert-member x 0 l
-in-zero x false l = refl
+in_zero : (x : ℕ) (z : Bool) (l : List ℕ) → member x (with_zero z l) ≡ cond z (eqb 0 x || member x l) (member x l)
+in_zero x true l = insert_member x 0 l
+in_zero x false l = refl
 
 module _ (cs : List (ℕ × ℕ)) (x : ℕ) where
-  held_in : (g : List (ℕ × ℕ)) → member x (heldBy cs (keys g)) ≡ member x (withZero (holdsZero cs g) (eachOnce (values (classed cs g))))
-  unfolding heldBy keys holdsZero classed mapSome push eachOnce values member
+  held_in : (g : List (ℕ × ℕ)) → member x (held_by cs (keys g)) ≡ member x (with_zero (holds_zero cs g) (each_once (values (classed cs g))))
+  unfolding held_by keys holds_zero classed map_some push each_once values member
   held_in [] = refl
-  held_in (e ∷ g) = insert-member x (class_of cs e.0) (heldBy cs (keys g)) ∙ step (eqb (class_of cs e.0) 0) refl (holdsZero cs g) (held_in g ∙ in-zero x (holdsZero cs g) (eachOnce (values (classed cs g))))
+  held_in (e ∷ g) = insert_member x (class_of cs e.0) (held_by cs (keys g)) ∙ step (eqb (class_of cs e.0) 0) refl (holds_zero cs g) (held_in g ∙ in_zero x (holds_zero cs g) (each_once (values (classed cs g))))
     where
-      step : (b : Bool) → eqb (class_of cs e.0) 0 ≡ b → (z : Bool) → member x (heldBy cs (keys g)) ≡ cond z (eqb 0 x || member x (eachOnce (values (classed cs g)))) (member x (eachOnce (values (classed cs g))))
-          → eqb (class_of cs e.0) x || member x (heldBy cs (keys g)) ≡ member x (withZero (b || z) (eachOnce (values (push (cond b none (some (e.1, class_of cs e.0))) (classed cs g)))))
-      step true q true k = rw (eqb-true (class_of cs e.0) 0 q, k) (sym (in-zero x true (eachOnce (values (classed cs g))) ∙ or-twice (eqb 0 x) (member x (eachOnce (values (classed cs g))))))
-      step true q false k = rw (eqb-true (class_of cs e.0) 0 q, k) (sym (in-zero x true (eachOnce (values (classed cs g)))))
+      step : (b : Bool) → eqb (class_of cs e.0) 0 ≡ b → (z : Bool) → member x (held_by cs (keys g)) ≡ cond z (eqb 0 x || member x (each_once (values (classed cs g)))) (member x (each_once (values (classed cs g))))
+          → eqb (class_of cs e.0) x || member x (held_by cs (keys g)) ≡ member x (with_zero (b || z) (each_once (values (push (cond b none (some (e.1, class_of cs e.0))) (classed cs g)))))
+      step true q true k = rw (eqb-true (class_of cs e.0) 0 q, k) (sym (in_zero x true (each_once (values (classed cs g))) ∙ or_twice (eqb 0 x) (member x (each_once (values (classed cs g))))))
+      step true q false k = rw (eqb-true (class_of cs e.0) 0 q, k) (sym (in_zero x true (each_once (values (classed cs g)))))
       step false q true k =
-          rw k (or_swap (eqb (class_of cs e.0) x) (eqb 0 x) (member x (eachOnce (values (classed cs g))))
-          ∙ ap (λ (b : Bool). eqb 0 x || b) (sym (insert-member x (class_of cs e.0) (eachOnce (values (classed cs g)))))
-          ∙ sym (insert-member x 0 (insertUp (class_of cs e.0) (eachOnce (values (classed cs g))))))
-      step false q false k = rw k (sym (insert-member x (class_of cs e.0) (eachOnce (values (classed cs g)))))
+          rw k (or_swap (eqb (class_of cs e.0) x) (eqb 0 x) (member x (each_once (values (classed cs g))))
+          ∙ ap (λ (b : Bool). eqb 0 x || b) (sym (insert_member x (class_of cs e.0) (each_once (values (classed cs g)))))
+          ∙ sym (insert_member x 0 (insert_up (class_of cs e.0) (each_once (values (classed cs g))))))
+      step false q false k = rw k (sym (insert_member x (class_of cs e.0) (each_once (values (classed cs g)))))
 
-pub zero-up : (z : Bool) (l : List ℕ) → Up 0 l → Up 0 (withZero z l)
-zero-up true l u = insert-up 0 0 l (omega arith) u
-zero-up false l u = u
+pub zero_up : (z : Bool) (l : List ℕ) → Up 0 l → Up 0 (with_zero z l)
+zero_up true l u = insert_up_lem 0 0 l (omega arith) u
+zero_up false l u = u
 
-held-is : (cs g : List (ℕ × ℕ)) → withZero (holdsZero cs g) (eachOnce (values (classed cs g))) ≡ heldBy cs (keys g)
-held-is cs g =
-    same-members 0 0 (withZero (holdsZero cs g) (eachOnce (values (classed cs g)))) (heldBy cs (keys g)) (zero-up (holdsZero cs g) (eachOnce (values (classed cs g))) (once-up (values (classed cs g)))) (held_up cs (keys g))
+held_is : (cs g : List (ℕ × ℕ)) → with_zero (holds_zero cs g) (each_once (values (classed cs g))) ≡ held_by cs (keys g)
+held_is cs g =
+    same_members 0 0 (with_zero (holds_zero cs g) (each_once (values (classed cs g)))) (held_by cs (keys g)) (zero_up (holds_zero cs g) (each_once (values (classed cs g))) (once_up (values (classed cs g)))) (held_up cs (keys g))
     (λ x. sym (held_in cs x g))
 
 -- with class 0 always among them
-twice-zero : (x : ℕ) (z : Bool) (l : List ℕ) → member x (insertUp 0 l) ≡ eqb 0 x || member x (withZero z l)
-twice-zero x true l = insert-member x 0 l ∙ or-twice (eqb 0 x) (member x l) ∙ ap (λ (b : Bool). eqb 0 x || b) (sym (insert-member x 0 l))
-twice-zero x false l = insert-member x 0 l
+twice_zero : (x : ℕ) (z : Bool) (l : List ℕ) → member x (insert_up 0 l) ≡ eqb 0 x || member x (with_zero z l)
+twice_zero x true l = insert_member x 0 l ∙ or_twice (eqb 0 x) (member x l) ∙ ap (λ (b : Bool). eqb 0 x || b) (sym (insert_member x 0 l))
+twice_zero x false l = insert_member x 0 l
 
-pinned-is : (cs g : List (ℕ × ℕ)) → insertUp 0 (eachOnce (values (classed cs g))) ≡ insertUp 0 (heldBy cs (keys g))
-pinned-is cs g =
-    same-members 0 0 (insertUp 0 (eachOnce (values (classed cs g)))) (insertUp 0 (heldBy cs (keys g))) (zero-up true (eachOnce (values (classed cs g))) (once-up (values (classed cs g)))) (zero-up true (heldBy cs (keys g)) (held_up cs (keys g)))
-    (λ x. twice-zero x (holdsZero cs g) (eachOnce (values (classed cs g))) ∙ ap (λ (l : List ℕ). eqb 0 x || member x l) (held-is cs g) ∙ sym (insert-member x 0 (heldBy cs (keys g))))
+pinned_is : (cs g : List (ℕ × ℕ)) → insert_up 0 (each_once (values (classed cs g))) ≡ insert_up 0 (held_by cs (keys g))
+pinned_is cs g =
+    same_members 0 0 (insert_up 0 (each_once (values (classed cs g)))) (insert_up 0 (held_by cs (keys g))) (zero_up true (each_once (values (classed cs g))) (once_up (values (classed cs g)))) (zero_up true (held_by cs (keys g)) (held_up cs (keys g)))
+    (λ x. twice_zero x (holds_zero cs g) (each_once (values (classed cs g))) ∙ ap (λ (l : List ℕ). eqb 0 x || member x l) (held_is cs g) ∙ sym (insert_member x 0 (held_by cs (keys g))))
 
 -- the next power of two of what is at most 4,096 is so, too
-few-power : {n p : ℕ} → Next n p → n ≤ rankedMask → p ≤ rankedMask
-few-power {n} {p} w h = step (dec_lt 12 (suc w.two.exponent))
+few_power : {n p : ℕ} → Next n p → n ≤ ranked_mask → p ≤ ranked_mask
+few_power {n} {p} w h = step (dec_lt 12 (suc w.two.exponent))
   where
-    step : Dec (12 < suc w.two.exponent) → p ≤ rankedMask
+    step : Dec (12 < suc w.two.exponent) → p ≤ ranked_mask
     step (yes l) =
         let g : 2 ^ 13 ≤ 2 ^ suc w.two.exponent = pow_mono l in
         absurd (omega (arith, w.two.power, w.least (omega (arith, w.two.power))))
@@ -88,66 +88,66 @@ few-power {n} {p} w h = step (dec_lt 12 (suc w.two.exponent))
         omega (arith, w.two.power)
 
 -- the n cells from `at` on
-abbrev pub cellsFrom : ℕ → ℕ → Map
-cellsFrom at n = record { at = at; mask = n - 1 }
+abbrev pub cells_from : ℕ → ℕ → Map
+cells_from at n = record { at = at; mask = n - 1 }
 
-module _ {t₀ : List ℕ} {list : ℕ} {l : ClassList} {to p : ℕ} (a : ToMap t₀ list l to × (l.high < rankedMask)) (n : Next (l.high + 1) p) where
+module _ {t₀ : List ℕ} {list : ℕ} {l : ClassList} {to p : ℕ} (a : ToMap t₀ list l to × (l.high < ranked_mask)) (n : Next (l.high + 1) p) where
   abbrev m : Map
-  m = cellsFrom to p
+  m = cells_from to p
 
-  few-cells : p - 1 < mostCells
-  few-cells = omega (arith, few-power n (omega (arith, a.1)))
+  few_cells : p - 1 < most_cells
+  few_cells = omega (arith, few_power n (omega (arith, a.1)))
 
   -- the last of them is not too far
-  pub held-near : to + (p - 1) < 0x2_0000_0000_0000
-  held-near = omega (arith, a.0.near, few-cells)
+  pub held_near : to + (p - 1) < 0x2_0000_0000_0000
+  held_near = omega (arith, a.0.near, few_cells)
 
   -- There are too few cells.
-  pub held-short : length t₀ ≤ to + (p - 1) → Held t₀ t₀ list l to (record { at = to; mask = 0 })
-  held-short h = record {
+  pub held_short : length t₀ ≤ to + (p - 1) → Held t₀ t₀ list l to (record { at = to; mask = 0 })
+  held_short h = record {
     placed = record {
-      kept = kept-all to t₀;
+      kept = kept_all to t₀;
       at = refl;
       few = omega arith;
-      top = omega (arith, top-even (record { at = to; mask = 0 }) refl, a.0.small);
+      top = omega (arith, top_even (record { at = to; mask = 0 }) refl, a.0.small);
       inside = λ e. absurd (e refl);
-      room = λ r z. omega (arith, few-cells);
+      room = λ r z. omega (arith, few_cells);
     };
     marked = λ e. absurd (e refl);
   }
 
   module _ (h : to + (p - 1) < length t₀) where
-    odd-mask : (p - 1) % 2 ≡ 1
-    odd-mask = let e = power-even n.two in omega (arith, e.0, e.1)
+    odd_mask : (p - 1) % 2 ≡ 1
+    odd_mask = let e = power_even n.two in omega (arith, e.0, e.1)
 
-    power-mask : Power (p - 1 + 1)
-    power-mask =
-        let e : p - 1 + 1 ≡ p = omega (arith, (power-even n.two).1) in
+    power_mask : Power (p - 1 + 1)
+    power_mask =
+        let e : p - 1 + 1 ≡ p = omega (arith, (power_even n.two).1) in
         rw e n.two
 
     module _ {t₁ : List ℕ} (c : Holds t₁ m [] × Kept to t₀ t₁) where
       low : (j : ℕ) → j < l.len → get_or t₁ (list + j) 0 % 65536 ≤ p - 1
       low j b = omega (arith, ap (λ (w : ℕ). w % 65536) (c.1.same (list + j) (omega (arith, a.0.place))), a.0.low (omega (arith, a.0.place)) j b, n.enough)
 
-      pub held-ready : ToMark t₁ m list l.len
-      held-ready =
-          let d = cleared-direct c.0 power-mask (omega (arith, few-cells)) in
-          record { direct = d; free = cleared-free c.0 d; place = a.0.place; low = low }
+      pub held_ready : ToMark t₁ m list l.len
+      held_ready =
+          let d = cleared_direct c.0 power_mask (omega (arith, few_cells)) in
+          record { direct = d; free = cleared_free c.0 d; place = a.0.place; low = low }
 
       -- the marked classes are those that are listed
-      pub held-done : {t₂ : List ℕ} → Marked t₁ t₂ m (news t₁ list l.len) → Held t₀ t₂ list l to m
-      held-done {t₂} k = record {
+      pub held_done : {t₂ : List ℕ} → Marked t₁ t₂ m (news t₁ list l.len) → Held t₀ t₂ list l to m
+      held_done {t₂} k = record {
         placed = record {
           kept = kept_more c.1 k.kept;
           at = refl;
-          few = few-cells;
+          few = few_cells;
           top = omega (arith, top_mask k.direct, n.enough);
           inside = λ z. k.direct.inside;
-          room = λ r z. omega (arith, odd-mask);
+          room = λ r z. omega (arith, odd_mask);
         };
         marked = λ z. record {
           direct = k.direct;
-          classes = k.classes ∙ ap eachOnce stand;
+          classes = k.classes ∙ ap each_once stand;
           kept = kept_more c.1 k.kept;
         };
       }
@@ -157,37 +157,37 @@ module _ {t₀ : List ℕ} {list : ℕ} {l : ClassList} {to p : ℕ} (a : ToMap 
 
 -- From cells with an entry for each listed class to their ranks.
 module _ {t₀ t₁ : List ℕ} {list : ℕ} {l : ClassList} {to : ℕ} {m : Map} (h : Held t₀ t₁ list l to m) where
-  pub listed-few : (z : Bool) → m.mask ≡ 0 → Numbers z t₀ t₁ list l to (record { map = m; count = 0 })
-  listed-few z e = record { placed = h.placed; numbers = λ n. absurd (n e) }
+  pub listed_few : (z : Bool) → m.mask ≡ 0 → Numbers z t₀ t₁ list l to (record { map = m; count = 0 })
+  listed_few z e = record { placed = h.placed; numbers = λ n. absurd (n e) }
 
   module _ (n : m.mask ≡ 0 → ⊥) where
-    pub marks-direct : Direct t₁ m
-    marks-direct = (h.marked n).direct
+    pub marks_direct : Direct t₁ m
+    marks_direct = (h.marked n).direct
 
     abbrev cs : List ℕ
     cs = news t₀ list l.len
 
     -- an entry for class 0, if it is among the classes
-    marked-zero : (z : Bool) → Marked t₀ (cond z (set t₁ m.at 0) t₁) m (cond z (0 ∷ cs) cs)
-    marked-zero true =
+    marked_zero : (z : Bool) → Marked t₀ (cond z (set t₁ m.at 0) t₁) m (cond z (0 ∷ cs) cs)
+    marked_zero true =
         let e : m.at + 0 ≡ m.at = omega arith in
-        rw e at (marked-one 0 (h.marked n) (omega arith))
-    marked-zero false = h.marked n
+        rw e at (marked_one 0 (h.marked n) (omega arith))
+    marked_zero false = h.marked n
 
-    once-zero : (z : Bool) → eachOnce (cond z (0 ∷ cs) cs) ≡ withZero z (eachOnce cs)
-    unfolding eachOnce
-    once-zero true = refl
-    once-zero false = refl
+    once_zero : (z : Bool) → each_once (cond z (0 ∷ cs) cs) ≡ with_zero z (each_once cs)
+    unfolding each_once
+    once_zero true = refl
+    once_zero false = refl
 
     module _ {t₂ : List ℕ} (z : Bool) (e : t₂ ≡ cond z (set t₁ m.at 0) t₁) where
       marked : Marked t₀ t₂ m (cond z (0 ∷ cs) cs)
-      marked = rw e (marked-zero z)
+      marked = rw e (marked_zero z)
 
-      pub zero-direct : Direct t₂ m
-      zero-direct = marked.direct
+      pub zero_direct : Direct t₂ m
+      zero_direct = marked.direct
 
-      pub listed-done : {t : List ℕ} {r : ℕ} → Ranked t₂ t m r → Numbers z t₀ t list l to (record { map = m; count = r })
-      listed-done {t} {r} q = record {
+      pub listed_done : {t : List ℕ} {r : ℕ} → Ranked t₂ t m r → Numbers z t₀ t list l to (record { map = m; count = r })
+      listed_done {t} {r} q = record {
         placed = record {
           kept = rw h.placed.at at (kept_more marked.kept q.kept);
           at = h.placed.at;
@@ -199,32 +199,32 @@ module _ {t₀ t₁ : List ℕ} {list : ℕ} {l : ClassList} {to : ℕ} {m : Map
         numbers = λ y. record {
           holds = holds;
           above = λ x a. sym (holds.answers x) ∙ q.direct.above x (omega (arith, top_mask q.direct));
-          count = q.count ∙ ap length held ∙ sym (numbered-length 0 (withZero z (eachOnce cs)));
+          count = q.count ∙ ap length held ∙ sym (numbered_length 0 (with_zero z (each_once cs)));
         };
       }
         where
-          held : present t₂ m ≡ withZero z (eachOnce cs)
-          held = marked.classes ∙ once-zero z
+          held : present t₂ m ≡ with_zero z (each_once cs)
+          held = marked.classes ∙ once_zero z
 
-          holds : Holds t m (numbered 0 (withZero z (eachOnce cs)))
+          holds : Holds t m (numbered 0 (with_zero z (each_once cs)))
           holds = rw held at q.holds
 
 -- The listed classes are those of the glyphs, if not 0.
 module _ {cs g : List (ℕ × ℕ)} {t : List ℕ} {list n : ℕ} (o : Lists cs g t list n) where
-  listed-classes : news t list n ≡ values (classed cs g)
-  listed-classes = sym (notes-values t list n) ∙ ap values o.each
+  listed_classes : news t list n ≡ values (classed cs g)
+  listed_classes = sym (notes_values t list n) ∙ ap values o.each
 
-  first-map : {z : Bool} → z ≡ holdsZero cs g → numbered 0 (withZero z (eachOnce (news t list n))) ≡ classMap g cs
-  unfolding classMap
-  first-map e = ap (numbered 0) (rw (e, listed-classes) (held-is cs g))
+  first_map : {z : Bool} → z ≡ holds_zero cs g → numbered 0 (with_zero z (each_once (news t list n))) ≡ class_map g cs
+  unfolding class_map
+  first_map e = ap (numbered 0) (rw (e, listed_classes) (held_is cs g))
 
-  second-map : numbered 0 (insertUp 0 (eachOnce (news t list n))) ≡ secondMap g cs
-  unfolding secondMap
-  second-map = ap (numbered 0) (rw listed-classes (pinned-is cs g))
+  second_map_lem : numbered 0 (insert_up 0 (each_once (news t list n))) ≡ second_map g cs
+  unfolding second_map
+  second_map_lem = ap (numbered 0) (rw listed_classes (pinned_is cs g))
 
 module _ {t₀ t : List ℕ} {list : ℕ} {l : ClassList} {to : ℕ} {r : ClassMap} where
-  pub class-mapped : Numbers l.zero t₀ t list l to r → Mapped classMap t₀ t list l to r
-  class-mapped k = record { placed = k.placed; mapped = λ n cs g o z. rw (first-map o z) at (k.numbers n) }
+  pub class_mapped : Numbers l.zero t₀ t list l to r → Mapped class_map t₀ t list l to r
+  class_mapped k = record { placed = k.placed; mapped = λ n cs g o z. rw (first_map o z) at (k.numbers n) }
 
-  pub pinned-mapped : Numbers true t₀ t list l to r → Mapped secondMap t₀ t list l to r
-  pinned-mapped k = record { placed = k.placed; mapped = λ n cs g o z. rw (second-map o) at (k.numbers n) }
+  pub pinned_mapped : Numbers true t₀ t list l to r → Mapped second_map t₀ t list l to r
+  pinned_mapped k = record { placed = k.placed; mapped = λ n cs g o z. rw (second_map_lem o) at (k.numbers n) }

@@ -10,9 +10,9 @@ use borrow.Author.Tests.{eqb-true, eqb-false}
 use Rattle.bits.specs.Bits.{marked, Put}
 use Rattle.cell_maps.specs.Cells.{Kept}
 
-pub or-none : (a : Bool) → a || false ≡ a
-or-none true = refl
-or-none false = refl
+pub or_none : (a : Bool) → a || false ≡ a
+or_none true = refl
+or_none false = refl
 
 -- One bit more, where there is a cell for it.
 pub put_one : {at c : ℕ} {t u : List ℕ} → Put at c t u → (x : ℕ) → at + x / 32 < length t → marked u at x ≡ eqb c x || marked t at x
@@ -24,5 +24,5 @@ put_one {at} {c} {t} {u} p x h = step (eqb c x) refl
         ap (marked u at) (sym f) ∙ p.own (rw f h)
     step false e = p.others x (λ q. eqb-false c x e (sym q))
 
-pub put-kept : {at c : ℕ} {t u : List ℕ} → Put at c t u → Kept at t u
-put-kept p = record { size = p.size; same = λ i h. p.cells i (λ e. omega arith) }
+pub put_kept : {at c : ℕ} {t u : List ℕ} → Put at c t u → Kept at t u
+put_kept p = record { size = p.size; same = λ i h. p.cells i (λ e. omega arith) }

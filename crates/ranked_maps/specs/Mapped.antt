@@ -4,24 +4,24 @@ use Rattle.std.proofs.Common.{ap, ◌∙◌, arith}
 use Rattle.std.proofs.Math.Option
 use Rattle.std.proofs.Math.Option.{none, some}
 use Rattle.meaning.specs.Words.{ascends, keys, values, find, member}
-use Rattle.meaning.specs.Cut.{insertUp, heldBy, numbered, classMap, classMap?, classesUnder, newClasses, secondMap}
+use Rattle.meaning.specs.Cut.{insert_up, held_by, numbered, class_map, class_map?, classes_under, new_classes, second_map}
 use Rattle.laws.specs.Runs.{Up}
 use Rattle.laws.specs.Stands.{All}
-use Rattle.laws.specs.CutCells.{insert-up, held_up, numbered-length, find-low}
-use Rattle.laws.specs.ClassesLeft.{new-classes-ascend}
+use Rattle.laws.specs.CutCells.{insert_up_lem, held_up, numbered_length, find_low}
+use Rattle.laws.specs.ClassesLeft.{new_classes_ascend}
 use Rattle.bits.specs.Bits.{marked}
-use Rattle.ranks.specs.Ranks.{markCells}
+use Rattle.ranks.specs.Ranks.{mark_cells}
 use Rattle.cell_maps.specs.Cells.{folded, Inside, Holds, Kept, holds_kept}
 use Rattle.cell_maps.specs.Laid.{Power}
 use Rattle.cell_maps.specs.declared.Map.{Map}
 use Rattle.area.specs.Part.{part, news, notes}
 use Rattle.area.specs.Stored.{part_same}
-use Rattle.class_stretches.specs.Tables.{table_at, classesAt}
+use Rattle.class_stretches.specs.Tables.{table_at, classes_at}
 use Rattle.class_lists.specs.Elsewhere.{Elsewhere}
-use Rattle.class_lists.specs.Listed.{classed, holdsZero, Listed}
+use Rattle.class_lists.specs.Listed.{classed, holds_zero, Listed}
 use Rattle.class_lists.specs.declared.ClassList.{ClassList}
-use Rattle.ranked_maps.specs.Once.{eachOnce}
-use Rattle.ranked_maps.specs.Present.{mostCells, top_of, present, present-held}
+use Rattle.ranked_maps.specs.Once.{each_once}
+use Rattle.ranked_maps.specs.Present.{most_cells, top_of, present, present_held}
 use Rattle.ranked_maps.specs.declared.ClassMap.{ClassMap}
 
 -- The cells of m lie inside, a power of two of them, and answer nothing to a number that is above the mask: each class has a cell of its own.
@@ -41,7 +41,7 @@ pub record ToMark (t : List ℕ) (m : Map) (list g : ℕ) : Type 0 where
 -- The cells of m have entries for just these classes, and the cells before them are as before.
 pub record Marked (t₀ t : List ℕ) (m : Map) (cs : List ℕ) : Type 0 where
   pub direct : Direct t m
-  pub classes : present t m ≡ eachOnce cs
+  pub classes : present t m ≡ each_once cs
   pub kept : Kept m.at t₀ t
 
 -- The cells of m hold the rank of each class that had an entry there, r is how many these are, and the cells before them are as before.
@@ -66,10 +66,10 @@ pub record ToMap (t : List ℕ) (list : ℕ) (l : ClassList) (to : ℕ) : Type 0
 pub record Placed (t₀ t : List ℕ) (high to : ℕ) (m : Map) : Type 0 where
   pub kept : Kept to t₀ t
   pub at : m.at ≡ to
-  pub few : m.mask < mostCells
+  pub few : m.mask < most_cells
   pub top : high ≤ top_of m
   pub inside : (m.mask ≡ 0 → ⊥) → Inside t m
-  pub room : to + mostCells ≤ length t₀ → m.mask ≡ 0 → ⊥
+  pub room : to + most_cells ≤ length t₀ → m.mask ≡ 0 → ⊥
 
 -- What `held_map` answers: such cells, with entries for just the classes that are listed.
 pub record Held (t₀ t : List ℕ) (list : ℕ) (l : ClassList) (to : ℕ) (m : Map) : Type 0 where
@@ -80,7 +80,7 @@ pub record Held (t₀ t : List ℕ) (list : ℕ) (l : ClassList) (to : ℕ) (m :
 pub record ToPut (t : List ℕ) (list n marks : ℕ) : Type 0 where
   pub place : list + n ≤ marks
   pub near : marks < 0x1_0000_0000_0000
-  pub inside : marks + markCells ≤ length t
+  pub inside : marks + mark_cells ≤ length t
 
 -- Just these classes have marks besides, and the cells before the marks are as before.
 pub record PutToo (t₀ t : List ℕ) (marks : ℕ) (cs : List ℕ) : Type 0 where
@@ -94,47 +94,47 @@ pub record Classes (es : List (ℕ × ℕ)) (t : List ℕ) (r : ClassMap) : Type
   pub count : r.count ≡ length es
 
 -- classes with class 0 among them, if z says so
-abbrev pub withZero : Bool → List ℕ → List ℕ
-withZero z l = cond z (insertUp 0 l) l
+abbrev pub with_zero : Bool → List ℕ → List ℕ
+with_zero z l = cond z (insert_up 0 l) l
 
 -- What `direct_map`, `ranked_map` and `listed_map` answer: the map of the classes that are listed, with class 0 if z says so.
 pub record Numbers (z : Bool) (t₀ t : List ℕ) (list : ℕ) (l : ClassList) (to : ℕ) (r : ClassMap) : Type 0 where
   pub placed : Placed t₀ t l.high to r.map
-  pub numbers : (r.map.mask ≡ 0 → ⊥) → Classes (numbered 0 (withZero z (eachOnce (news t₀ list l.len)))) t r
+  pub numbers : (r.map.mask ≡ 0 → ⊥) → Classes (numbered 0 (with_zero z (each_once (news t₀ list l.len)))) t r
 
 -- What `class_map` and `pinned_map` answer: the map that is `made` of a glyph map and a class table, if the classes of its glyphs are those that are listed.
 pub record Mapped (made : List (ℕ × ℕ) → List (ℕ × ℕ) → List (ℕ × ℕ)) (t₀ t : List ℕ) (list : ℕ) (l : ClassList) (to : ℕ) (r : ClassMap) : Type 0 where
   pub placed : Placed t₀ t l.high to r.map
-  pub mapped : (r.map.mask ≡ 0 → ⊥) → (cs g : List (ℕ × ℕ)) → Lists cs g t₀ list l.len → l.zero ≡ holdsZero cs g → Classes (made g cs) t r
+  pub mapped : (r.map.mask ≡ 0 → ⊥) → (cs g : List (ℕ × ℕ)) → Lists cs g t₀ list l.len → l.zero ≡ holds_zero cs g → Classes (made g cs) t r
 
 -- The r cells from `list` on are the entries of the new class table under the map of classes that m holds, in which class 0 has no new number other than 0, if the classes were listed in the n cells from there on; the cells elsewhere are as before.
 pub record Entries (t₀ t : List ℕ) (list n : ℕ) (m : Map) (r : ℕ) : Type 0 where
   pub few : r ≤ n
   pub elsewhere : Elsewhere list (list + n) t₀ t
-  pub entries : (cs g es : List (ℕ × ℕ)) → Lists cs g t₀ list n → Holds t₀ m es → Option.get_or (find es 0) 0 ≡ 0 → notes t list r ≡ classesUnder es g cs
+  pub entries : (cs g es : List (ℕ × ℕ)) → Lists cs g t₀ list n → Holds t₀ m es → Option.get_or (find es 0) 0 ≡ 0 → notes t list r ≡ classes_under es g cs
 
 -- what holds of all notes holds of each cell
-notes-each : (b : ℕ) (t : List ℕ) (list n : ℕ) → All {A = ℕ × ℕ} (λ e. e.1 ≤ b) (notes t list n) → (j : ℕ) → j < n → get_or t (list + j) 0 % 65536 ≤ b
+notes_each : (b : ℕ) (t : List ℕ) (list n : ℕ) → All {A = ℕ × ℕ} (λ e. e.1 ≤ b) (notes t list n) → (j : ℕ) → j < n → get_or t (list + j) 0 % 65536 ≤ b
 unfolding part
-notes-each b t list zero a j h = absurd (omega arith)
-notes-each b t list (suc n) a zero h =
+notes_each b t list zero a j h = absurd (omega arith)
+notes_each b t list (suc n) a zero h =
     let e : list + 0 ≡ list = omega arith in
     rw e a.0
-notes-each b t list (suc n) a (suc j) h =
+notes_each b t list (suc n) a (suc j) h =
     let e : list + suc j ≡ list + 1 + j = omega arith in
-    rw e (notes-each b t (list + 1) n a.1 j (omega arith))
+    rw e (notes_each b t (list + 1) n a.1 j (omega arith))
 
 -- A list that was just made.
 module _ {cs g : List (ℕ × ℕ)} {t₀ t : List ℕ} {list : ℕ} {l : ClassList} (o : Listed cs g t₀ t list l) where
-  pub lists-made : list + l.len ≤ length t → Lists cs g t list l.len
-  lists-made h = record { each = o.cells (omega (arith, o.kept.size)) }
+  pub lists_made : list + l.len ≤ length t → Lists cs g t list l.len
+  lists_made h = record { each = o.cells (omega (arith, o.kept.size)) }
 
-  pub may-map : {to : ℕ} → list + l.len ≤ to → to < 0x1_0000_0000_0000 → ToMap t list l to
-  may-map p n = record {
+  pub may_map : {to : ℕ} → list + l.len ≤ to → to < 0x1_0000_0000_0000 → ToMap t list l to
+  may_map p n = record {
     place = p;
     near = n;
     small = o.small;
-    low = λ h j a. notes-each l.high t list l.len (rw (lists-made h).each o.most) j a;
+    low = λ h j a. notes_each l.high t list l.len (rw (lists_made h).each o.most) j a;
   }
 
 -- class 0 has no other new number in either map
@@ -145,40 +145,40 @@ zero_rank (c ∷ l) u = step (eqb c 0) refl
   where
     step : (b : Bool) → eqb c 0 ≡ b → Option.get_or (cond b (some 0) (find (numbered 1 l) 0)) 0 ≡ 0
     step true e = refl
-    step false e = rw (find-low 1 0 l (c + 1) u.1 (omega arith))
+    step false e = rw (find_low 1 0 l (c + 1) u.1 (omega arith))
 
-pub zero-first : (g cs : List (ℕ × ℕ)) → Option.get_or (find (classMap g cs) 0) 0 ≡ 0
-unfolding classMap
-zero-first g cs = zero_rank (heldBy cs (keys g)) (held_up cs (keys g))
+pub zero_first : (g cs : List (ℕ × ℕ)) → Option.get_or (find (class_map g cs) 0) 0 ≡ 0
+unfolding class_map
+zero_first g cs = zero_rank (held_by cs (keys g)) (held_up cs (keys g))
 
-pub zero-second : (g cs : List (ℕ × ℕ)) → Option.get_or (find (secondMap g cs) 0) 0 ≡ 0
-unfolding secondMap
-zero-second g cs = zero_rank (insertUp 0 (heldBy cs (keys g))) (insert-up 0 0 (heldBy cs (keys g)) (omega arith) (held_up cs (keys g)))
+pub zero_second : (g cs : List (ℕ × ℕ)) → Option.get_or (find (second_map g cs) 0) 0 ≡ 0
+unfolding second_map
+zero_second g cs = zero_rank (insert_up 0 (held_by cs (keys g))) (insert_up_lem 0 0 (held_by cs (keys g)) (omega arith) (held_up cs (keys g)))
 
 -- a class table that may be null has this class map
-pub holds-null : (g : List (ℕ × ℕ)) (src : List ℕ) (at : ℕ) {t : List ℕ} {m : Map} → Holds t m (classMap g (classesAt src at)) → Holds t m (classMap? g (table_at src at))
-unfolding classMap?
-holds-null g src at h = h
+pub holds_null : (g : List (ℕ × ℕ)) (src : List ℕ) (at : ℕ) {t : List ℕ} {m : Map} → Holds t m (class_map g (classes_at src at)) → Holds t m (class_map? g (table_at src at))
+unfolding class_map?
+holds_null g src at h = h
 
 -- the list stands where its cells do
-pub lists-kept : {cs g : List (ℕ × ℕ)} {t u : List ℕ} {list n at : ℕ} → Lists cs g t list n → Kept at t u → list + n ≤ at → Lists cs g u list n
-lists-kept {t = t} {u} {list} {n} l k h = record { each = ap (map (λ c. (c / 65536, c % 65536))) (part_same u t list n (λ j a b. k.same j (omega arith))) ∙ l.each }
+pub lists_kept : {cs g : List (ℕ × ℕ)} {t u : List ℕ} {list n at : ℕ} → Lists cs g t list n → Kept at t u → list + n ≤ at → Lists cs g u list n
+lists_kept {t = t} {u} {list} {n} l k h = record { each = ap (map (λ c. (c / 65536, c % 65536))) (part_same u t list n (λ j a b. k.same j (omega arith))) ∙ l.each }
 
 -- the class map stands where only cells behind it change
-pub classes-kept : {es : List (ℕ × ℕ)} {t u : List ℕ} {at : ℕ} {r : ClassMap} → Classes es t r → Kept at t u → r.map.at + r.map.mask < at → Classes es u r
-classes-kept c k h = record { holds = holds_kept k h c.holds; above = c.above; count = c.count }
+pub classes_kept : {es : List (ℕ × ℕ)} {t u : List ℕ} {at : ℕ} {r : ClassMap} → Classes es t r → Kept at t u → r.map.at + r.map.mask < at → Classes es u r
+classes_kept c k h = record { holds = holds_kept k h c.holds; above = c.above; count = c.count }
 
 -- which classes survive, and how many
-module _ (g cs : List (ℕ × ℕ)) {t : List ℕ} {r : ClassMap} (c : Classes (classMap g cs) t r) where
-  pub classes-held : present t r.map ≡ heldBy cs (keys g)
-  classes-held = present-held g cs c.holds c.above
+module _ (g cs : List (ℕ × ℕ)) {t : List ℕ} {r : ClassMap} (c : Classes (class_map g cs) t r) where
+  pub classes_held : present t r.map ≡ held_by cs (keys g)
+  classes_held = present_held g cs c.holds c.above
 
-  pub classes-count : r.count ≡ length (heldBy cs (keys g))
-  unfolding classMap
-  classes-count = c.count ∙ numbered-length 0 (heldBy cs (keys g))
+  pub classes_count : r.count ≡ length (held_by cs (keys g))
+  unfolding class_map
+  classes_count = c.count ∙ numbered_length 0 (held_by cs (keys g))
 
 -- the entries of the new class table may be written: their glyphs ascend
-pub entries-ascend : {cs g : List (ℕ × ℕ)} {t₀ t : List ℕ} {list n : ℕ} {m : Map} {r : ℕ} → Entries t₀ t list n m r → Lists cs g t₀ list n
-    → Holds t₀ m (classMap g cs) → ascends (values g) ≡ true → ascends (keys (notes t list r)) ≡ true
-unfolding newClasses
-entries-ascend {cs} {g} e l h a = rw (e.entries cs g (classMap g cs) l h (zero-first g cs)) (new-classes-ascend g cs a)
+pub entries_ascend : {cs g : List (ℕ × ℕ)} {t₀ t : List ℕ} {list n : ℕ} {m : Map} {r : ℕ} → Entries t₀ t list n m r → Lists cs g t₀ list n
+    → Holds t₀ m (class_map g cs) → ascends (values g) ≡ true → ascends (keys (notes t list r)) ≡ true
+unfolding new_classes
+entries_ascend {cs} {g} e l h a = rw (e.entries cs g (class_map g cs) l h (zero_first g cs)) (new_classes_ascend g cs a)

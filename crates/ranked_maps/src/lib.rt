@@ -1,8 +1,8 @@
 // A class map in cells as ranks: marks of the classes that survive, and counts of the marks.
 ghost use Rattle.std.specs.Prelude.{[], ◌+◌, ◌-◌, ◌≤◌, ◌<◌, length};
-ghost use Rattle.ranks.specs.Ranks.{markCells};
+ghost use Rattle.ranks.specs.Ranks.{mark_cells};
 ghost use Rattle.area.specs.Part.{news};
-ghost use Rattle.ranked_maps.specs.Mapped.{ToMap, ToPut, PutToo, withZero, Numbers};
+ghost use Rattle.ranked_maps.specs.Mapped.{ToMap, ToPut, PutToo, with_zero, Numbers};
 
 use bits::{clear_bits, put_bit};
 use cell_maps::{Map, RANKED};
@@ -31,8 +31,8 @@ fn put_listed(t: &mut [u32], list: usize, n: usize, marks: usize)
 
 // A mark for class 0, if it is among the classes.
 fn put_zero(t: &mut [u32], marks: usize, zero: bool)
-    requires { (marks < 0x1_0000_0000_0000) × (marks + markCells ≤ length t.old) }
-    ensures { PutToo t.old t.new marks (withZero zero []) }
+    requires { (marks < 0x1_0000_0000_0000) × (marks + mark_cells ≤ length t.old) }
+    ensures { PutToo t.old t.new marks (with_zero zero []) }
 {
     if zero {
         put_bit(t, marks, 0);

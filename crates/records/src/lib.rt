@@ -1,9 +1,9 @@
 // Records that point past their rule, over the whole source: those of every rule, retained or not.
 ghost use Rattle.std.specs.Prelude.{◌≡◌, true, false, ◌+◌, ◌*◌, ◌≤◌, ◌<◌};
 ghost use Rattle.meaning.specs.Words.{words};
-ghost use Rattle.meaning.specs.Tables.{ruleSet, reaches, classContext, coverContext, context, table};
-ghost use Rattle.meaning.specs.Records.{setsWithin, recordsWithin};
-ghost use Rattle.records.specs.Crowded.{membersAt, crowds};
+ghost use Rattle.meaning.specs.Tables.{rule_set, reaches, class_context, cover_context, context, table};
+ghost use Rattle.meaning.specs.Records.{sets_within, records_within};
+ghost use Rattle.records.specs.Crowded.{members_at, crowds};
 
 use places::MEMBER_MARKS;
 use rules::indexes_below;
@@ -13,7 +13,7 @@ use wire::word_at;
 // How many members the `n` sets have together whose offsets stand from `slot` on: a set's place has their number.
 fn members(src: &[u8], slot: usize, n: usize) -> usize
     requires { (slot < 65536) × (n < 65536) }
-    ensures { (result ≡ membersAt src.now (words src.now slot n)) × (result ≤ 0x1_0000_0000) }
+    ensures { (result ≡ members_at src.now (words src.now slot n)) × (result ≤ 0x1_0000_0000) }
 {
     let mut total = 0;
     let mut i = 0;
@@ -43,7 +43,7 @@ pub fn crowded(src: &[u8], slot: usize, n: usize) -> bool
 // It calls itself, so that the compiler keeps its marks out of its caller's frame: small tables would pay for probing their pages. How often it does, `rounds`, is 0, since slots stand at even places.
 fn shared_within(chained: bool, src: &[u8], slot: usize, n: usize, rounds: usize) -> bool
     requires { (slot < 65536) × (n < 65536) }
-    ensures { result ≡ setsWithin (reaches (ruleSet chained src.now) src.now 0 slot n) }
+    ensures { result ≡ sets_within (reaches (rule_set chained src.now) src.now 0 slot n) }
 {
     if rounds != 0 {
         return shared_within(chained, src, slot, n, rounds - 1);
@@ -55,7 +55,7 @@ fn shared_within(chained: bool, src: &[u8], slot: usize, n: usize, rounds: usize
 // The same of any sets. Marks are made only where rules are shared, since clearing them takes longer than most tables do.
 fn sets_within(chained: bool, src: &[u8], slot: usize, n: usize) -> bool
     requires { (slot < 65536) × (n < 65536) }
-    ensures { result ≡ setsWithin (reaches (ruleSet chained src.now) src.now 0 slot n) }
+    ensures { result ≡ sets_within (reaches (rule_set chained src.now) src.now 0 slot n) }
 {
     if crowded(src, slot, n) {
         return shared_within(chained, src, slot, n, slot % 2);
@@ -66,7 +66,7 @@ fn sets_within(chained: bool, src: &[u8], slot: usize, n: usize) -> bool
 
 // Whether no record of a plain context of format 3 points past its input.
 fn plain_covers_within(src: &[u8]) -> bool
-    ensures { result ≡ recordsWithin (coverContext false src.now) }
+    ensures { result ≡ records_within (cover_context false src.now) }
 {
     let n = word_at(src, 2);
     indexes_below(src, 6 + 2 * n, word_at(src, 4), n)
@@ -74,7 +74,7 @@ fn plain_covers_within(src: &[u8]) -> bool
 
 // Whether no record of a chained context of format 3 points past its input.
 fn chained_covers_within(src: &[u8]) -> bool
-    ensures { result ≡ recordsWithin (coverContext true src.now) }
+    ensures { result ≡ records_within (cover_context true src.now) }
 {
     let input = 4 + 2 * word_at(src, 2);
     let n = word_at(src, input);
@@ -85,7 +85,7 @@ fn chained_covers_within(src: &[u8]) -> bool
 
 // The same of format 3, plain or chained.
 fn covers_within(chained: bool, src: &[u8]) -> bool
-    ensures { result ≡ recordsWithin (coverContext chained src.now) }
+    ensures { result ≡ records_within (cover_context chained src.now) }
 {
     if chained {
         return chained_covers_within(src);
@@ -95,7 +95,7 @@ fn covers_within(chained: bool, src: &[u8]) -> bool
 
 // The same of format 2.
 fn by_class_within(chained: bool, src: &[u8]) -> bool
-    ensures { result ≡ recordsWithin (classContext chained src.now) }
+    ensures { result ≡ records_within (class_context chained src.now) }
 {
     if chained {
         return sets_within(true, src, 12, header(src, 10));
@@ -105,7 +105,7 @@ fn by_class_within(chained: bool, src: &[u8]) -> bool
 
 // The same of a context, plain or chained, by its format.
 fn context_within(chained: bool, src: &[u8]) -> bool
-    ensures { result ≡ recordsWithin (context chained src.now) }
+    ensures { result ≡ records_within (context chained src.now) }
 {
     let format = header(src, 0);
     match format {
@@ -117,7 +117,7 @@ fn context_within(chained: bool, src: &[u8]) -> bool
 
 // Whether no record of a source of this kind points past its rule, retained or not: its sequence index is below the count of the rule's input. Only contexts have records.
 pub fn records_within(kind: usize, src: &[u8]) -> bool
-    ensures { result ≡ recordsWithin (table kind src.now) }
+    ensures { result ≡ records_within (table kind src.now) }
 {
     match kind {
         1 => context_within(false, src),

@@ -1,7 +1,7 @@
 -- The answers, as the documents' number, length and buffer.
 use Rattle.std.specs.Prelude.{ℕ, ◌/◌, ◌%◌, ◌≡◌, refl, List}
 use Rattle.meaning.specs.Subset.{Outcome}
-use Rattle.room.specs.Laid.{outcomeOf}
+use Rattle.room.specs.Laid.{outcome_of}
 use Rattle.room.specs.declared.Laid.{Laid}
 use Rattle.room.specs.declared.Laid.TheVariants as laid
 use Rattle.refusals.specs.declared.Answer.{Answer}
@@ -59,7 +59,7 @@ answer_of (laid.NoRoom n) = NoRoom n
 answer_of (laid.Kept n) = Kept n
 
 -- it says the same
-pub same_outcome : (l : Laid) (out : List ℕ) → outcome (answer_of l) out ≡ outcomeOf l out
+pub same_outcome : (l : Laid) (out : List ℕ) → outcome (answer_of l) out ≡ outcome_of l out
 same_outcome laid.Nothing out = refl
 same_outcome laid.TooBig out = refl
 same_outcome (laid.NoRoom n) out = refl

@@ -1,7 +1,7 @@
 // The answers of the call, and the first refusal that applies before the cut, in the written order of documents 01 and 02.
 ghost use Rattle.std.specs.Prelude.{◌≡◌, length, ltb};
-ghost use Rattle.meaning.specs.Maps.{goodForm};
-ghost use Rattle.meaning.specs.Subset.{limit, goodKind, goodPacking};
+ghost use Rattle.meaning.specs.Maps.{good_form};
+ghost use Rattle.meaning.specs.Subset.{limit, good_kind, good_packing};
 ghost use Rattle.refusals.specs.Refusals.{Judges};
 
 use checks::{check, other_format};
@@ -42,7 +42,7 @@ pub enum Judged {
 
 // Whether the kind is 1 context, 2 chained, 3 ligature, 4 pair or 5 single substitution.
 fn good_kind(kind: usize) -> bool
-    ensures { result ≡ goodKind kind }
+    ensures { result ≡ good_kind kind }
 {
     if kind < 1 {
         return false;
@@ -52,7 +52,7 @@ fn good_kind(kind: usize) -> bool
 
 // Whether glyph maps have a form with this mark: 4 pairs, or 6 runs.
 fn good_form(form: usize) -> bool
-    ensures { result ≡ goodForm form }
+    ensures { result ≡ good_form form }
 {
     if form == 4 {
         return true;
@@ -62,7 +62,7 @@ fn good_form(form: usize) -> bool
 
 // Whether there is a layout with this mark: 0 plain, or 1 packed.
 fn good_layout(layout: usize) -> bool
-    ensures { result ≡ goodPacking layout }
+    ensures { result ≡ good_packing layout }
 {
     layout <= 1
 }

@@ -4,38 +4,38 @@ use Rattle.std.proofs.Math.Option.{Option, none, some}
 use Rattle.std.proofs.Common.{arith, leb-false}
 use Rattle.std.proofs.lemmas.List.Edits.{sets}
 use Rattle.meaning.specs.Words.{flat, threes}
-use Rattle.meaning.specs.Maps.{glyphEntries}
-use Rattle.meaning.specs.Layout.{runs, indexed, coverageWords, wordsFit}
-use Rattle.laws.specs.Stands.{threes-length}
-use Rattle.known_blocks.specs.Shared.{offsetsIn, blocksIn}
-use Rattle.known_blocks.specs.Book.{bookCells, packs}
-use Rattle.class_spots.specs.Sets.{slotsAt}
+use Rattle.meaning.specs.Maps.{glyph_entries}
+use Rattle.meaning.specs.Layout.{runs, indexed, coverage_words, words_fit}
+use Rattle.laws.specs.Stands.{threes_length}
+use Rattle.known_blocks.specs.Shared.{offsets_in, blocks_in}
+use Rattle.known_blocks.specs.Book.{book_cells, packs}
+use Rattle.class_spots.specs.Sets.{slots_at}
 use Rattle.class_spots.specs.Slots.{Noted}
 use Rattle.class_spots.specs.Placing.{Gathered, TurnIn}
 use Rattle.class_spots.specs.declared.Turn.{Turn}
-use Rattle.laws.specs.Runs.{indexed-length}
+use Rattle.laws.specs.Runs.{indexed_length}
 use Rattle.area.specs.Extends.{Keeps, Extends}
 use Rattle.area.specs.Part.{news}
 use Rattle.glyph_runs.specs.Runs.{GlyphMap}
-use Rattle.remade_classes.specs.Made.{newTable, OldIn}
+use Rattle.remade_classes.specs.Made.{new_table, OldIn}
 use Rattle.remade_classes.specs.declared.Tail.{Tail}
 
 -- the blocks of the new class tables: those of backtrack, input and lookahead, or of the input alone
-abbrev pub tableBlocks : Bool → List ℕ → List ℕ → Tail → List (Option (List ℕ))
-tableBlocks false s glyphs r = newTable (glyphEntries r.form glyphs) s r.input.at ∷ []
-tableBlocks true s glyphs r =
-    newTable (glyphEntries r.form glyphs) s r.back.at ∷ newTable (glyphEntries r.form glyphs) s r.input.at ∷ newTable (glyphEntries r.form glyphs) s r.ahead.at ∷ []
+abbrev pub table_blocks : Bool → List ℕ → List ℕ → Tail → List (Option (List ℕ))
+table_blocks false s glyphs r = new_table (glyph_entries r.form glyphs) s r.input.at ∷ []
+table_blocks true s glyphs r =
+    new_table (glyph_entries r.form glyphs) s r.back.at ∷ new_table (glyph_entries r.form glyphs) s r.input.at ∷ new_table (glyph_entries r.form glyphs) s r.ahead.at ∷ []
 
 -- the words of the coverage
-abbrev pub coverOf : List ℕ → Tail → List ℕ
-coverOf t r = coverageWords (news t r.cover.at r.cover.len)
+abbrev pub cover_of : List ℕ → Tail → List ℕ
+cover_of t r = coverage_words (news t r.cover.at r.cover.len)
 
 -- the offsets of a coverage that stands at q and of the class tables behind it, and their words
-abbrev pub tailOffsets : Bool → ℕ → List ℕ → List (Option (List ℕ)) → List ℕ
-tailOffsets packed q cover tables = q ∷ offsetsIn packed (q + 2 * length cover) tables
+abbrev pub tail_offsets : Bool → ℕ → List ℕ → List (Option (List ℕ)) → List ℕ
+tail_offsets packed q cover tables = q ∷ offsets_in packed (q + 2 * length cover) tables
 
-abbrev pub tailWords : Bool → List ℕ → List (Option (List ℕ)) → List ℕ
-tailWords packed cover tables = cover ++ blocksIn packed tables
+abbrev pub tail_words : Bool → List ℕ → List (Option (List ℕ)) → List ℕ
+tail_words packed cover tables = cover ++ blocks_in packed tables
 
 -- the glyphs of the coverage, of which there is one, stand in cells, behind those that are free; and each class table can be made again there
 pub record TailIn (s glyphs t : List ℕ) (r : Tail) : Type 0 where
@@ -43,39 +43,39 @@ pub record TailIn (s glyphs t : List ℕ) (r : Tail) : Type 0 where
   pub covered : 0 < r.cover.len
   pub few : r.cover.len ≤ 65536
   pub map : GlyphMap r.form glyphs
-  pub back : OldIn (glyphEntries r.form glyphs) s t r.cover.at r.back
-  pub input : OldIn (glyphEntries r.form glyphs) s t r.cover.at r.input
-  pub ahead : OldIn (glyphEntries r.form glyphs) s t r.cover.at r.ahead
+  pub back : OldIn (glyph_entries r.form glyphs) s t r.cover.at r.back
+  pub input : OldIn (glyph_entries r.form glyphs) s t r.cover.at r.input
+  pub ahead : OldIn (glyph_entries r.form glyphs) s t r.cover.at r.ahead
 
 -- a coverage of at most 65,536 glyphs is short
-pub cover-short : (gs : List ℕ) → length gs ≤ 65536 → length (coverageWords gs) ≤ 65538
-unfolding coverageWords
-cover-short gs h = step (leb (4 + 2 * length gs) (4 + 6 * length rs)) refl
+pub cover_short : (gs : List ℕ) → length gs ≤ 65536 → length (coverage_words gs) ≤ 65538
+unfolding coverage_words
+cover_short gs h = step (leb (4 + 2 * length gs) (4 + 6 * length rs)) refl
   where
     rs : List (ℕ × ℕ × ℕ)
     rs = runs (map (λ g. (g, 0)) gs)
 
     step : (t : Bool) → leb (4 + 2 * length gs) (4 + 6 * length rs) ≡ t → length (cond t (1 ∷ length gs ∷ gs) (2 ∷ length rs ∷ threes (indexed 0 rs))) ≤ 65538
     step true e = omega arith
-    step false e = omega (arith, leb-false (4 + 2 * length gs) (4 + 6 * length rs) e, threes-length (indexed 0 rs), indexed-length 0 rs)
+    step false e = omega (arith, leb-false (4 + 2 * length gs) (4 + 6 * length rs) e, threes_length (indexed 0 rs), indexed_length 0 rs)
 
 -- where offsets and counts fit, what is written ends no further behind the gap than this: the first class table starts at 65,535 at the latest, they take 196,611 bytes at most, and one more is written before it is found to be among them
-abbrev pub tailMost : ℕ
-tailMost = 393222
+abbrev pub tail_most : ℕ
+tail_most = 393222
 
 -- no block is over 131,076 bytes: the count of a longer class table doesn't fit a word
-unfoldable pub shortBlocks : List (Option (List ℕ)) → Bool
-shortBlocks [] = true
-shortBlocks (none ∷ bs) = shortBlocks bs
-shortBlocks (some b ∷ bs) = leb (length b) 65538 && shortBlocks bs
+unfoldable pub short_blocks : List (Option (List ℕ)) → Bool
+short_blocks [] = true
+short_blocks (none ∷ bs) = short_blocks bs
+short_blocks (some b ∷ bs) = leb (length b) 65538 && short_blocks bs
 
 -- the offsets of class tables that stand from q on fit words, and so do their counts
-unfoldable pub tablesFit : Bool → ℕ → List (Option (List ℕ)) → Bool
-tablesFit packed q tables = wordsFit (offsetsIn packed q tables) && shortBlocks tables
+unfoldable pub tables_fit : Bool → ℕ → List (Option (List ℕ)) → Bool
+tables_fit packed q tables = words_fit (offsets_in packed q tables) && short_blocks tables
 
 -- and so does the offset of a coverage before them, that stands at q
-unfoldable pub tailFit : Bool → ℕ → List ℕ → List (Option (List ℕ)) → Bool
-tailFit packed q cover tables = leb q 65535 && tablesFit packed (q + 2 * length cover) tables
+unfoldable pub tail_fit : Bool → ℕ → List ℕ → List (Option (List ℕ)) → Bool
+tail_fit packed q cover tables = leb q 65535 && tables_fit packed (q + 2 * length cover) tables
 
 -- the front up to p is as before, but for n words at `slot`
 pub record Touches (before : List ℕ) (slot n p : ℕ) (after : List ℕ) : Type 0 where
@@ -101,31 +101,31 @@ pub record PlacedTable (o : Option (List ℕ)) (turn : Turn) (gap : ℕ) (area�
   pub there : {packed : Bool} {left : ℕ → Option (List ℕ)} {slots : ℕ} {bs : List (Option (List ℕ))} → Gathered packed left slots turn.first bs area₀ turn.pos book₀ → left turn.at ≡ o → turn.slot ≡ slots + 2 * length bs → r ≤ length area₀
       → Gathered packed left slots turn.first (bs ++ (o ∷ [])) area r book
   pub near : {packed : Bool} {left : ℕ → Option (List ℕ)} {slots : ℕ} {bs : List (Option (List ℕ))} → Gathered packed left slots turn.first bs area₀ turn.pos book₀ → left turn.at ≡ o → turn.slot ≡ slots + 2 * length bs
-      → tablesFit packed (turn.first - gap) bs ≡ true → r ≤ length area₀ → tablesFit packed (turn.first - gap) (bs ++ (o ∷ [])) ≡ true
+      → tables_fit packed (turn.first - gap) bs ≡ true → r ≤ length area₀ → tables_fit packed (turn.first - gap) (bs ++ (o ∷ [])) ≡ true
   pub full : {packed : Bool} {left : ℕ → Option (List ℕ)} {slots : ℕ} {bs : List (Option (List ℕ))} → Gathered packed left slots turn.first bs area₀ turn.pos book₀ → left turn.at ≡ o → turn.slot ≡ slots + 2 * length bs
-      → length area₀ < r → tablesFit packed (turn.first - gap) (bs ++ (o ∷ [])) ≡ true → length area₀ < gap + tailMost
+      → length area₀ < r → tables_fit packed (turn.first - gap) (bs ++ (o ∷ [])) ≡ true → length area₀ < gap + tail_most
 
 -- The class tables stand from p on, and their slots are noted from 4 on.
 pub record NotedTables (packed : Bool) (gap p : ℕ) (tables : List (Option (List ℕ))) (before after : List ℕ) (r : ℕ) : Type 0 where
   pub same : length after ≡ length before
   pub noted : r ≤ length before → Noted packed 4 p tables after r
   pub touched : r ≤ length before → Touches before 4 (length tables) p after
-  pub near : r ≤ length before → tablesFit packed (p - gap) tables ≡ true
-  pub full : length before < r → tablesFit packed (p - gap) tables ≡ true → length before < gap + tailMost
+  pub near : r ≤ length before → tables_fit packed (p - gap) tables ≡ true
+  pub full : length before < r → tables_fit packed (p - gap) tables ≡ true → length before < gap + tail_most
 
 -- They stand from p on, with their offsets, less by the gap, from 4 on; r is the place after them, or past the area: then it is short, or an offset or a count doesn't fit a word.
 pub record LaidTables (packed : Bool) (gap p : ℕ) (tables : List (Option (List ℕ))) (before after : List ℕ) (r : ℕ) : Type 0 where
   pub same : length after ≡ length before
-  pub fits : r ≤ length before → Extends (sets before 4 (flat (offsetsIn packed (p - gap) tables))) p (blocksIn packed tables) after r
-  pub near : r ≤ length before → tablesFit packed (p - gap) tables ≡ true
-  pub full : length before < r → tablesFit packed (p - gap) tables ≡ true → length before < gap + tailMost
+  pub fits : r ≤ length before → Extends (sets before 4 (flat (offsets_in packed (p - gap) tables))) p (blocks_in packed tables) after r
+  pub near : r ≤ length before → tables_fit packed (p - gap) tables ≡ true
+  pub full : length before < r → tables_fit packed (p - gap) tables ≡ true → length before < gap + tail_most
 
 -- The same with the coverage, from p on, and its offset at 2.
 pub record Lays (packed : Bool) (gap p : ℕ) (cover : List ℕ) (tables : List (Option (List ℕ))) (before after : List ℕ) (r : ℕ) : Type 0 where
   pub same : length after ≡ length before
-  pub fits : r ≤ length before → Extends (sets before 2 (flat (tailOffsets packed (p - gap) cover tables))) p (tailWords packed cover tables) after r
-  pub near : r ≤ length before → tailFit packed (p - gap) cover tables ≡ true
-  pub full : length before < r → tailFit packed (p - gap) cover tables ≡ true → length before < gap + tailMost
+  pub fits : r ≤ length before → Extends (sets before 2 (flat (tail_offsets packed (p - gap) cover tables))) p (tail_words packed cover tables) after r
+  pub near : r ≤ length before → tail_fit packed (p - gap) cover tables ≡ true
+  pub full : length before < r → tail_fit packed (p - gap) cover tables ≡ true → length before < gap + tail_most
 
 -- what is asked where they are laid down: the places of the offsets end before the blocks
 pub record Places (area : List ℕ) (slot n gap p : ℕ) : Type 0 where
@@ -138,9 +138,9 @@ pub record Places (area : List ℕ) (slot n gap p : ℕ) : Type 0 where
 pub record TablesAsked (area : List ℕ) (gap p : ℕ) (book : List ℕ) : Type 0 where
   pub places : Places area 4 3 gap p
   pub low : p ≤ 0x1000_0000
-  pub enough : packs book ≡ true → bookCells ≤ length book
+  pub enough : packs book ≡ true → book_cells ≤ length book
 
 -- the slots follow the format, what the header says of the coverage and the class tables, and the count
-pub tail-many : (chained : Bool) (s glyphs : List ℕ) (tail : Tail) → slotsAt chained ≡ 6 + 2 * length (tableBlocks chained s glyphs tail)
-tail-many true s glyphs tail = refl
-tail-many false s glyphs tail = refl
+pub tail_many : (chained : Bool) (s glyphs : List ℕ) (tail : Tail) → slots_at chained ≡ 6 + 2 * length (table_blocks chained s glyphs tail)
+tail_many true s glyphs tail = refl
+tail_many false s glyphs tail = refl

@@ -1,8 +1,8 @@
 // A class table of the source, listed once more when its new one is written, and turned into the entries of that.
 ghost use Rattle.std.specs.Prelude.{◌≤◌, length};
-ghost use Rattle.meaning.specs.Maps.{glyphEntries};
+ghost use Rattle.meaning.specs.Maps.{glyph_entries};
 ghost use Rattle.glyph_runs.specs.Runs.{GlyphMap};
-ghost use Rattle.class_stretches.specs.Tables.{classesAt, NullOrSound};
+ghost use Rattle.class_stretches.specs.Tables.{classes_at, NullOrSound};
 ghost use Rattle.remade_classes.specs.Made.{ListedFront, MakeAsked, Made};
 
 use cell_maps::Map;
@@ -52,7 +52,7 @@ pub fn list_front(
     front: usize,
 ) -> ClassList
     requires { NullOrSound src.now at × GlyphMap form glyphs.now × (front ≤ length t.old) }
-    ensures { ListedFront (classesAt src.now at) (glyphEntries form glyphs.now) t.old t.new front result }
+    ensures { ListedFront (classes_at src.now at) (glyph_entries form glyphs.now) t.old t.new front result }
 {
     list_classes(src, at, glyphs, form, &mut t[..front], 0)
 }
@@ -67,7 +67,7 @@ pub fn make_table(
     front: usize,
 ) -> NewTable
     requires { MakeAsked src.now old glyphs.now form t.old front }
-    ensures { Made (glyphEntries form glyphs.now) src.now old.at t.old t.new front result }
+    ensures { Made (glyph_entries form glyphs.now) src.now old.at t.old t.new front result }
 {
     let l = list_front(src, old.at, glyphs, form, t, front);
     let len = new_entries(t, 0, l.len, old.map);

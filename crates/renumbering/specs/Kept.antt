@@ -8,56 +8,56 @@ use Rattle.std.proofs.Math.Option
 use Rattle.std.proofs.Math.Option.{Option, none, some, none-ne-some, some-injective}
 use mathlib.Core.List.{List, [], ◌∷◌, map}
 use Rattle.std.proofs.Math.Dec.{ltb}
-use Rattle.meaning.specs.Words.{word, inside, keys, values, find, bind, push, mapSome}
+use Rattle.meaning.specs.Words.{word, inside, keys, values, find, bind, push, map_some}
 use Rattle.meaning.specs.Tables.{Rule, Ligature, Pair, Table, table}
 use Rattle.meaning.specs.Fault.{fault}
-use Rattle.meaning.specs.Records.{indexesBelow, recordsWithin}
-use Rattle.meaning.specs.Cut.{cut, cutRecords, keptByGlyph, keptByClass, coversLeft, keptLigatures, keptPairs, coveredMap, keptClassPairs, keptSets, cutSet, cutLigatures, cutPairs, classMap, classMap?, newCoverage, newClasses?, slots, trim, heldBy, retained}
-use Rattle.meaning.specs.Subset.{limit, hasFormat}
+use Rattle.meaning.specs.Records.{indexes_below, records_within}
+use Rattle.meaning.specs.Cut.{cut, cut_records, kept_by_glyph, kept_by_class, covers_left, kept_ligatures, kept_pairs, covered_map, kept_class_pairs, kept_sets, cut_set, cut_ligatures, cut_pairs, class_map, class_map?, new_coverage, new_classes?, slots, trim, held_by, retained}
+use Rattle.meaning.specs.Subset.{limit, has_format}
 use Rattle.meaning.specs.Matching.{at_place, match, substitute}
-use Rattle.laws.specs.Runs.{up-ascends}
+use Rattle.laws.specs.Runs.{up_ascends}
 use Rattle.laws.specs.CutGood.{GoodMap}
-use Rattle.laws.specs.CutCells.{all-every, every-all}
-use Rattle.laws.specs.Through.{Opt, opt-map}
+use Rattle.laws.specs.CutCells.{all_every, every_all}
+use Rattle.laws.specs.Through.{Opt, opt_map}
 use Rattle.promises.specs.Strings.{All, Retained, new}
-use Rattle.promises.specs.Rules.{cutMatch, records-renumbered}
+use Rattle.promises.specs.Rules.{cut_match, records_renumbered}
 use Rattle.promises.specs.Contexts as Contexts
 use Rattle.promises.specs.Contexts.{ordered}
-use Rattle.promises.specs.Singles.{SubstitutesRetained, delta-same, list_same}
+use Rattle.promises.specs.Singles.{SubstitutesRetained, delta_same, list_same}
 use Rattle.replaying.specs.Asking.{answer_of, ask}
-use Rattle.replaying.specs.Listed.{or_else, malformed, lookupRefusal, namesBelow, recordsName}
-use Rattle.renumbering.specs.Same.{Own, newAnswer, Keeps}
-use Rattle.renumbering.specs.Records.{Told, Within, Names, within_all, all-within, names-all, all-names, match-told, cut-told}
+use Rattle.replaying.specs.Listed.{or_else, malformed, lookup_refusal, names_below, records_name}
+use Rattle.renumbering.specs.Same.{Own, new_answer, Keeps}
+use Rattle.renumbering.specs.Records.{Told, Within, Names, within_all, all_within, names_all, all_names, match_told, cut_told}
 
 -- Records.
 
 -- records that are cut are among the records
-cut-among : (P : ℕ × ℕ → Type 0) (l : List (ℕ × ℕ)) → ((r : ℕ × ℕ) (n : ℕ) → P r → find l r.1 ≡ some n → P (r.0, n)) → (rs : List (ℕ × ℕ)) → All P rs → All P (cutRecords l rs)
-unfolding cutRecords mapSome bind push
-cut-among P l k [] h = tt
-cut-among P l k (r ∷ rs) h = step (find l r.1) refl (cut-among P l k rs h.1)
+cut_among : (P : ℕ × ℕ → Type 0) (l : List (ℕ × ℕ)) → ((r : ℕ × ℕ) (n : ℕ) → P r → find l r.1 ≡ some n → P (r.0, n)) → (rs : List (ℕ × ℕ)) → All P rs → All P (cut_records l rs)
+unfolding cut_records map_some bind push
+cut_among P l k [] h = tt
+cut_among P l k (r ∷ rs) h = step (find l r.1) refl (cut_among P l k rs h.1)
   where
-    step : (o : Option ℕ) → find l r.1 ≡ o → All P (cutRecords l rs) → All P (push (bind o (λ n. some (r.0, n))) (cutRecords l rs))
+    step : (o : Option ℕ) → find l r.1 ≡ o → All P (cut_records l rs) → All P (push (bind o (λ n. some (r.0, n))) (cut_records l rs))
     step none e q = q
     step (some n) e q = (k r n h.0 e, q)
 
-within-cut : (l : List (ℕ × ℕ)) (t : Told) → Within t → Within (t.0, cutRecords l t.1)
-unfolding indexesBelow
-within-cut l t e =
-    every-all (λ r. ltb r.0 t.0) (cutRecords l t.1) (cut-among (λ r. ltb r.0 t.0 ≡ true) l (λ r n p q. p) t.1 (all-every (λ r. ltb r.0 t.0) t.1 e))
+within_cut : (l : List (ℕ × ℕ)) (t : Told) → Within t → Within (t.0, cut_records l t.1)
+unfolding indexes_below
+within_cut l t e =
+    every_all (λ r. ltb r.0 t.0) (cut_records l t.1) (cut_among (λ r. ltb r.0 t.0 ≡ true) l (λ r n p q. p) t.1 (all_every (λ r. ltb r.0 t.0) t.1 e))
 
 -- lookups that keep their number
 module _ (l : List (ℕ × ℕ)) (n : ℕ) (mapped : (i : ℕ) → i < n → find l i ≡ some i) where
-  names-cut : (t : Told) → Names n t → Names n (t.0, cutRecords l t.1)
-  unfolding namesBelow
-  names-cut t e = every-all (λ r. ltb r.1 n) (cutRecords l t.1) (cut-among (λ r. ltb r.1 n ≡ true) l own t.1 (all-every (λ r. ltb r.1 n) t.1 e))
+  names_cut : (t : Told) → Names n t → Names n (t.0, cut_records l t.1)
+  unfolding names_below
+  names_cut t e = every_all (λ r. ltb r.1 n) (cut_records l t.1) (cut_among (λ r. ltb r.1 n ≡ true) l own t.1 (all_every (λ r. ltb r.1 n) t.1 e))
     where
       own : (r : ℕ × ℕ) (m : ℕ) → ltb r.1 n ≡ true → find l r.1 ≡ some m → ltb m n ≡ true
       own r m p q = ap (λ (k : ℕ). ltb k n) (some-injective m r.1 (sym q ∙ mapped r.1 (ltb-true r.1 n p))) ∙ p
 
-  names-own : (t : Told) → Names n t → All (Own l) t.1
-  unfolding namesBelow
-  names-own t e = go t.1 (all-every (λ r. ltb r.1 n) t.1 e)
+  names_own : (t : Told) → Names n t → All (Own l) t.1
+  unfolding names_below
+  names_own t e = go t.1 (all_every (λ r. ltb r.1 n) t.1 e)
     where
       go : (rs : List (ℕ × ℕ)) → All (λ r. ltb r.1 n ≡ true) rs → All (Own l) rs
       go [] h = tt
@@ -67,60 +67,60 @@ module _ (l : List (ℕ × ℕ)) (n : ℕ) (mapped : (i : ℕ) → i < n → fin
 
 -- what is left of a table of another kind has no substitutes
 module _ (y : ℕ) where
-  no-glyph : (chained : Bool) (ks : List (ℕ × List Rule)) → bind (keptByGlyph chained ks) (λ t. substitute t y) ≡ none
-  unfolding bind keptByGlyph substitute
-  no-glyph chained [] = refl
-  no-glyph chained (k ∷ ks) = refl
+  no_glyph : (chained : Bool) (ks : List (ℕ × List Rule)) → bind (kept_by_glyph chained ks) (λ t. substitute t y) ≡ none
+  unfolding bind kept_by_glyph substitute
+  no_glyph chained [] = refl
+  no_glyph chained (k ∷ ks) = refl
 
-  no-class : (chained : Bool) (cov : List ℕ) (b i a : Option (List (ℕ × ℕ))) (ss : List (Option (List Rule))) → bind (keptByClass chained cov b i a ss) (λ t. substitute t y) ≡ none
-  unfolding bind keptByClass substitute
-  no-class chained cov b i a [] = refl
-  no-class chained cov b i a (s ∷ ss) = refl
+  no_class : (chained : Bool) (cov : List ℕ) (b i a : Option (List (ℕ × ℕ))) (ss : List (Option (List Rule))) → bind (kept_by_class chained cov b i a ss) (λ t. substitute t y) ≡ none
+  unfolding bind kept_by_class substitute
+  no_class chained cov b i a [] = refl
+  no_class chained cov b i a (s ∷ ss) = refl
 
-  no_cover : (chained : Bool) (b i a : Option (List (Option (List ℕ)))) (rs : List (ℕ × ℕ)) → bind (bind b (λ b'. bind i (λ i'. bind a (λ a'. some (Table.by-cover chained b' i' a' rs))))) (λ t. substitute t y) ≡ none
+  no_cover : (chained : Bool) (b i a : Option (List (Option (List ℕ)))) (rs : List (ℕ × ℕ)) → bind (bind b (λ b'. bind i (λ i'. bind a (λ a'. some (Table.by_cover chained b' i' a' rs))))) (λ t. substitute t y) ≡ none
   unfolding bind substitute
   no_cover chained none i a rs = refl
   no_cover chained (some b) none a rs = refl
   no_cover chained (some b) (some i) none rs = refl
   no_cover chained (some b) (some i) (some a) rs = refl
 
-  no-ligature : (ks : List (ℕ × List Ligature)) → bind (keptLigatures ks) (λ t. substitute t y) ≡ none
-  unfolding bind keptLigatures substitute
-  no-ligature [] = refl
-  no-ligature (k ∷ ks) = refl
+  no_ligature : (ks : List (ℕ × List Ligature)) → bind (kept_ligatures ks) (λ t. substitute t y) ≡ none
+  unfolding bind kept_ligatures substitute
+  no_ligature [] = refl
+  no_ligature (k ∷ ks) = refl
 
-  no-pair : (f1 f2 : ℕ) (ks : List (ℕ × List Pair)) → bind (keptPairs f1 f2 ks) (λ t. substitute t y) ≡ none
-  unfolding bind keptPairs substitute
-  no-pair f1 f2 [] = refl
-  no-pair f1 f2 (k ∷ ks) = refl
+  no_pair : (f1 f2 : ℕ) (ks : List (ℕ × List Pair)) → bind (kept_pairs f1 f2 ks) (λ t. substitute t y) ≡ none
+  unfolding bind kept_pairs substitute
+  no_pair f1 f2 [] = refl
+  no_pair f1 f2 (k ∷ ks) = refl
 
-  no-class-pair : (g h cs ds : List (ℕ × ℕ)) (f1 f2 : ℕ) (rows : List (List Pair)) → bind (keptClassPairs g h cs ds f1 f2 rows) (λ t. substitute t y) ≡ none
-  unfolding bind keptClassPairs substitute
-  no-class-pair g [] cs ds f1 f2 rows = refl
-  no-class-pair g (e ∷ h) cs ds f1 f2 rows = refl
+  no_class_pair : (g h cs ds : List (ℕ × ℕ)) (f1 f2 : ℕ) (rows : List (List Pair)) → bind (kept_class_pairs g h cs ds f1 f2 rows) (λ t. substitute t y) ≡ none
+  unfolding bind kept_class_pairs substitute
+  no_class_pair g [] cs ds f1 f2 rows = refl
+  no_class_pair g (e ∷ h) cs ds f1 f2 rows = refl
 
 -- what is left of a table gives a retained glyph the substitute that the table gave it, renumbered, if retained glyphs have retained substitutes
-substitute-same : (g l : List (ℕ × ℕ)) → GoodMap g → (t : Table) → SubstitutesRetained g t → (x : ℕ) → Retained g x
+substitute_same : (g l : List (ℕ × ℕ)) → GoodMap g → (t : Table) → SubstitutesRetained g t → (x : ℕ) → Retained g x
     → bind (cut g l t) (λ u. substitute u (new g x)) ≡ Option.map (new g) (substitute t x)
 unfolding cut bind substitute
-substitute-same g l good (Table.by-glyph chained none sets) k x rx = refl
-substitute-same g l good (Table.by-glyph chained (some cov) sets) k x rx = no-glyph (new g x) chained (keptSets (cutSet chained (record { back = g; input = g; ahead = g; lookups = l })) g cov sets)
-substitute-same g l good (Table.by-class chained none b i a sets) k x rx = refl
-substitute-same g l good (Table.by-class chained (some cov) b none a sets) k x rx = refl
-substitute-same g l good (Table.by-class chained (some cov) b (some cs) a sets) k x rx =
-    no-class (new g x) chained (newCoverage g cov) (newClasses? g b) (newClasses? g (some cs)) (newClasses? g a)
-    (trim (slots (cutSet chained (record { back = classMap? g b; input = classMap g cs; ahead = classMap? g a; lookups = l })) (heldBy cs (retained g cov)) sets (heldBy cs (keys g))))
-substitute-same g l good (Table.by-cover chained b i a rs) k x rx = no_cover (new g x) chained (coversLeft g b) (coversLeft g i) (coversLeft g a) (cutRecords l rs)
-substitute-same g l good (Table.ligatures none sets) k x rx = refl
-substitute-same g l good (Table.ligatures (some cov) sets) k x rx = no-ligature (new g x) (keptSets (cutLigatures g) g cov sets)
-substitute-same g l good (Table.pairs_of none f1 f2 sets) k x rx = refl
-substitute-same g l good (Table.pairs_of (some cov) f1 f2 sets) k x rx = no-pair (new g x) f1 f2 (keptSets (cutPairs g) g cov sets)
-substitute-same g l good (Table.class-pairs none first second f1 f2 m rows) k x rx = refl
-substitute-same g l good (Table.class-pairs (some cov) none second f1 f2 m rows) k x rx = refl
-substitute-same g l good (Table.class-pairs (some cov) (some cs) none f1 f2 m rows) k x rx = refl
-substitute-same g l good (Table.class-pairs (some cov) (some cs) (some ds) f1 f2 m rows) k x rx = no-class-pair (new g x) g (coveredMap g cov) cs ds f1 f2 rows
-substitute-same g l good (Table.single-delta cover d) k x rx = delta-same g l good cover d x rx (k x rx)
-substitute-same g l good (Table.single-list cover subs) k x rx = list_same g l good cover subs x rx (k x rx)
+substitute_same g l good (Table.by_glyph chained none sets) k x rx = refl
+substitute_same g l good (Table.by_glyph chained (some cov) sets) k x rx = no_glyph (new g x) chained (kept_sets (cut_set chained (record { back = g; input = g; ahead = g; lookups = l })) g cov sets)
+substitute_same g l good (Table.by_class chained none b i a sets) k x rx = refl
+substitute_same g l good (Table.by_class chained (some cov) b none a sets) k x rx = refl
+substitute_same g l good (Table.by_class chained (some cov) b (some cs) a sets) k x rx =
+    no_class (new g x) chained (new_coverage g cov) (new_classes? g b) (new_classes? g (some cs)) (new_classes? g a)
+    (trim (slots (cut_set chained (record { back = class_map? g b; input = class_map g cs; ahead = class_map? g a; lookups = l })) (held_by cs (retained g cov)) sets (held_by cs (keys g))))
+substitute_same g l good (Table.by_cover chained b i a rs) k x rx = no_cover (new g x) chained (covers_left g b) (covers_left g i) (covers_left g a) (cut_records l rs)
+substitute_same g l good (Table.ligatures none sets) k x rx = refl
+substitute_same g l good (Table.ligatures (some cov) sets) k x rx = no_ligature (new g x) (kept_sets (cut_ligatures g) g cov sets)
+substitute_same g l good (Table.pairs_of none f1 f2 sets) k x rx = refl
+substitute_same g l good (Table.pairs_of (some cov) f1 f2 sets) k x rx = no_pair (new g x) f1 f2 (kept_sets (cut_pairs g) g cov sets)
+substitute_same g l good (Table.class_pairs none first second f1 f2 m rows) k x rx = refl
+substitute_same g l good (Table.class_pairs (some cov) none second f1 f2 m rows) k x rx = refl
+substitute_same g l good (Table.class_pairs (some cov) (some cs) none f1 f2 m rows) k x rx = refl
+substitute_same g l good (Table.class_pairs (some cov) (some cs) (some ds) f1 f2 m rows) k x rx = no_class_pair (new g x) g (covered_map g cov) cs ds f1 f2 rows
+substitute_same g l good (Table.single_delta cover d) k x rx = delta_same g l good cover d x rx (k x rx)
+substitute_same g l good (Table.single_list cover subs) k x rx = list_same g l good cover subs x rx (k x rx)
 
 -- Answers.
 
@@ -141,12 +141,12 @@ places_same g asked asked' f k before [] i rb rs = refl
 places_same g asked asked' f k before (x ∷ string) zero rb rs = k before x string rb rs.0 rs.1
 places_same g asked asked' f k before (x ∷ string) (suc i) rb rs = places_same g asked asked' f k (x ∷ before) string i (rs.0, rb) rs.1
 
-answer-same : (g l : List (ℕ × ℕ)) (o : Option Told) (s : Option ℕ) → answer_of (Option.map (cutMatch l) o) (Option.map (new g) s) ≡ newAnswer g l (answer_of o s)
+answer_same : (g l : List (ℕ × ℕ)) (o : Option Told) (s : Option ℕ) → answer_of (Option.map (cut_match l) o) (Option.map (new g) s) ≡ new_answer g l (answer_of o s)
 unfolding answer_of
-answer-same g l none none = refl
-answer-same g l none (some x) = refl
-answer-same g l (some a) none = rw (records-renumbered l a.1)
-answer-same g l (some a) (some x) = rw (records-renumbered l a.1)
+answer_same g l none none = refl
+answer_same g l none (some x) = refl
+answer_same g l (some a) none = rw (records_renumbered l a.1)
+answer_same g l (some a) (some x) = rw (records_renumbered l a.1)
 
 answer_keeps : (g l : List (ℕ × ℕ)) (o : Option Told) (s : Option ℕ) → Opt (λ a. All (Own l) a.1) o → Opt (Retained g) s → Keeps g l (answer_of o s)
 unfolding answer_of
@@ -157,10 +157,10 @@ answer_keeps g l (some a) (some x) p q = p
 
 -- Refusals.
 
-pub or-none : {A : Type 0} (o q : Option A) → or_else o q ≡ none → (o ≡ none) × (q ≡ none)
+pub or_none : {A : Type 0} (o q : Option A) → or_else o q ≡ none → (o ≡ none) × (q ≡ none)
 unfolding or_else
-or-none none q e = (refl, e)
-or-none (some a) q e = absurd (none-ne-some a (sym e))
+or_none none q e = (refl, e)
+or_none (some a) q e = absurd (none-ne-some a (sym e))
 
 pub none_or : {A : Type 0} (o q : Option A) → o ≡ none → q ≡ none → or_else o q ≡ none
 unfolding or_else
@@ -171,17 +171,17 @@ past true a o e = absurd (none-ne-some a (sym e))
 past false a o e = (refl, e)
 
 -- a lookup is refused for one of four reasons
-lookup-fine : (kind : ℕ) (s : List ℕ) → ltb limit (length s) ≡ false → hasFormat kind (word s 0) ≡ true → fault kind s ≡ none → recordsWithin (table kind s) ≡ true → lookupRefusal kind s ≡ none
-unfolding lookupRefusal malformed or_else
-lookup-fine kind s short format sound records = rw (short, format, and-false (inside s 0 2), sound, records)
+lookup_fine : (kind : ℕ) (s : List ℕ) → ltb limit (length s) ≡ false → has_format kind (word s 0) ≡ true → fault kind s ≡ none → records_within (table kind s) ≡ true → lookup_refusal kind s ≡ none
+unfolding lookup_refusal malformed or_else
+lookup_fine kind s short format sound records = rw (short, format, and-false (inside s 0 2), sound, records)
 
 -- what one that is not refused shows
-pub fine-sound : (kind : ℕ) (s : List ℕ) → lookupRefusal kind s ≡ none → (fault kind s ≡ none) × (recordsWithin (table kind s) ≡ true)
-unfolding lookupRefusal malformed
-fine-sound kind s e =
+pub fine_sound : (kind : ℕ) (s : List ℕ) → lookup_refusal kind s ≡ none → (fault kind s ≡ none) × (records_within (table kind s) ≡ true)
+unfolding lookup_refusal malformed
+fine_sound kind s e =
     let a = (past (ltb limit (length s)) (4, 0) _ e).1 in
-    let b = or-none (malformed (fault kind s)) _ (past (inside s 0 2 && not (hasFormat kind (word s 0))) (5, 0) _ a).1 in
-    (well (fault kind s) b.0, step (recordsWithin (table kind s)) b.1)
+    let b = or_none (malformed (fault kind s)) _ (past (inside s 0 2 && not (has_format kind (word s 0))) (5, 0) _ a).1 in
+    (well (fault kind s) b.0, step (records_within (table kind s)) b.1)
   where
     well : (o : Option ℕ) → malformed o ≡ none → o ≡ none
     well none q = refl
@@ -195,23 +195,23 @@ fine-sound kind s e =
 pub record Left (g l : List (ℕ × ℕ)) (kind : ℕ) (source small : List ℕ) : Type 0 where
   pub says : cut g l (table kind source) ≡ some (table kind small)
   pub short : length small ≤ limit
-  pub format : hasFormat kind (word small 0) ≡ true
+  pub format : has_format kind (word small 0) ≡ true
   pub sound : fault kind small ≡ none
 
 module _ (g l : List (ℕ × ℕ)) (good : GoodMap g) (kind : ℕ) (source small : List ℕ) (left : Left g l kind source small) where
   -- it is not refused
-  pub small-fine : lookupRefusal kind source ≡ none → lookupRefusal kind small ≡ none
-  small-fine e =
-      let r = within_all (table kind source) (fine-sound kind source e).1 in
-      let c = cut-told Within Within l (within-cut l) g (table kind source) r in
-      lookup-fine kind small (le-ltb limit (length small) left.short) left.format left.sound (all-within (table kind small) (rw left.says at c))
+  pub small_fine : lookup_refusal kind source ≡ none → lookup_refusal kind small ≡ none
+  small_fine e =
+      let r = within_all (table kind source) (fine_sound kind source e).1 in
+      let c = cut_told Within Within l (within_cut l) g (table kind source) r in
+      lookup_fine kind small (le-ltb limit (length small) left.short) left.format left.sound (all_within (table kind small) (rw left.says at c))
 
-  module _ (n : ℕ) (mapped : (i : ℕ) → i < n → find l i ≡ some i) (named : recordsName n (table kind source) ≡ true) where
+  module _ (n : ℕ) (mapped : (i : ℕ) → i < n → find l i ≡ some i) (named : records_name n (table kind source) ≡ true) where
     -- it names no other lookups
-    pub small-named : recordsName n (table kind small) ≡ true
-    small-named =
-        let c = cut-told (Names n) (Names n) l (names-cut l n mapped) g (table kind source) (names-all n (table kind source) named) in
-        all-names n (table kind small) (rw left.says at c)
+    pub small_named : records_name n (table kind small) ≡ true
+    small_named =
+        let c = cut_told (Names n) (Names n) l (names_cut l n mapped) g (table kind source) (names_all n (table kind source) named) in
+        all_names n (table kind small) (rw left.says at c)
 
     -- what it answers stays retained
     pub source_keeps : SubstitutesRetained g (table kind source) → (string : List ℕ) (place : ℕ) → All (Retained g) string → Keeps g l (ask (table kind source) string place)
@@ -220,19 +220,19 @@ module _ (g l : List (ℕ × ℕ)) (good : GoodMap g) (kind : ℕ) (source small
         let t = table kind source in
         answer_keeps g l (at_place (match t) [] string place) (at_place (λ before x after. substitute t x) [] string place)
         (at_all g (λ a. All (Own l) a.1) (match t)
-        (λ before x after r. opt-map (Names n) (λ a. All (Own l) a.1) (names-own l n mapped) (match t before x after) (match-told (Names n) t (names-all n t named) before x after)) [] string place h)
+        (λ before x after r. opt_map (Names n) (λ a. All (Own l) a.1) (names_own l n mapped) (match t before x after) (match_told (Names n) t (names_all n t named) before x after)) [] string place h)
         (at_all g (Retained g) (λ before x after. substitute t x) (λ before x after r. closed x r) [] string place h)
 
   -- it answers alike
   pub small_same : ordered (table kind source) ≡ true → SubstitutesRetained g (table kind source) → (string : List ℕ) (place : ℕ) → All (Retained g) string
-      → ask (table kind small) (map (new g) string) place ≡ newAnswer g l (ask (table kind source) string place)
+      → ask (table kind small) (map (new g) string) place ≡ new_answer g l (ask (table kind source) string place)
   unfolding ask bind
   small_same o closed string place h =
       let t = table kind source in
       let u = table kind small in
-      let a : at_place (match u) [] (map (new g) string) place ≡ Option.map (cutMatch l) (at_place (match t) [] string place) =
-      places_same g (match t) (match u) (cutMatch l) (λ before x after rb rx ra. rw left.says at (Contexts.same g l (up-ascends 0 (values g) good.new) before x after rb rx ra t o)) [] string place tt h in
+      let a : at_place (match u) [] (map (new g) string) place ≡ Option.map (cut_match l) (at_place (match t) [] string place) =
+      places_same g (match t) (match u) (cut_match l) (λ before x after rb rx ra. rw left.says at (Contexts.same g l (up_ascends 0 (values g) good.new) before x after rb rx ra t o)) [] string place tt h in
       let b : at_place (λ before x after. substitute u x) [] (map (new g) string) place ≡ Option.map (new g) (at_place (λ before x after. substitute t x) [] string place) =
       places_same g (λ before x after. substitute t x) (λ before x after. substitute u x) (new g)
-      (λ before x after rb rx ra. rw left.says at (substitute-same g l good t closed x rx)) [] string place tt h in
-      rw (a, b) (answer-same g l (at_place (match t) [] string place) (at_place (λ before x after. substitute t x) [] string place))
+      (λ before x after rb rx ra. rw left.says at (substitute_same g l good t closed x rx)) [] string place tt h in
+      rw (a, b) (answer_same g l (at_place (match t) [] string place) (at_place (λ before x after. substitute t x) [] string place))

@@ -1,11 +1,11 @@
 // Replay of label runs: a recorded trace, run over a list of lookups in a lent buffer, and the tally of its runs.
 ghost use Rattle.std.specs.Prelude.{◌≡◌, true, ◌<◌};
 ghost use Rattle.meaning.specs.Words.{is_some};
-ghost use Rattle.replaying.specs.Listed.{lookupsOf};
-ghost use Rattle.replaying.specs.Trace.{runsOf};
-ghost use Rattle.replaying.specs.Replay.{changed, played, refusing, runsIn, replay};
+ghost use Rattle.replaying.specs.Listed.{lookups_of};
+ghost use Rattle.replaying.specs.Trace.{runs_of};
+ghost use Rattle.replaying.specs.Replay.{changed, played, refusing, runs_in, replay};
 ghost use Rattle.lookup_list.specs.Ready.{Ready};
-ghost use Rattle.tallies.specs.Counting.{replayedOf, isDeep, doesAgree};
+ghost use Rattle.tallies.specs.Counting.{replayed_of, is_deep, does_agree};
 
 use lookup_checks::{Checked, check_lookups};
 use lookup_list::good_list;
@@ -17,7 +17,7 @@ use wire::word_at;
 
 // Whether a run went too deep.
 fn is_deep(v: Verdict) -> bool
-    ensures { result ≡ isDeep v }
+    ensures { result ≡ is_deep v }
 {
     match v {
         Verdict::Agrees => false,
@@ -28,7 +28,7 @@ fn is_deep(v: Verdict) -> bool
 
 // Whether a run agreed.
 fn does_agree(v: Verdict) -> bool
-    ensures { result ≡ doesAgree v }
+    ensures { result ≡ does_agree v }
 {
     match v {
         Verdict::Agrees => true,
@@ -39,8 +39,8 @@ fn does_agree(v: Verdict) -> bool
 
 // Replays the runs of a trace, one after another.
 fn play_runs(list: &[u8], buffer: &[u8], trace: &[u8]) -> Replayed
-    requires { Ready list.now buffer.now × (is_some (runsOf trace.now) ≡ true) }
-    ensures { replayedOf result ≡ played (lookupsOf list.now buffer.now) (runsIn (runsOf trace.now)) }
+    requires { Ready list.now buffer.now × (is_some (runs_of trace.now) ≡ true) }
+    ensures { replayed_of result ≡ played (lookups_of list.now buffer.now) (runs_in (runs_of trace.now)) }
 {
     let mut tally = Tally {
         runs: 0,
@@ -69,7 +69,7 @@ fn play_runs(list: &[u8], buffer: &[u8], trace: &[u8]) -> Replayed
 
 // A refusal before any run.
 pub fn refusing(number: usize, place: usize) -> Replayed
-    ensures { replayedOf result ≡ refusing (number, place) }
+    ensures { replayed_of result ≡ refusing (number, place) }
 {
     Replayed {
         number,
@@ -84,7 +84,7 @@ pub fn refusing(number: usize, place: usize) -> Replayed
 
 // The replay of a trace over a list of lookups in a buffer: the first refusal that applies, 15, then 4, 5, 6 or 12 for the first faulty lookup, then 16, then 17; or the runs.
 pub fn replay_all(list: &[u8], buffer: &[u8], trace: &[u8]) -> Replayed
-    ensures { replayedOf result ≡ replay list.now buffer.now trace.now }
+    ensures { replayed_of result ≡ replay list.now buffer.now trace.now }
 {
     if !good_list(list, buffer) {
         return refusing(15, 0);

@@ -2,9 +2,9 @@
 ghost use Rattle.std.specs.Prelude.{◌≡◌, ◌+◌, ◌*◌, ◌≤◌, ◌<◌};
 ghost use Rattle.std.proofs.lemmas.List.Edits.{sets};
 ghost use Rattle.replaying.specs.Replay.{replay};
-ghost use Rattle.replaying.specs.Cost.{replayCost};
+ghost use Rattle.replaying.specs.Cost.{replay_cost};
 ghost use Rattle.tallies.specs.Counting.{tally_of};
-ghost use Rattle.replay_call.specs.Given.{bytes8, tallyBytes, Gives, Costs};
+ghost use Rattle.replay_call.specs.Given.{bytes8, tally_bytes, Gives, Costs};
 
 use put_words::put_entry;
 use replay::replay_all;
@@ -22,7 +22,7 @@ fn put_eight(out: &mut [u8], at: usize, n: usize) -> usize
 
 // A tally at the front, eight bytes a number, where there is room.
 fn put_tally(out: &mut [u8], tally: Tally)
-    ensures { out.new ≡ sets out.old 0 (tallyBytes (tally_of tally)) }
+    ensures { out.new ≡ sets out.old 0 (tally_bytes (tally_of tally)) }
 {
     let p = put_eight(out, 0, tally.runs);
     let q = put_eight(out, p, tally.agreements);
@@ -58,7 +58,7 @@ pub extern "C" fn gillcurtain_replay(
 // With 0 the most lookups that a replay asks for each glyph that went into its runs are written at the front of `steps`, cut off at 2^63, and with a refusal 0: eight bytes, the highest first; a shorter slice gets what fits.
 #[unsafe(no_mangle)]
 pub extern "C" fn gillcurtain_replay_cost(list: &[u8], buffer: &[u8], steps: &mut [u8]) -> u64
-    ensures { Costs (replayCost list.now buffer.now) steps.old result steps.new }
+    ensures { Costs (replay_cost list.now buffer.now) steps.old result steps.new }
 {
     let c = replay_cost(list, buffer);
     put_eight(steps, 0, c.steps);

@@ -3,5 +3,5 @@ use Rattle.replaying.specs.Cost.{Cost as CostOf}
 use Rattle.replay_cost.specs.declared.Cost.{Cost}
 
 -- what is given back, by the definition
-abbrev pub costOf : Cost → CostOf
-costOf c = record { number = c.number; place = c.place; steps = c.steps }
+abbrev pub cost_of : Cost → CostOf
+cost_of c = record { number = c.number; place = c.place; steps = c.steps }

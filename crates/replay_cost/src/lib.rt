@@ -1,9 +1,9 @@
 // What a replay over a list may cost: the most lookups that it asks for each glyph of a trace, told before any run.
 ghost use Rattle.std.specs.Prelude.{◌≡◌, true, map, ◌/◌, length, set};
 ghost use Rattle.std.proofs.lemmas.List.Edits.{sets};
-ghost use Rattle.replaying.specs.Listed.{goodList, lookupsOf};
-ghost use Rattle.replaying.specs.Cost.{lookupSteps, levelSteps, sumSteps, listSteps, replayCost};
-ghost use Rattle.replay_cost.specs.Costing.{costOf};
+ghost use Rattle.replaying.specs.Listed.{good_list, lookups_of};
+ghost use Rattle.replaying.specs.Cost.{lookup_steps, level_steps, sum_steps, list_steps, replay_cost};
+ghost use Rattle.replay_cost.specs.Costing.{cost_of};
 
 use lookup_list::LIST_LIMIT;
 use member_steps::add_steps;
@@ -32,8 +32,8 @@ fn put_steps(steps: &mut [usize], at: usize, n: usize)
 
 // What each lookup of a good list takes at a place, from what each takes with one level less.
 fn level(list: &[u8], buffer: &[u8], steps: &[usize], next: &mut [usize])
-    requires { goodList list.now buffer.now ≡ true }
-    ensures { next.new ≡ sets next.old 0 (map (lookupSteps steps.now) (lookupsOf list.now buffer.now)) }
+    requires { good_list list.now buffer.now ≡ true }
+    ensures { next.new ≡ sets next.old 0 (map (lookup_steps steps.now) (lookups_of list.now buffer.now)) }
 {
     let many = list.len() / 10;
     let mut lookup = 0;
@@ -46,7 +46,7 @@ fn level(list: &[u8], buffer: &[u8], steps: &[usize], next: &mut [usize])
 
 // These numbers of steps together.
 fn sum_steps(steps: &[usize]) -> usize
-    ensures { result ≡ sumSteps steps.now }
+    ensures { result ≡ sum_steps steps.now }
 {
     let mut sum = 0;
     let mut i = 0;
@@ -59,8 +59,8 @@ fn sum_steps(steps: &[usize]) -> usize
 
 // The steps of a good list, eight levels deep. `here` has a 0 for each lookup, and `there` as many places: a turn is two levels, there and back.
 fn levels(list: &[u8], buffer: &[u8], here: &mut [usize], there: &mut [usize]) -> usize
-    requires { (goodList list.now buffer.now ≡ true) × (here.old ≡ levelSteps 0 (lookupsOf list.now buffer.now)) × (length there.old ≡ length list.now / 10) }
-    ensures { result ≡ listSteps (lookupsOf list.now buffer.now) }
+    requires { (good_list list.now buffer.now ≡ true) × (here.old ≡ level_steps 0 (lookups_of list.now buffer.now)) × (length there.old ≡ length list.now / 10) }
+    ensures { result ≡ list_steps (lookups_of list.now buffer.now) }
 {
     let mut i = 0;
     while i < TURNS {
@@ -73,8 +73,8 @@ fn levels(list: &[u8], buffer: &[u8], here: &mut [usize], there: &mut [usize]) -
 
 // The steps of a good list.
 fn list_steps(list: &[u8], buffer: &[u8]) -> usize
-    requires { goodList list.now buffer.now ≡ true }
-    ensures { result ≡ listSteps (lookupsOf list.now buffer.now) }
+    requires { good_list list.now buffer.now ≡ true }
+    ensures { result ≡ list_steps (lookups_of list.now buffer.now) }
 {
     let many = list.len() / 10;
     let mut here = [0usize; LIST_LIMIT];
@@ -84,7 +84,7 @@ fn list_steps(list: &[u8], buffer: &[u8]) -> usize
 
 // The cost of a list of lookups in a buffer: the first refusal that a replay of any trace would give but 16, or the steps.
 pub fn replay_cost(list: &[u8], buffer: &[u8]) -> Cost
-    ensures { costOf result ≡ replayCost list.now buffer.now }
+    ensures { cost_of result ≡ replay_cost list.now buffer.now }
 {
     let r = replay_all(list, buffer, &list[0..0]);
     if r.number != 0 {

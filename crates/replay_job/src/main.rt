@@ -1,8 +1,8 @@
 // The program: reads a replay file from standard input, whose last 28 bytes point back to a list, a buffer and a trace, and prints the answer and the tally of the replay; where the trace is empty, also what the list may cost.
 ghost use Rattle.std.specs.Prelude.{◌≡◌, true, ◌≤◌, ◌<◌, length};
-ghost use Rattle.tallies.specs.Counting.{replayedOf};
+ghost use Rattle.tallies.specs.Counting.{replayed_of};
 ghost use Rattle.report_lines.specs.Text.{Put};
-ghost use Rattle.replay_job.specs.ReplayFile.{goodFile, replayFile, printed, asksCost, fileSteps, costText, program};
+ghost use Rattle.replay_job.specs.ReplayFile.{good_file, replay_file, printed, asks_cost, file_steps, cost_text, program};
 
 use file_parts::{ends_by, part_at};
 use input::{Input, read_input};
@@ -29,7 +29,7 @@ const TEXT: usize = 192;
 
 // Whether the file is a replay file: of 28 bytes to the limit, it ends in the tag, and its three parts lie wholly before the trailer.
 fn good_file(file: &[u8]) -> bool
-    ensures { result ≡ goodFile file.now }
+    ensures { result ≡ good_file file.now }
 {
     if file.len() < TRAILER {
         return false;
@@ -52,7 +52,7 @@ fn good_file(file: &[u8]) -> bool
 
 // The replay of a file, or that it is faulty, which is tested first.
 fn replay_file(file: &[u8]) -> Replayed
-    ensures { replayedOf result ≡ replayFile file.now }
+    ensures { replayed_of result ≡ replay_file file.now }
 {
     if !good_file(file) {
         return refusing(11, 0);
@@ -67,7 +67,7 @@ fn replay_file(file: &[u8]) -> Replayed
 
 // What is printed of a replay, at the front of `text`; how long it is.
 fn put_answer(text: &mut [u8], r: Replayed) -> usize
-    ensures { Put text.old 0 (printed (replayedOf r)) text.new result }
+    ensures { Put text.old 0 (printed (replayed_of r)) text.new result }
 {
     let a = put_line(text, 0, b"answer ", r.number);
     let b = put_line(text, a, b"place ", r.place);
@@ -78,7 +78,7 @@ fn put_answer(text: &mut [u8], r: Replayed) -> usize
 
 // Whether a file is a replay file with an empty trace, which asks for the cost.
 fn asks_cost(file: &[u8]) -> bool
-    ensures { result ≡ asksCost file.now }
+    ensures { result ≡ asks_cost file.now }
 {
     if !good_file(file) {
         return false;
@@ -88,8 +88,8 @@ fn asks_cost(file: &[u8]) -> bool
 
 // The steps that a file's list may take.
 fn file_steps(file: &[u8]) -> usize
-    requires { goodFile file.now ≡ true }
-    ensures { result ≡ fileSteps file.now }
+    requires { good_file file.now ≡ true }
+    ensures { result ≡ file_steps file.now }
 {
     let at = file.len() - TRAILER;
     let c = replay_cost(part_at(file, at), part_at(file, at + 8));
@@ -99,7 +99,7 @@ fn file_steps(file: &[u8]) -> usize
 // The line with the cost from `at` on, where the file asks for it; the place after it.
 fn put_cost(text: &mut [u8], at: usize, file: &[u8]) -> usize
     requires { at < 0x1_0000 }
-    ensures { Put text.old at (costText file.now) text.new result }
+    ensures { Put text.old at (cost_text file.now) text.new result }
 {
     if !asks_cost(file) {
         return at;

@@ -4,10 +4,10 @@ use Rattle.std.proofs.Common.{sym, ap, ◌∙◌, true≢false, append-nil, appe
 use Rattle.std.proofs.Math.Option.{Option, none, some}
 use Rattle.meaning.specs.Words.{eq_list, is_some}
 use Rattle.meaning.specs.Tables.{Table}
-use Rattle.replaying.specs.Trace.{Run, runsOf}
-use Rattle.replaying.specs.Listed.{ifSome, lookupsOf}
+use Rattle.replaying.specs.Trace.{Run, runs_of}
+use Rattle.replaying.specs.Listed.{if_some, lookups_of}
 use Rattle.replaying.specs.Applying.{run}
-use Rattle.replaying.specs.Replay.{Tally, Replayed, agreeing, firstOut, counted, changed, verdicts, shallow, played, refusing, refusal, runsIn, replay}
+use Rattle.replaying.specs.Replay.{Tally, Replayed, agreeing, first_out, counted, changed, verdicts, shallow, played, refusing, refusal, runs_in, replay}
 
 not_none : (f : ℕ) → cond (eqb (suc f) 0) 0 (suc f + 1) ≡ suc f + 1
 not_none f =
@@ -15,27 +15,27 @@ not_none f =
     rw y
 
 -- one more verdict at the end
-agreeing-end : (vs : List Bool) (v : Bool) → agreeing (vs ++ (v ∷ [])) ≡ agreeing vs + agreeing (v ∷ [])
+agreeing_end : (vs : List Bool) (v : Bool) → agreeing (vs ++ (v ∷ [])) ≡ agreeing vs + agreeing (v ∷ [])
 unfolding agreeing
-agreeing-end [] v = sym (zero_left (agreeing (v ∷ [])))
+agreeing_end [] v = sym (zero_left (agreeing (v ∷ [])))
   where
     zero_left : (n : ℕ) → 0 + n ≡ n
     zero_left n = omega arith
-agreeing-end (true ∷ vs) v = let e = agreeing-end vs v in omega arith
-agreeing-end (false ∷ vs) v = agreeing-end vs v
+agreeing_end (true ∷ vs) v = let e = agreeing_end vs v in omega arith
+agreeing_end (false ∷ vs) v = agreeing_end vs v
 
 -- the first that did not agree, as one more verdict changes it
 abbrev next : ℕ → ℕ → Bool → ℕ
 next n first true = first
 next n first false = cond (eqb first 0) (n + 1) first
 
-out-end : (vs : List Bool) (v : Bool) → firstOut (vs ++ (v ∷ [])) ≡ next (length vs) (firstOut vs) v
-unfolding firstOut
-out-end [] true = refl
-out-end [] false = refl
-out-end (false ∷ vs) true = refl
-out-end (false ∷ vs) false = refl
-out-end (true ∷ vs) v = ap (λ (n : ℕ). cond (eqb n 0) 0 (n + 1)) (out-end vs v) ∙ step (firstOut vs) (length vs) v
+out_end : (vs : List Bool) (v : Bool) → first_out (vs ++ (v ∷ [])) ≡ next (length vs) (first_out vs) v
+unfolding first_out
+out_end [] true = refl
+out_end [] false = refl
+out_end (false ∷ vs) true = refl
+out_end (false ∷ vs) false = refl
+out_end (true ∷ vs) v = ap (λ (n : ℕ). cond (eqb n 0) 0 (n + 1)) (out_end vs v) ∙ step (first_out vs) (length vs) v
   where
     step : (f n : ℕ) (v : Bool) → cond (eqb (next n f v) 0) 0 (next n f v + 1) ≡ next (suc n) (cond (eqb f 0) 0 (f + 1)) v
     step f n true = refl
@@ -54,27 +54,27 @@ pub one_more : (vs : List Bool) (v : Bool) → counted (vs ++ (v ∷ [])) ≡ ch
 unfolding counted changed agreeing
 one_more vs true =
     let l : length (vs ++ (true ∷ [])) ≡ length vs + 1 = length-append vs (true ∷ []) in
-    λ i. record { runs = l i; agreements = agreeing-end vs true i; first = out-end vs true i }
+    λ i. record { runs = l i; agreements = agreeing_end vs true i; first = out_end vs true i }
 one_more vs false =
     let l : length (vs ++ (false ∷ [])) ≡ length vs + 1 = length-append vs (false ∷ []) in
-    let a : agreeing (vs ++ (false ∷ [])) ≡ agreeing vs = let e = agreeing-end vs false in omega arith in
-    λ i. record { runs = l i; agreements = a i; first = out-end vs false i }
+    let a : agreeing (vs ++ (false ∷ [])) ≡ agreeing vs = let e = agreeing_end vs false in omega arith in
+    λ i. record { runs = l i; agreements = a i; first = out_end vs false i }
 
 -- Its invariants.
 
 -- no more agree than there are
-pub agreements-within : (vs : List Bool) → (counted vs).agreements ≤ (counted vs).runs
+pub agreements_within : (vs : List Bool) → (counted vs).agreements ≤ (counted vs).runs
 unfolding counted agreeing
-agreements-within [] = omega arith
-agreements-within (true ∷ vs) = let h : agreeing vs ≤ length vs = agreements-within vs in omega arith
-agreements-within (false ∷ vs) = let h : agreeing vs ≤ length vs = agreements-within vs in omega arith
+agreements_within [] = omega arith
+agreements_within (true ∷ vs) = let h : agreeing vs ≤ length vs = agreements_within vs in omega arith
+agreements_within (false ∷ vs) = let h : agreeing vs ≤ length vs = agreements_within vs in omega arith
 
 -- the first that did not agree is one of the runs
-pub first-within : (vs : List Bool) → (counted vs).first ≤ (counted vs).runs
-unfolding counted firstOut
-first-within [] = omega arith
-first-within (false ∷ vs) = omega arith
-first-within (true ∷ vs) = step (firstOut vs) (first-within vs)
+pub first_within : (vs : List Bool) → (counted vs).first ≤ (counted vs).runs
+unfolding counted first_out
+first_within [] = omega arith
+first_within (false ∷ vs) = omega arith
+first_within (true ∷ vs) = step (first_out vs) (first_within vs)
   where
     step : (f : ℕ) → f ≤ length vs → cond (eqb f 0) 0 (f + 1) ≤ suc (length vs)
     step zero h = omega arith
@@ -82,10 +82,10 @@ first-within (true ∷ vs) = step (firstOut vs) (first-within vs)
 
 -- there is none exactly if all agree
 pub none_out : (vs : List Bool) → ((counted vs).first ≡ 0 → (counted vs).agreements ≡ (counted vs).runs) × ((counted vs).agreements ≡ (counted vs).runs → (counted vs).first ≡ 0)
-unfolding counted firstOut agreeing
+unfolding counted first_out agreeing
 none_out [] = (λ e. refl, λ e. refl)
-none_out (false ∷ vs) = (λ e. absurd (omega arith), λ e. absurd (let h : agreeing vs ≤ length vs = agreements-within vs in omega arith))
-none_out (true ∷ vs) = step (firstOut vs) (agreeing vs) (none_out vs).0 (none_out vs).1
+none_out (false ∷ vs) = (λ e. absurd (omega arith), λ e. absurd (let h : agreeing vs ≤ length vs = agreements_within vs in omega arith))
+none_out (true ∷ vs) = step (first_out vs) (agreeing vs) (none_out vs).0 (none_out vs).1
   where
     step : (f a : ℕ) → (f ≡ 0 → a ≡ length vs) → (a ≡ length vs → f ≡ 0)
         → (cond (eqb f 0) 0 (f + 1) ≡ 0 → a + 1 ≡ suc (length vs)) × (a + 1 ≡ suc (length vs) → cond (eqb f 0) 0 (f + 1) ≡ 0)
@@ -93,13 +93,13 @@ none_out (true ∷ vs) = step (firstOut vs) (agreeing vs) (none_out vs).0 (none_
     step (suc f) a h k = (λ e. absurd (omega (arith, not_none f)), λ e. absurd (let n : a ≡ length vs = omega arith in let q = k n in omega arith))
 
 -- it is the least: the run of that number did not agree, and each before it did
-pub least-out : (vs : List Bool) (k : ℕ) → (counted vs).first ≡ k + 1 → (get_or vs k true ≡ false) × ((j : ℕ) → j < k → get_or vs j false ≡ true)
-unfolding counted firstOut
-least-out [] k e = absurd (omega arith)
-least-out (false ∷ vs) k e =
+pub least_out : (vs : List Bool) (k : ℕ) → (counted vs).first ≡ k + 1 → (get_or vs k true ≡ false) × ((j : ℕ) → j < k → get_or vs j false ≡ true)
+unfolding counted first_out
+least_out [] k e = absurd (omega arith)
+least_out (false ∷ vs) k e =
     let z : k ≡ 0 = omega arith in
     rw z (refl, λ j h. absurd (omega arith))
-least-out (true ∷ vs) k e = step k (firstOut vs) (least-out vs) e
+least_out (true ∷ vs) k e = step k (first_out vs) (least_out vs) e
   where
     step : (k f : ℕ) → ((m : ℕ) → f ≡ m + 1 → (get_or vs m true ≡ false) × ((j : ℕ) → j < m → get_or vs j false ≡ true)) → cond (eqb f 0) 0 (f + 1) ≡ k + 1
         → (get_or (true ∷ vs) k true ≡ false) × ((j : ℕ) → j < k → get_or (true ∷ vs) j false ≡ true)
@@ -118,18 +118,18 @@ least-out (true ∷ vs) k e = step k (firstOut vs) (least-out vs) e
 -- the runs from a tally on, each changing it in place: what a loop over the trace does
 unfoldable pub play : List Table → Tally → List Run → Replayed
 play ts t [] = record { number = 0; place = 0; tally = t }
-play ts t (r ∷ rs) = ifSome (run ts r.given) (record { number = 18; place = 0; tally = t }) (λ s. play ts (changed (eq_list s r.came) t) rs)
+play ts t (r ∷ rs) = if_some (run ts r.given) (record { number = 18; place = 0; tally = t }) (λ s. play ts (changed (eq_list s r.came) t) rs)
 
 -- the loop ends with what is counted over all
-pub play-counts : (ts : List Table) (vs : List Bool) (rs : List Run)
+pub play_counts : (ts : List Table) (vs : List Bool) (rs : List Run)
     → play ts (counted vs) rs ≡ record { number = cond (shallow ts rs) 0 18; place = 0; tally = counted (vs ++ verdicts ts rs) }
-unfolding play shallow verdicts is_some ifSome
-play-counts ts vs [] = rw (append-nil vs)
-play-counts ts vs (r ∷ rs) = step (run ts r.given) (λ ws. play-counts ts ws rs)
+unfolding play shallow verdicts is_some if_some
+play_counts ts vs [] = rw (append-nil vs)
+play_counts ts vs (r ∷ rs) = step (run ts r.given) (λ ws. play_counts ts ws rs)
   where
     step : (o : Option (List ℕ)) → ((ws : List Bool) → play ts (counted ws) rs ≡ record { number = cond (shallow ts rs) 0 18; place = 0; tally = counted (ws ++ verdicts ts rs) })
-        → ifSome o (record { number = 18; place = 0; tally = counted vs }) (λ s. play ts (changed (eq_list s r.came) (counted vs)) rs)
-        ≡ record { number = cond (is_some o && shallow ts rs) 0 18; place = 0; tally = counted (vs ++ ifSome o [] (λ s. eq_list s r.came ∷ verdicts ts rs)) }
+        → if_some o (record { number = 18; place = 0; tally = counted vs }) (λ s. play ts (changed (eq_list s r.came) (counted vs)) rs)
+        ≡ record { number = cond (is_some o && shallow ts rs) 0 18; place = 0; tally = counted (vs ++ if_some o [] (λ s. eq_list s r.came ∷ verdicts ts rs)) }
     step none h = rw (append-nil vs)
     step (some s) h =
         let v = eq_list s r.came in
@@ -140,40 +140,40 @@ play-counts ts vs (r ∷ rs) = step (run ts r.given) (λ ws. play-counts ts ws r
 -- `in_place`: the replay's runs are one tally, at 0, 0, 0 first, that each run changes
 pub in_place : (ts : List Table) (rs : List Run) → played ts rs ≡ play ts (counted []) rs
 unfolding played
-in_place ts rs = sym (play-counts ts [] rs)
+in_place ts rs = sym (play_counts ts [] rs)
 
-shallow-both : (ts : List Table) (before after : List Run) → shallow ts before ≡ true → shallow ts (before ++ after) ≡ shallow ts after
+shallow_both : (ts : List Table) (before after : List Run) → shallow ts before ≡ true → shallow ts (before ++ after) ≡ shallow ts after
 unfolding shallow
-shallow-both ts [] after h = refl
-shallow-both ts (r ∷ before) after h = step (is_some (run ts r.given)) h (shallow-both ts before after)
+shallow_both ts [] after h = refl
+shallow_both ts (r ∷ before) after h = step (is_some (run ts r.given)) h (shallow_both ts before after)
   where
     step : (b : Bool) → b && shallow ts before ≡ true → (shallow ts before ≡ true → shallow ts (before ++ after) ≡ shallow ts after) → b && shallow ts (before ++ after) ≡ shallow ts after
     step true h k = k h
     step false h k = absurd (true≢false (sym h))
 
-verdicts-both : (ts : List Table) (before after : List Run) → shallow ts before ≡ true → verdicts ts (before ++ after) ≡ verdicts ts before ++ verdicts ts after
-unfolding shallow verdicts is_some ifSome
-verdicts-both ts [] after h = refl
-verdicts-both ts (r ∷ before) after h = step (run ts r.given) h (verdicts-both ts before after)
+verdicts_both : (ts : List Table) (before after : List Run) → shallow ts before ≡ true → verdicts ts (before ++ after) ≡ verdicts ts before ++ verdicts ts after
+unfolding shallow verdicts is_some if_some
+verdicts_both ts [] after h = refl
+verdicts_both ts (r ∷ before) after h = step (run ts r.given) h (verdicts_both ts before after)
   where
     step : (o : Option (List ℕ)) → is_some o && shallow ts before ≡ true → (shallow ts before ≡ true → verdicts ts (before ++ after) ≡ verdicts ts before ++ verdicts ts after)
-        → ifSome o [] (λ s. eq_list s r.came ∷ verdicts ts (before ++ after)) ≡ ifSome o [] (λ s. eq_list s r.came ∷ verdicts ts before) ++ verdicts ts after
+        → if_some o [] (λ s. eq_list s r.came ∷ verdicts ts (before ++ after)) ≡ if_some o [] (λ s. eq_list s r.came ∷ verdicts ts before) ++ verdicts ts after
     step none h k = absurd (true≢false (sym h))
     step (some s) h k = ap (λ (l : List Bool). eq_list s r.came ∷ l) (k h)
 
 -- `so_far`: where none of the first runs goes too deep, the loop stands after them at the tally that the definition counts over them, and goes on from there
 pub so_far : (ts : List Table) (before after : List Run) → shallow ts before ≡ true → play ts (played ts before).tally after ≡ played ts (before ++ after)
 unfolding played
-so_far ts before after h = rw (shallow-both ts before after h, verdicts-both ts before after h) (play-counts ts (verdicts ts before) after)
+so_far ts before after h = rw (shallow_both ts before after h, verdicts_both ts before after h) (play_counts ts (verdicts ts before) after)
 
 -- The whole answer.
 
 -- a refusal before any run: its number, its place, and a tally of 0, 0, 0
-pub refused-first : (list buffer trace : List ℕ) (r : ℕ × ℕ) → refusal list buffer trace ≡ some r → replay list buffer trace ≡ refusing r
+pub refused_first : (list buffer trace : List ℕ) (r : ℕ × ℕ) → refusal list buffer trace ≡ some r → replay list buffer trace ≡ refusing r
 unfolding replay
-refused-first list buffer trace r e = ap (λ (o : Option (ℕ × ℕ)). ifSome o (played (lookupsOf list buffer) (runsIn (runsOf trace))) refusing) e
+refused_first list buffer trace r e = ap (λ (o : Option (ℕ × ℕ)). if_some o (played (lookups_of list buffer) (runs_in (runs_of trace))) refusing) e
 
 -- otherwise the runs, over what the list and the trace say
-pub replays : (list buffer trace : List ℕ) → refusal list buffer trace ≡ none → replay list buffer trace ≡ played (lookupsOf list buffer) (runsIn (runsOf trace))
+pub replays : (list buffer trace : List ℕ) → refusal list buffer trace ≡ none → replay list buffer trace ≡ played (lookups_of list buffer) (runs_in (runs_of trace))
 unfolding replay
-replays list buffer trace e = ap (λ (o : Option (ℕ × ℕ)). ifSome o (played (lookupsOf list buffer) (runsIn (runsOf trace))) refusing) e
+replays list buffer trace e = ap (λ (o : Option (ℕ × ℕ)). if_some o (played (lookups_of list buffer) (runs_in (runs_of trace))) refusing) e

@@ -1,7 +1,7 @@
 -- Costs of lists with their whole answers: one table, one statement over all its rows, by computation.
 use Rattle.std.specs.Prelude.{ℕ, ◌≡◌, refl, List, [], ◌∷◌, map}
 use Rattle.meaning.specs.Words.{bytes2, flat}
-use Rattle.replaying.specs.Cost.{Cost, replayCost}
+use Rattle.replaying.specs.Cost.{Cost, replay_cost}
 
 -- a list and a buffer, as words, and what their cost is: number, place, steps
 pub record Row : Type 0 where
@@ -12,7 +12,7 @@ pub record Row : Type 0 where
   pub steps : ℕ
 
 abbrev pub call : Row → Cost
-call r = replayCost (flat r.list) (flat r.buffer)
+call r = replay_cost (flat r.list) (flat r.buffer)
 
 abbrev pub stated : Row → Cost
 stated r = record { number = r.number; place = r.place; steps = r.steps }
@@ -46,6 +46,6 @@ rows =
     ∷ []
 
 -- each list costs what its row states
-pub each-cost : map call rows ≡ map stated rows
-unfolding bytes2 flat replayCost rows
-each-cost = refl
+pub each_cost : map call rows ≡ map stated rows
+unfolding bytes2 flat replay_cost rows
+each_cost = refl

@@ -27,9 +27,9 @@ pub record Spelling (n : ℕ) (small : List ℕ) (at left : ℕ) : Type 0 where
   pub fits : left < tens at
   pub rest : digits at left (drop at small) ≡ decimal n
 
-pub spelling-all : {n : ℕ} {small : List ℕ} → length small ≡ 20 → n < 0x1_0000_0000_0000_0000 → Spelling n small 20 n
+pub spelling_all : {n : ℕ} {small : List ℕ} → length small ≡ 20 → n < 0x1_0000_0000_0000_0000 → Spelling n small 20 n
 unfolding tens decimal
-spelling-all {n} {small} e h = record {
+spelling_all {n} {small} e h = record {
   some = omega arith;
   within = omega arith;
   long = e;
@@ -38,11 +38,11 @@ spelling-all {n} {small} e h = record {
 }
 
 -- one digit of several
-pub spelling-turn : {n : ℕ} {small : List ℕ} {at left : ℕ} → Spelling n small at left → 10 ≤ left → Spelling n (set small (at - 1) (48 + left % 10)) (at - 1) (left / 10)
+pub spelling_turn : {n : ℕ} {small : List ℕ} {at left : ℕ} → Spelling n small at left → 10 ≤ left → Spelling n (set small (at - 1) (48 + left % 10)) (at - 1) (left / 10)
 unfolding tens digits
-spelling-turn {at = zero} k h = absurd (omega (arith, k.some))
-spelling-turn {at = suc zero} k h = absurd (omega (arith, k.fits))
-spelling-turn {n = n} {small = small} {at = suc (suc p)} {left = left} k h =
+spelling_turn {at = zero} k h = absurd (omega (arith, k.some))
+spelling_turn {at = suc zero} k h = absurd (omega (arith, k.fits))
+spelling_turn {n = n} {small = small} {at = suc (suc p)} {left = left} k h =
     let e : suc (suc p) - 1 ≡ suc p = omega arith in
     rw e (record {
       some = omega arith;
@@ -53,10 +53,10 @@ spelling-turn {n = n} {small = small} {at = suc (suc p)} {left = left} k h =
     })
 
 -- the first digit
-pub spelling-end : {n : ℕ} {small : List ℕ} {at left : ℕ} → Spelling n small at left → left < 10 → Spelled n (set small (at - 1) (48 + left)) (at - 1)
+pub spelling_end : {n : ℕ} {small : List ℕ} {at left : ℕ} → Spelling n small at left → left < 10 → Spelled n (set small (at - 1) (48 + left)) (at - 1)
 unfolding digits
-spelling-end {at = zero} k h = absurd (omega (arith, k.some))
-spelling-end {n = n} {small = small} {at = suc p} {left = left} k h =
+spelling_end {at = zero} k h = absurd (omega (arith, k.some))
+spelling_end {n = n} {small = small} {at = suc p} {left = left} k h =
     let e : suc p - 1 ≡ p = omega arith in
     rw e (record {
       within = omega (arith, k.within);

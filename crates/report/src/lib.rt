@@ -1,7 +1,7 @@
 // What the program prints of an answer, as bytes in a lent buffer. Each function writes where there is room, and answers the place after what it writes.
 ghost use Rattle.std.specs.Prelude.{◌≡◌, ◌+◌, ◌/◌, ◌%◌, ◌≤◌, ◌<◌, length};
 ghost use Rattle.meaning.specs.Job.{decimal, printed};
-ghost use Rattle.report_lines.specs.Text.{Put, Spelled, Printable, lineText, keptText};
+ghost use Rattle.report_lines.specs.Text.{Put, Spelled, Printable, line_text, kept_text};
 
 use report_lines::{NEWLINE, put_lines, put_one};
 use wire::byte;
@@ -50,7 +50,7 @@ fn put_decimal(text: &mut [u8], at: usize, n: usize) -> usize
 // What is printed of the bytes that are kept.
 fn put_kept(text: &mut [u8], bytes: &[u8]) -> usize
     requires { length bytes.now ≤ 262144 }
-    ensures { Put text.old 0 (keptText bytes.now) text.new result }
+    ensures { Put text.old 0 (kept_text bytes.now) text.new result }
 {
     let p = put_text(text, 0, b"kept ");
     let q = put_decimal(text, p, bytes.len());
@@ -61,7 +61,7 @@ fn put_kept(text: &mut [u8], bytes: &[u8]) -> usize
 // A line of a word and a number, from `at` on; the place after its newline.
 pub fn put_line(text: &mut [u8], at: usize, word: &[u8], n: usize) -> usize
     requires { at + length word.now < 0x1_0000_0000 }
-    ensures { Put text.old at (lineText word.now n) text.new result }
+    ensures { Put text.old at (line_text word.now n) text.new result }
 {
     let p = put_text(text, at, word);
     let q = put_decimal(text, p, n);

@@ -1,6 +1,6 @@
 // Bytes in hex, 16 a line, written into a lent buffer.
 ghost use Rattle.std.specs.Prelude.{[], ◌∷◌, ◌≡◌, ◌+◌, ◌/◌, ◌%◌, ◌≤◌, ◌<◌, length};
-ghost use Rattle.meaning.specs.Job.{hexDigit, hexLines};
+ghost use Rattle.meaning.specs.Job.{hex_digit, hex_lines};
 ghost use Rattle.report_lines.specs.Text.{Put};
 
 use put_words::put_byte;
@@ -21,7 +21,7 @@ pub fn put_one(text: &mut [u8], at: usize, b: usize) -> usize
 // A number below 16 as a digit, in lower case.
 fn hex_digit(d: usize) -> usize
     requires { d < 16 }
-    ensures { (result ≡ hexDigit d) × (result < 256) }
+    ensures { (result ≡ hex_digit d) × (result < 256) }
 {
     if d < 10 {
         return 48 + d;
@@ -32,7 +32,7 @@ fn hex_digit(d: usize) -> usize
 // A byte as two digits, from `at` on.
 fn put_hex(text: &mut [u8], at: usize, b: usize) -> usize
     requires { (at < 0x1_0000_0000) × (b < 256) }
-    ensures { Put text.old at (hexDigit (b / 16) ∷ hexDigit (b % 16) ∷ []) text.new result }
+    ensures { Put text.old at (hex_digit (b / 16) ∷ hex_digit (b % 16) ∷ []) text.new result }
 {
     let p = put_one(text, at, hex_digit(b / 16));
     put_one(text, p, hex_digit(b % 16))
@@ -41,7 +41,7 @@ fn put_hex(text: &mut [u8], at: usize, b: usize) -> usize
 // The bytes in hex from `at` on, 16 a line; `room` is how many more the line takes. Each line ends in a newline, the last one too.
 pub fn put_lines(text: &mut [u8], at: usize, bytes: &[u8]) -> usize
     requires { (at < 65536) × (length bytes.now ≤ 262144) }
-    ensures { Put text.old at (hexLines 16 bytes.now) text.new result }
+    ensures { Put text.old at (hex_lines 16 bytes.now) text.new result }
 {
     let mut p = at;
     let mut room: usize = 16;

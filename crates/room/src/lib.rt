@@ -1,6 +1,6 @@
 // Whether a layout has room: the last three answers of document 01, and what was laid.
 ghost use Rattle.std.specs.Prelude.{◌≡◌};
-ghost use Rattle.room.specs.Laid.{laidFor};
+ghost use Rattle.room.specs.Laid.{laid_for};
 
 // The most bytes of a source and of a layout.
 pub const LIMIT: usize = 262144;
@@ -25,7 +25,7 @@ pub enum Laid {
 
 // What becomes of a layout of `size` bytes in a buffer of `len` bytes; `fits` says whether each of its offsets and counts fits a word.
 pub fn room(size: usize, fits: bool, len: usize) -> Laid
-    ensures { result ≡ laidFor size fits len }
+    ensures { result ≡ laid_for size fits len }
 {
     if LIMIT < size {
         return Laid::TooBig;

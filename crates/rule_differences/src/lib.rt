@@ -1,9 +1,9 @@
 // What differs between the rules that a first glyph reaches on the left and on the right, where each rule's partner is known. Partners are lent as cells: the partner's rank plus 1, or 0 for a rule that has none.
 ghost use Rattle.std.specs.Prelude.{◌≡◌, ◌+◌, ◌≤◌, ◌<◌};
 ghost use Rattle.meaning.specs.Words.{up_from};
-ghost use Rattle.differences.specs.Entries.{each, leftRule, rightRule, longer};
+ghost use Rattle.differences.specs.Entries.{each, left_rule, right_rule, longer};
 ghost use Rattle.listing.specs.Listed.{Listed};
-ghost use Rattle.rule_differences.specs.Ranked.{rank_of, left_at, rightAt, bothAt};
+ghost use Rattle.rule_differences.specs.Ranked.{rank_of, left_at, right_at, both_at};
 
 use cells::cell;
 use listing::put_listed;
@@ -11,7 +11,7 @@ use listing::put_listed;
 // The entry of the left rule of rank `i`: it has no partner, or its partner has another rank and it has moved; the place after it.
 fn put_left(out: &mut [u8], pos: usize, g: usize, i: usize, partner: usize) -> usize
     requires { pos < 0x8000_0000_0000 }
-    ensures { Listed (leftRule g i (rank_of partner)) out.old pos out.new result × (result ≤ pos + 12) }
+    ensures { Listed (left_rule g i (rank_of partner)) out.old pos out.new result × (result ≤ pos + 12) }
 {
     if partner == 0 {
         return put_listed(out, pos, 3, 0, g, i, 0, 0);
@@ -25,7 +25,7 @@ fn put_left(out: &mut [u8], pos: usize, g: usize, i: usize, partner: usize) -> u
 // The entry of the right rule of rank `i`: it has no partner; the place after it.
 fn put_right(out: &mut [u8], pos: usize, g: usize, i: usize, partner: usize) -> usize
     requires { pos < 0x8000_0000_0000 }
-    ensures { Listed (rightRule g i (rank_of partner)) out.old pos out.new result × (result ≤ pos + 12) }
+    ensures { Listed (right_rule g i (rank_of partner)) out.old pos out.new result × (result ≤ pos + 12) }
 {
     if partner == 0 {
         return put_listed(out, pos, 3, 1, g, i, 0, 0);
@@ -47,7 +47,7 @@ fn list_left(partners: &[u32], m: usize, g: usize, i: usize, out: &mut [u8], pos
 // The same of the right rule of rank `i`, where there are `n`.
 fn list_right(partners: &[u32], n: usize, g: usize, i: usize, out: &mut [u8], pos: usize) -> usize
     requires { (n < 65536) × (pos < 0x8000_0000_0000) }
-    ensures { Listed (rightAt partners.now n g i) out.old pos out.new result × (result ≤ pos + 12) }
+    ensures { Listed (right_at partners.now n g i) out.old pos out.new result × (result ≤ pos + 12) }
 {
     if n <= i {
         return pos;
@@ -76,7 +76,7 @@ pub fn list_ranks(
     pos: usize,
 ) -> usize
     requires { (m < 65536) × (n < 65536) × (pos < 0x2000_0000_0000) }
-    ensures { Listed (each (bothAt lefts.now m rights.now n g) (up_from 0 (longer m n))) out.old pos out.new result × (result ≤ pos + 0x18_0000) }
+    ensures { Listed (each (both_at lefts.now m rights.now n g) (up_from 0 (longer m n))) out.old pos out.new result × (result ≤ pos + 0x18_0000) }
 {
     let end = longer(m, n);
     let mut at = pos;

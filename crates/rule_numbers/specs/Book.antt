@@ -14,8 +14,8 @@ count came = get_or came 65536 0
 abbrev pub code_at : List ℕ → ℕ → ℕ
 code_at came k = get_or came (65536 + 2 * k) 0
 
-abbrev pub olderAt : List ℕ → ℕ → ℕ
-olderAt came k = get_or came (65537 + 2 * k) 0
+abbrev pub older_at : List ℕ → ℕ → ℕ
+older_at came k = get_or came (65537 + 2 * k) 0
 
 -- k is one of the numbers
 pub record Is (came : List ℕ) (k : ℕ) : Type 0 where
@@ -24,13 +24,13 @@ pub record Is (came : List ℕ) (k : ℕ) : Type 0 where
 
 -- One number more: the code c, whose print is p, came first with it.
 pub record Added (came after : List ℕ) (c p : ℕ) : Type 0 where
-  pub count-is : count after ≡ count came + 1
-  pub code-new : code_at after (count came + 1) ≡ c
-  pub older-new : olderAt after (count came + 1) ≡ get_or came p 0
-  pub code-old : (j : ℕ) → Is came j → code_at after j ≡ code_at came j
-  pub older-old : (j : ℕ) → Is came j → olderAt after j ≡ olderAt came j
-  pub print-new : get_or after p 0 ≡ count came + 1
-  pub print-old : (q : ℕ) → q < 65536 → (q ≡ p → ⊥) → get_or after q 0 ≡ get_or came q 0
+  pub count_is : count after ≡ count came + 1
+  pub code_new : code_at after (count came + 1) ≡ c
+  pub older_new : older_at after (count came + 1) ≡ get_or came p 0
+  pub code_old : (j : ℕ) → Is came j → code_at after j ≡ code_at came j
+  pub older_old : (j : ℕ) → Is came j → older_at after j ≡ older_at came j
+  pub print_new : get_or after p 0 ≡ count came + 1
+  pub print_old : (q : ℕ) → q < 65536 → (q ≡ p → ⊥) → get_or after q 0 ≡ get_or came q 0
 
 module _ {A : Type 0} (says : ℕ → A) where
   -- what a search for what the code c says answers: the number whose first code says the same, or 0 if there is none
@@ -45,8 +45,8 @@ module _ {A : Type 0} (says : ℕ → A) where
       pub prints : (k : ℕ) → Is came k → print (says (code_at came k)) < 65536
       pub latest : (k : ℕ) → Is came k → k ≤ get_or came (print (says (code_at came k))) 0
       pub chained : (p : ℕ) → p < 65536 → (get_or came p 0 ≡ 0 → ⊥) → Is came (get_or came p 0) × (print (says (code_at came (get_or came p 0))) ≡ p)
-      pub before : (j k : ℕ) → Is came j → Is came k → j < k → print (says (code_at came j)) ≡ print (says (code_at came k)) → j ≤ olderAt came k
-      pub linked : (k : ℕ) → Is came k → (olderAt came k < k) × ((olderAt came k ≡ 0 → ⊥) → print (says (code_at came (olderAt came k))) ≡ print (says (code_at came k)))
+      pub before : (j k : ℕ) → Is came j → Is came k → j < k → print (says (code_at came j)) ≡ print (says (code_at came k)) → j ≤ older_at came k
+      pub linked : (k : ℕ) → Is came k → (older_at came k < k) × ((older_at came k ≡ 0 → ⊥) → print (says (code_at came (older_at came k))) ≡ print (says (code_at came k)))
 
     -- Besides, a code's number is that of the first code that says the same, and there is a cell for each number that may come.
     pub record Book (num came : List ℕ) : Type 0 where

@@ -1,7 +1,7 @@
 // Numbers of rules: equal exactly if the rules say the same. `num` has a cell for each code: its number, or 0 while it has none.
 // `came` has, for each print, the latest number of a rule with this print; then how many numbers there are; then for each number the code that came first with it, and the number before it with the same print.
 ghost use Rattle.std.specs.Prelude.{◌≡◌, ◌+◌, ◌*◌, ◌≤◌, ◌<◌, length, get_or, set};
-ghost use Rattle.rule_says.specs.Said.{saysBy, printSays};
+ghost use Rattle.rule_says.specs.Said.{says_by, print_says};
 ghost use Rattle.rule_numbers.specs.Book.{count, Added, Firsts, Sought, Book, Numbered};
 
 use cells::{cell, put_cell};
@@ -17,8 +17,8 @@ fn seek(
     latest: usize,
     code: usize,
 ) -> usize
-    requires { (code < 0x1_0000_0000) × (latest < 0x1_0000_0000) × (printSays (saysBy shape left.now right.now t.now code) < 65536) × (latest ≡ get_or came.now (printSays (saysBy shape left.now right.now t.now code)) 0) × Firsts (saysBy shape left.now right.now t.now) printSays came.now }
-    ensures { Sought (saysBy shape left.now right.now t.now) came.now code result × (result < 0x1_0000_0000) }
+    requires { (code < 0x1_0000_0000) × (latest < 0x1_0000_0000) × (print_says (says_by shape left.now right.now t.now code) < 65536) × (latest ≡ get_or came.now (print_says (says_by shape left.now right.now t.now code)) 0) × Firsts (says_by shape left.now right.now t.now) print_says came.now }
+    ensures { Sought (says_by shape left.now right.now t.now) came.now code result × (result < 0x1_0000_0000) }
 {
     let mut k = latest;
     while k != 0 {
@@ -55,8 +55,8 @@ pub fn number(
     came: &mut [u32],
     code: usize,
 ) -> usize
-    requires { (code < length num.old) × Book (saysBy shape left.now right.now t.now) printSays num.old came.old }
-    ensures { Numbered (saysBy shape left.now right.now t.now) printSays num.old code num.new came.new result }
+    requires { (code < length num.old) × Book (says_by shape left.now right.now t.now) print_says num.old came.old }
+    ensures { Numbered (says_by shape left.now right.now t.now) print_says num.old code num.new came.new result }
 {
     let k = cell(num, code);
     if k != 0 {

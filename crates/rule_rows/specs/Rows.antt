@@ -8,8 +8,8 @@ unfoldable pub side_of : ℕ → List ℕ → List ℕ → List ℕ
 side_of side l r = cond (eqb side 0) l r
 
 -- the number of a word: itself where there is no base, and else what t has for it
-unfoldable pub numberBy : List ℕ → ℕ → ℕ → ℕ
-numberBy t base w = cond (eqb base 0) w (get_or t (base + w) 0)
+unfoldable pub number_by : List ℕ → ℕ → ℕ → ℕ
+number_by t base w = cond (eqb base 0) w (get_or t (base + w) 0)
 
 -- the places of a row are numbers
 pub record Reads (x : Run) : Type 0 where
@@ -17,14 +17,14 @@ pub record Reads (x : Run) : Type 0 where
   pub based : x.base < 0x1_0000_0000
 
 -- the first n numbers of a row
-unfoldable pub numbersOf : List ℕ → List ℕ → List ℕ → Run → ℕ → List ℕ
-numbersOf l r t x n = map (numberBy t x.base) (words (side_of x.side l r) x.at n)
+unfoldable pub numbers_of : List ℕ → List ℕ → List ℕ → Run → ℕ → List ℕ
+numbers_of l r t x n = map (number_by t x.base) (words (side_of x.side l r) x.at n)
 
 -- a number folded into a print
 unfoldable pub mix : ℕ → ℕ → ℕ
 mix h w = (h * 40503 + w) % 65536
 
 -- numbers folded into a print, in order
-unfoldable pub printNumbers : ℕ → List ℕ → ℕ
-printNumbers h [] = h
-printNumbers h (w ∷ ws) = printNumbers (mix h w) ws
+unfoldable pub print_numbers : ℕ → List ℕ → ℕ
+print_numbers h [] = h
+print_numbers h (w ∷ ws) = print_numbers (mix h w) ws

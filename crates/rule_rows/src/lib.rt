@@ -2,7 +2,7 @@
 ghost use Rattle.std.specs.Prelude.{◌≡◌, eqb, ◌+◌, ◌*◌, ◌<◌};
 ghost use Rattle.meaning.specs.Words.{word};
 ghost use Rattle.differences.specs.Entries.{same_list};
-ghost use Rattle.rule_rows.specs.Rows.{side_of, numberBy, Reads, numbersOf, mix, printNumbers};
+ghost use Rattle.rule_rows.specs.Rows.{side_of, number_by, Reads, numbers_of, mix, print_numbers};
 
 use cells::cell;
 use wire::word_at;
@@ -28,7 +28,7 @@ pub fn word_of(left: &[u8], right: &[u8], side: usize, at: usize) -> usize
 // The `i`-th number of a row.
 fn number_at(left: &[u8], right: &[u8], t: &[u32], x: Run, i: usize) -> usize
     requires { Reads x × (i < 0x1_0000_0000) }
-    ensures { (result ≡ numberBy t.now x.base (word (side_of x.side left.now right.now) (x.at + 2 * i))) × (result < 0x1_0000_0000) }
+    ensures { (result ≡ number_by t.now x.base (word (side_of x.side left.now right.now) (x.at + 2 * i))) × (result < 0x1_0000_0000) }
 {
     let w = word_of(left, right, x.side, x.at + 2 * i);
     if x.base == 0 {
@@ -40,7 +40,7 @@ fn number_at(left: &[u8], right: &[u8], t: &[u32], x: Run, i: usize) -> usize
 // Whether the first `n` numbers of two rows are the same.
 pub fn same_row(left: &[u8], right: &[u8], t: &[u32], x: Run, y: Run, n: usize) -> bool
     requires { Reads x × Reads y × (n < 0x1_0000_0000) }
-    ensures { result ≡ same_list eqb (numbersOf left.now right.now t.now x n) (numbersOf left.now right.now t.now y n) }
+    ensures { result ≡ same_list eqb (numbers_of left.now right.now t.now x n) (numbers_of left.now right.now t.now y n) }
 {
     let mut i = 0;
     while i < n {
@@ -65,7 +65,7 @@ pub fn mix(h: usize, w: usize) -> usize
 // The first `n` numbers of a row, folded into the print `h`.
 pub fn print_row(left: &[u8], right: &[u8], t: &[u32], x: Run, n: usize, h: usize) -> usize
     requires { Reads x × (n < 0x1_0000_0000) × (h < 65536) }
-    ensures { (result ≡ printNumbers h (numbersOf left.now right.now t.now x n)) × (result < 65536) }
+    ensures { (result ≡ print_numbers h (numbers_of left.now right.now t.now x n)) × (result < 65536) }
 {
     let mut print = h;
     let mut i = 0;

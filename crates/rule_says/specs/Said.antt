@@ -2,28 +2,28 @@
 use Rattle.std.specs.Prelude.{ℕ, ◌+◌, ◌-◌, ◌*◌, ◌/◌, ◌%◌, ◌<◌, ◌≡◌, cond, List, [], ◌∷◌, map, eqb}
 use Rattle.meaning.specs.Words.{word, words, entries}
 use Rattle.meaning.specs.Tables.{Ligature, rule, ligature}
-use Rattle.differences.specs.Content.{Says, ruleSays, oneGlyph}
+use Rattle.differences.specs.Content.{Says, rule_says, one_glyph}
 use Rattle.rules.specs.declared.RuleParts.{RuleParts}
 use Rattle.rules.specs.Parts.{Near}
 use Rattle.rule_says.specs.declared.Shape.{Shape}
 use Rattle.rule_rows.specs.declared.Run.{Run}
-use Rattle.rule_rows.specs.Rows.{side_of, numberBy, mix}
+use Rattle.rule_rows.specs.Rows.{side_of, number_by, mix}
 
 -- a word as its number by itself
 unfoldable pub numbered : List ℕ → ℕ → ℕ → List (ℕ × ℕ)
-numbered t base w = oneGlyph (numberBy t base w)
+numbered t base w = one_glyph (number_by t base w)
 
 -- a ligature, where these are the glyphs that its components stand for
-unfoldable pub ligatureBy : (ℕ → List (ℕ × ℕ)) → Ligature → Says
-ligatureBy f x = record { back = []; count = x.count; input = map f x.parts; ahead = []; records = []; forms = x.glyph }
+unfoldable pub ligature_by : (ℕ → List (ℕ × ℕ)) → Ligature → Says
+ligature_by f x = record { back = []; count = x.count; input = map f x.parts; ahead = []; records = []; forms = x.glyph }
 
 -- what the rule or ligature at `at` says, by numbers
-unfoldable pub saysAt : ℕ → List ℕ → List ℕ → ℕ → ℕ → ℕ → ℕ → Says
-saysAt kind s t b i a at = cond (eqb kind 3) (ligatureBy (numbered t i) (ligature s at)) (ruleSays (numbered t b) (numbered t i) (numbered t a) (rule (eqb kind 2) s at))
+unfoldable pub says_at : ℕ → List ℕ → List ℕ → ℕ → ℕ → ℕ → ℕ → Says
+says_at kind s t b i a at = cond (eqb kind 3) (ligature_by (numbered t i) (ligature s at)) (rule_says (numbered t b) (numbered t i) (numbered t a) (rule (eqb kind 2) s at))
 
 -- the glyph that it forms; 0 for a rule
-unfoldable pub formsAt : ℕ → List ℕ → ℕ → ℕ
-formsAt kind s at = cond (eqb kind 3) (word s at) 0
+unfoldable pub forms_at : ℕ → List ℕ → ℕ → ℕ
+forms_at kind s at = cond (eqb kind 3) (word s at) 0
 
 -- where the numbers of the k-th class table stand, if words are classes
 unfoldable pub base_of : ℕ → ℕ → ℕ
@@ -34,13 +34,13 @@ abbrev pub run_of : ℕ → ℕ → ℕ → ℕ → Run
 run_of classes code k at = record { side = code % 2; at = at; base = base_of classes (k + code % 2) }
 
 -- what a rule says, by its code
-unfoldable pub saysBy : Shape → List ℕ → List ℕ → List ℕ → ℕ → Says
-saysBy shape l r t code =
-    saysAt shape.kind (side_of (code % 2) l r) t (base_of shape.classes (1 + code % 2)) (base_of shape.classes (3 + code % 2)) (base_of shape.classes (5 + code % 2)) (code / 2)
+unfoldable pub says_by : Shape → List ℕ → List ℕ → List ℕ → ℕ → Says
+says_by shape l r t code =
+    says_at shape.kind (side_of (code % 2) l r) t (base_of shape.classes (1 + code % 2)) (base_of shape.classes (3 + code % 2)) (base_of shape.classes (5 + code % 2)) (code / 2)
 
 -- what parts that stand in s say
-unfoldable pub partSays : List ℕ → List ℕ → ℕ → ℕ → ℕ → ℕ → RuleParts → Says
-partSays s t b i a forms r = record {
+unfoldable pub part_says : List ℕ → List ℕ → ℕ → ℕ → ℕ → ℕ → RuleParts → Says
+part_says s t b i a forms r = record {
   back = map (numbered t b) (words s r.back.at r.back.len);
   count = r.count;
   input = map (numbered t i) (words s r.input.at r.input.len);
@@ -51,7 +51,7 @@ partSays s t b i a forms r = record {
 
 -- r says where the parts of the rule or ligature at `at` stand
 pub record IsPart (kind : ℕ) (s : List ℕ) (at : ℕ) (r : RuleParts) : Type 0 where
-  pub says : (t : List ℕ) (b i a : ℕ) → partSays s t b i a (formsAt kind s at) r ≡ saysAt kind s t b i a at
+  pub says : (t : List ℕ) (b i a : ℕ) → part_says s t b i a (forms_at kind s at) r ≡ says_at kind s t b i a at
   pub back : Near at r.back
   pub input : Near at r.input
   pub ahead : Near at r.ahead
@@ -64,14 +64,14 @@ unfoldable pub lowest : List (ℕ × ℕ) → ℕ
 lowest [] = 0
 lowest (e ∷ es) = e.0
 
-unfoldable pub printRuns : ℕ → List (List (ℕ × ℕ)) → ℕ
-printRuns h [] = h
-printRuns h (x ∷ xs) = printRuns (mix h (lowest x)) xs
+unfoldable pub print_runs : ℕ → List (List (ℕ × ℕ)) → ℕ
+print_runs h [] = h
+print_runs h (x ∷ xs) = print_runs (mix h (lowest x)) xs
 
-unfoldable pub printPairs : ℕ → List (ℕ × ℕ) → ℕ
-printPairs h [] = h
-printPairs h (e ∷ es) = printPairs (mix (mix h e.0) e.1) es
+unfoldable pub print_pairs : ℕ → List (ℕ × ℕ) → ℕ
+print_pairs h [] = h
+print_pairs h (e ∷ es) = print_pairs (mix (mix h e.0) e.1) es
 
 -- the print of what a rule says, but for its count, which is told by its input save for 0 and 1
-unfoldable pub printSays : Says → ℕ
-printSays x = printPairs (printRuns (printRuns (printRuns x.forms x.back) x.input) x.ahead) x.records
+unfoldable pub print_says : Says → ℕ
+print_says x = print_pairs (print_runs (print_runs (print_runs x.forms x.back) x.input) x.ahead) x.records

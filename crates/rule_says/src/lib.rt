@@ -1,8 +1,8 @@
 // What a rule or a ligature says, by numbers: compared with what another says, and folded into a print. A rule is named by its code: twice its place, plus its side, 0 for the left subtable and 1 for the right one.
 ghost use Rattle.std.specs.Prelude.{◌≡◌, eqb, ◌/◌, ◌%◌, ◌<◌};
-ghost use Rattle.differences.specs.Entries.{same_list, sameSays};
-ghost use Rattle.rule_rows.specs.Rows.{side_of, numbersOf, Reads};
-ghost use Rattle.rule_says.specs.Said.{formsAt, base_of, run_of, saysBy, printSays, IsPart};
+ghost use Rattle.differences.specs.Entries.{same_list, same_says};
+ghost use Rattle.rule_rows.specs.Rows.{side_of, numbers_of, Reads};
+ghost use Rattle.rule_says.specs.Said.{forms_at, base_of, run_of, says_by, print_says, IsPart};
 
 use rule_rows::{Run, print_row, same_row, word_of};
 use rules::{Row, RuleParts, after_first, rule_parts};
@@ -58,7 +58,7 @@ fn parts_of(kind: usize, left: &[u8], right: &[u8], code: usize) -> RuleParts
 
 // The glyph that a ligature forms; 0 for a rule.
 fn forms_of(kind: usize, left: &[u8], right: &[u8], code: usize) -> usize
-    ensures { (result ≡ formsAt kind (side_of (code % 2) left.now right.now) (code / 2)) × (result < 65536) }
+    ensures { (result ≡ forms_at kind (side_of (code % 2) left.now right.now) (code / 2)) × (result < 65536) }
 {
     if kind != 3 {
         return 0;
@@ -103,7 +103,7 @@ fn records_of(code: usize, row: Row) -> Run
 // The print of what a rule says: equal for rules that say the same.
 pub fn print(shape: Shape, left: &[u8], right: &[u8], t: &[u32], code: usize) -> usize
     requires { code < 0x1_0000_0000 }
-    ensures { (result ≡ printSays (saysBy shape left.now right.now t.now code)) × (result < 65536) }
+    ensures { (result ≡ print_says (says_by shape left.now right.now t.now code)) × (result < 65536) }
 {
     let p = parts_of(shape.kind, left, right, code);
     let forms = forms_of(shape.kind, left, right, code);
@@ -126,7 +126,7 @@ pub fn print(shape: Shape, left: &[u8], right: &[u8], t: &[u32], code: usize) ->
 // Whether two parts, of `m` and of `n` numbers, are the same.
 fn same_part(left: &[u8], right: &[u8], t: &[u32], x: Run, m: usize, y: Run, n: usize) -> bool
     requires { Reads x × Reads y × (m < 0x1_0000_0000) × (n < 0x1_0000_0000) }
-    ensures { result ≡ same_list eqb (numbersOf left.now right.now t.now x m) (numbersOf left.now right.now t.now y n) }
+    ensures { result ≡ same_list eqb (numbers_of left.now right.now t.now x m) (numbers_of left.now right.now t.now y n) }
 {
     if m != n {
         return false;
@@ -137,7 +137,7 @@ fn same_part(left: &[u8], right: &[u8], t: &[u32], x: Run, m: usize, y: Run, n: 
 // Whether two rules say the same.
 pub fn same(shape: Shape, left: &[u8], right: &[u8], t: &[u32], a: usize, b: usize) -> bool
     requires { (a < 0x1_0000_0000) × (b < 0x1_0000_0000) }
-    ensures { result ≡ sameSays (saysBy shape left.now right.now t.now a) (saysBy shape left.now right.now t.now b) }
+    ensures { result ≡ same_says (says_by shape left.now right.now t.now a) (says_by shape left.now right.now t.now b) }
 {
     let p = parts_of(shape.kind, left, right, a);
     let q = parts_of(shape.kind, left, right, b);

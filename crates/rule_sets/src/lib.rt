@@ -1,15 +1,15 @@
 // Sets of rules of contexts, plain and chained: what is left of them, written into the area in one walk.
 ghost use Rattle.std.specs.Prelude.{◌≡◌, ◌+◌, ◌≤◌, ◌<◌, length};
 ghost use Rattle.std.proofs.Math.Option.{none};
-ghost use Rattle.meaning.specs.Tables.{ruleSet};
-ghost use Rattle.meaning.specs.Fault.{ruleFault, setFault};
-ghost use Rattle.meaning.specs.Cut.{cutSet};
-ghost use Rattle.meaning.specs.Layout.{block, ruleWords, setWords};
+ghost use Rattle.meaning.specs.Tables.{rule_set};
+ghost use Rattle.meaning.specs.Fault.{rule_fault, set_fault};
+ghost use Rattle.meaning.specs.Cut.{cut_set};
+ghost use Rattle.meaning.specs.Layout.{block, rule_words, set_words};
 ghost use Rattle.meaning.specs.Subset.{limit};
 ghost use Rattle.numbers.specs.Leaves.{Leaves};
-ghost use Rattle.member_sets.specs.Sets.{setMost};
+ghost use Rattle.member_sets.specs.Sets.{set_most};
 ghost use Rattle.member_sets.specs.Dead.{Dead};
-ghost use Rattle.kept_rules.specs.Left.{AllInside, mapsIn, ruleLeft, ruleSize};
+ghost use Rattle.kept_rules.specs.Left.{AllInside, maps_in, rule_left, rule_size};
 
 use area::{over, put};
 use bits::{has_bit, put_bit};
@@ -28,8 +28,8 @@ fn write_once(
     area: &mut [u8],
     pos: usize,
 ) -> usize
-    requires { (ruleFault chained src.now at ≡ none) × AllInside t.now maps × (0 < pos) × (pos ≤ length area.old) × Dead (ruleLeft chained (mapsIn t.now maps) src.now) dead.old }
-    ensures { Leaves area.old pos (ruleLeft chained (mapsIn t.now maps) src.now at) (ruleSize chained src.now at) area.new result × Dead (ruleLeft chained (mapsIn t.now maps) src.now) dead.new }
+    requires { (rule_fault chained src.now at ≡ none) × AllInside t.now maps × (0 < pos) × (pos ≤ length area.old) × Dead (rule_left chained (maps_in t.now maps) src.now) dead.old }
+    ensures { Leaves area.old pos (rule_left chained (maps_in t.now maps) src.now at) (rule_size chained src.now at) area.new result × Dead (rule_left chained (maps_in t.now maps) src.now) dead.new }
 {
     if has_bit(dead, 0, at) {
         return 0;
@@ -52,8 +52,8 @@ pub fn write_rules(
     area: &mut [u8],
     pos: usize,
 ) -> usize
-    requires { (setFault (ruleFault chained src.now) src.now at ≡ none) × (length src.now ≤ limit) × AllInside t.now maps × (pos ≤ length area.old) × Dead (ruleLeft chained (mapsIn t.now maps) src.now) dead.old }
-    ensures { Leaves area.old pos (block (setWords (ruleWords chained)) (cutSet chained (mapsIn t.now maps) (ruleSet chained src.now at))) (setMost (ruleWords chained) (cutSet chained (mapsIn t.now maps) (ruleSet chained src.now at)) src.now) area.new result × Dead (ruleLeft chained (mapsIn t.now maps) src.now) dead.new }
+    requires { (set_fault (rule_fault chained src.now) src.now at ≡ none) × (length src.now ≤ limit) × AllInside t.now maps × (pos ≤ length area.old) × Dead (rule_left chained (maps_in t.now maps) src.now) dead.old }
+    ensures { Leaves area.old pos (block (set_words (rule_words chained)) (cut_set chained (maps_in t.now maps) (rule_set chained src.now at))) (set_most (rule_words chained) (cut_set chained (maps_in t.now maps) (rule_set chained src.now at)) src.now) area.new result × Dead (rule_left chained (maps_in t.now maps) src.now) dead.new }
 {
     let n = word_inside(src, at);
     let first = pos + 2 + 2 * n;

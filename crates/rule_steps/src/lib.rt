@@ -1,10 +1,10 @@
 // The most steps that a rule of a lookup takes, from what the lookups that its records name take. A step is one lookup, asked at one place.
 ghost use Rattle.std.specs.Prelude.{◌≡◌, true, ◌+◌, ◌*◌, ◌/◌, ◌<◌, length};
 ghost use Rattle.meaning.specs.Words.{word};
-ghost use Rattle.meaning.specs.Tables.{ruleSet, reaches, classContext, coverContext, context, table};
-ghost use Rattle.replaying.specs.Listed.{goodList};
-ghost use Rattle.replaying.specs.Cost.{larger, largest, ruleSteps, setsSteps, tableSteps};
-ghost use Rattle.lookup_list.specs.Ready.{sourceAt};
+ghost use Rattle.meaning.specs.Tables.{rule_set, reaches, class_context, cover_context, context, table};
+ghost use Rattle.replaying.specs.Listed.{good_list};
+ghost use Rattle.replaying.specs.Cost.{larger, largest, rule_steps, sets_steps, table_steps};
+ghost use Rattle.lookup_list.specs.Ready.{source_at};
 ghost use Rattle.member_steps.specs.Most.{Counted};
 
 use lookup_list::{long_at, part};
@@ -24,7 +24,7 @@ fn most_in_set(
     marks: &mut [u32],
 ) -> usize
     requires { (set < 65536) × Counted chained src.now steps.now most marks.old }
-    ensures { (result ≡ larger most (largest (ruleSteps steps.now) (ruleSet chained src.now set))) × Counted chained src.now steps.now result marks.new }
+    ensures { (result ≡ larger most (largest (rule_steps steps.now) (rule_set chained src.now set))) × Counted chained src.now steps.now result marks.new }
 {
     let n = word_at(src, set);
     let mut top = most;
@@ -51,7 +51,7 @@ fn most_in_sets(
     marks: &mut [u32],
 ) -> usize
     requires { (slot < 65536) × (n < 65536) × Counted chained src.now steps.now 0 marks.old }
-    ensures { result ≡ setsSteps steps.now (reaches (ruleSet chained src.now) src.now 0 slot n) }
+    ensures { result ≡ sets_steps steps.now (reaches (rule_set chained src.now) src.now 0 slot n) }
 {
     let mut top = 0;
     let mut i = 0;
@@ -76,7 +76,7 @@ fn shared_steps(
     rounds: usize,
 ) -> usize
     requires { (slot < 65536) × (n < 65536) }
-    ensures { result ≡ setsSteps steps.now (reaches (ruleSet chained src.now) src.now 0 slot n) }
+    ensures { result ≡ sets_steps steps.now (reaches (rule_set chained src.now) src.now 0 slot n) }
 {
     if rounds != 0 {
         return shared_steps(chained, src, slot, n, steps, rounds - 1);
@@ -88,7 +88,7 @@ fn shared_steps(
 // The same of any sets. Marks are made only where rules are shared.
 fn sets_steps(chained: bool, src: &[u8], slot: usize, n: usize, steps: &[usize]) -> usize
     requires { (slot < 65536) × (n < 65536) }
-    ensures { result ≡ setsSteps steps.now (reaches (ruleSet chained src.now) src.now 0 slot n) }
+    ensures { result ≡ sets_steps steps.now (reaches (rule_set chained src.now) src.now 0 slot n) }
 {
     if crowded(src, slot, n) {
         return shared_steps(chained, src, slot, n, steps, slot % 2);
@@ -99,7 +99,7 @@ fn sets_steps(chained: bool, src: &[u8], slot: usize, n: usize, steps: &[usize])
 
 // The most that the rule of a context of format 3 takes: it is one rule.
 fn covers_steps(chained: bool, src: &[u8], steps: &[usize]) -> usize
-    ensures { result ≡ tableSteps steps.now (coverContext chained src.now) }
+    ensures { result ≡ table_steps steps.now (cover_context chained src.now) }
 {
     let r = cover_parts(chained, src);
     record_steps(src, r.records.at, r.records.len, steps)
@@ -107,7 +107,7 @@ fn covers_steps(chained: bool, src: &[u8], steps: &[usize]) -> usize
 
 // The most that a rule of a context of format 2 takes.
 fn classes_steps(chained: bool, src: &[u8], steps: &[usize]) -> usize
-    ensures { result ≡ tableSteps steps.now (classContext chained src.now) }
+    ensures { result ≡ table_steps steps.now (class_context chained src.now) }
 {
     if chained {
         return sets_steps(true, src, 12, word_at(src, 10), steps);
@@ -117,7 +117,7 @@ fn classes_steps(chained: bool, src: &[u8], steps: &[usize]) -> usize
 
 // The same of a context, plain or chained, by its format.
 fn context_steps(chained: bool, src: &[u8], steps: &[usize]) -> usize
-    ensures { result ≡ tableSteps steps.now (context chained src.now) }
+    ensures { result ≡ table_steps steps.now (context chained src.now) }
 {
     let format = word_at(src, 0);
     if format == 1 {
@@ -131,7 +131,7 @@ fn context_steps(chained: bool, src: &[u8], steps: &[usize]) -> usize
 
 // The same of a lookup of this kind; only contexts have rules that run lookups.
 fn table_steps(kind: usize, src: &[u8], steps: &[usize]) -> usize
-    ensures { result ≡ tableSteps steps.now (table kind src.now) }
+    ensures { result ≡ table_steps steps.now (table kind src.now) }
 {
     if kind == 1 {
         return context_steps(false, src, steps);
@@ -144,8 +144,8 @@ fn table_steps(kind: usize, src: &[u8], steps: &[usize]) -> usize
 
 // The most that a rule of a lookup takes, by its place in a good list, from 0, where the listed lookups take `steps`.
 pub fn listed_steps(list: &[u8], buffer: &[u8], lookup: usize, steps: &[usize]) -> usize
-    requires { (goodList list.now buffer.now ≡ true) × (lookup < length list.now / 10) }
-    ensures { result ≡ tableSteps steps.now (table (word list.now (10 * lookup)) (sourceAt list.now buffer.now lookup)) }
+    requires { (good_list list.now buffer.now ≡ true) × (lookup < length list.now / 10) }
+    ensures { result ≡ table_steps steps.now (table (word list.now (10 * lookup)) (source_at list.now buffer.now lookup)) }
 {
     let src = part(
         buffer,

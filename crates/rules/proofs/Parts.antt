@@ -8,17 +8,17 @@ use lib.ListN.{length}
 use lib.Dec.{leb}
 use borrow.Author.Tests.{le-leb, leb-true}
 use Rattle.meaning.specs.Words.{word, words, inside}
-use Rattle.meaning.specs.Tables.{plainRule, chainedRule, rule}
-use Rattle.meaning.specs.Fault.{ruleSound, ruleFault, partFault}
-use Rattle.faults.specs.Fault.{faultOf}
+use Rattle.meaning.specs.Tables.{plain_rule, chained_rule, rule}
+use Rattle.meaning.specs.Fault.{rule_sound, rule_fault, part_fault}
+use Rattle.faults.specs.Fault.{fault_of}
 use Rattle.faults.specs.declared.Fault.TheVariants.{At, Sound}
 use Rattle.rules.specs.Parts.{IsRule}
 use Rattle.rules.specs.declared.RuleParts.{RuleParts}
 
 -- what ends before something that lies inside lies inside too
-pub inside-before : (s : List ℕ) (p q at n : ℕ) → p + q ≤ at + n → inside s p q && inside s at n ≡ inside s at n
+pub inside_before : (s : List ℕ) (p q at n : ℕ) → p + q ≤ at + n → inside s p q && inside s at n ≡ inside s at n
 unfolding inside
-inside-before s p q at n h = step (leb (at + n) (length s)) refl
+inside_before s p q at n h = step (leb (at + n) (length s)) refl
   where
     step : (b : Bool) → leb (at + n) (length s) ≡ b → leb (p + q) (length s) && b ≡ b
     step true e =
@@ -31,42 +31,42 @@ inside-before s p q at n h = step (leb (at + n) (length s)) refl
         never false = refl
 
 -- what ends at the same place lies inside alike
-inside-alike : (s : List ℕ) (p q at n : ℕ) → p + q ≡ at + n → inside s p q ≡ inside s at n
+inside_alike : (s : List ℕ) (p q at n : ℕ) → p + q ≡ at + n → inside s p q ≡ inside s at n
 unfolding inside
-inside-alike s p q at n e = rw e
+inside_alike s p q at n e = rw e
 
 module _ (s : List ℕ) (at : ℕ) where
   -- a plain rule lies inside if its records do
-  plain-ends : (n k : ℕ) → inside s at 4 && inside s (at + 4) (2 * n + 4 * k) ≡ inside s (at + 4 + 2 * n) (4 * k)
-  plain-ends n k = inside-before s at 4 (at + 4) (2 * n + 4 * k) (omega arith) ∙ inside-alike s (at + 4) (2 * n + 4 * k) (at + 4 + 2 * n) (4 * k) (omega arith)
+  plain_ends : (n k : ℕ) → inside s at 4 && inside s (at + 4) (2 * n + 4 * k) ≡ inside s (at + 4 + 2 * n) (4 * k)
+  plain_ends n k = inside_before s at 4 (at + 4) (2 * n + 4 * k) (omega arith) ∙ inside_alike s (at + 4) (2 * n + 4 * k) (at + 4 + 2 * n) (4 * k) (omega arith)
 
-  pub plain-is : {count n k : ℕ} → (count ≡ word s at) × (count < 65536) → n ≡ count - 1 → (k ≡ word s (at + 2)) × (k < 65536)
+  pub plain_is : {count n k : ℕ} → (count ≡ word s at) × (count < 65536) → n ≡ count - 1 → (k ≡ word s (at + 2)) × (k < 65536)
       → IsRule false s at
       (record { back = record { at = at; len = 0 }; count = count; input = record { at = at + 4; len = n }; ahead = record { at = at; len = 0 }; records = record { at = at + 4 + 2 * n; len = k } })
-  unfolding rule plainRule ruleSound words
-  plain-is {count} {n} {k} c e r =
+  unfolding rule plain_rule rule_sound words
+  plain_is {count} {n} {k} c e r =
       record {
         back = refl;
         count = c.0;
         input = rw (e, c.0);
         ahead = refl;
         records = rw (e, c.0, r.0);
-        ends = rw (e, c.0, r.0) (plain-ends (word s at - 1) (word s (at + 2)));
-        near-back = record { close = omega arith; short = omega arith };
-        near-input = record { close = omega arith; short = omega arith };
-        near-ahead = record { close = omega arith; short = omega arith };
-        near-records = record { close = omega arith; short = omega arith };
+        ends = rw (e, c.0, r.0) (plain_ends (word s at - 1) (word s (at + 2)));
+        near_back = record { close = omega arith; short = omega arith };
+        near_input = record { close = omega arith; short = omega arith };
+        near_ahead = record { close = omega arith; short = omega arith };
+        near_records = record { close = omega arith; short = omega arith };
       }
 
   -- a chained rule lies inside if its records do
-  chained-ends : (i a r k : ℕ) → at + 2 ≤ i + 2 → i + 2 ≤ a + 2 → a + 2 ≤ r + 2
+  chained_ends : (i a r k : ℕ) → at + 2 ≤ i + 2 → i + 2 ≤ a + 2 → a + 2 ≤ r + 2
       → inside s at 2 && (inside s i 2 && (inside s a 2 && (inside s r 2 && inside s (r + 2) (4 * k)))) ≡ inside s (r + 2) (4 * k)
-  chained-ends i a r k f g h =
+  chained_ends i a r k f g h =
       rw
-      (inside-before s r 2 (r + 2) (4 * k) (omega arith), inside-before s a 2 (r + 2) (4 * k) (omega arith), inside-before s i 2 (r + 2) (4 * k) (omega arith))
-      (inside-before s at 2 (r + 2) (4 * k) (omega arith))
+      (inside_before s r 2 (r + 2) (4 * k) (omega arith), inside_before s a 2 (r + 2) (4 * k) (omega arith), inside_before s i 2 (r + 2) (4 * k) (omega arith))
+      (inside_before s at 2 (r + 2) (4 * k) (omega arith))
 
-  pub chained-is : {b count n a k : ℕ} → (b ≡ word s at) × (b < 65536) → (count ≡ word s (at + 2 + 2 * b)) × (count < 65536) → n ≡ count - 1
+  pub chained_is : {b count n a k : ℕ} → (b ≡ word s at) × (b < 65536) → (count ≡ word s (at + 2 + 2 * b)) × (count < 65536) → n ≡ count - 1
       → (a ≡ word s (at + 2 + 2 * b + 2 + 2 * n)) × (a < 65536) → (k ≡ word s (at + 2 + 2 * b + 2 + 2 * n + 2 + 2 * a)) × (k < 65536)
       → IsRule true s at
       (record {
@@ -76,8 +76,8 @@ module _ (s : List ℕ) (at : ℕ) where
         ahead = record { at = at + 2 + 2 * b + 2 + 2 * n + 2; len = a };
         records = record { at = at + 2 + 2 * b + 2 + 2 * n + 2 + 2 * a + 2; len = k };
       })
-  unfolding rule chainedRule ruleSound
-  chained-is {b} {count} {n} {a} {k} f c e g r =
+  unfolding rule chained_rule rule_sound
+  chained_is {b} {count} {n} {a} {k} f c e g r =
       let i = at + 2 + 2 * b in
       let j = i + 2 + 2 * n in
       record {
@@ -86,19 +86,19 @@ module _ (s : List ℕ) (at : ℕ) where
         input = rw (e, c.0, f.0);
         ahead = rw (g.0, e, c.0, f.0);
         records = rw (r.0, g.0, e, c.0, f.0);
-        ends = rw (← f.0, ← c.0, ← e, ← g.0, ← r.0) (chained-ends i j (j + 2 + 2 * a) k (omega arith) (omega arith) (omega arith));
-        near-back = record { close = omega arith; short = omega arith };
-        near-input = record { close = omega arith; short = omega arith };
-        near-ahead = record { close = omega arith; short = omega arith };
-        near-records = record { close = omega arith; short = omega arith };
+        ends = rw (← f.0, ← c.0, ← e, ← g.0, ← r.0) (chained_ends i j (j + 2 + 2 * a) k (omega arith) (omega arith) (omega arith));
+        near_back = record { close = omega arith; short = omega arith };
+        near_input = record { close = omega arith; short = omega arith };
+        near_ahead = record { close = omega arith; short = omega arith };
+        near_records = record { close = omega arith; short = omega arith };
       }
 
 -- the answer of a check of a rule
 module _ {chained : Bool} {s : List ℕ} {at : ℕ} {r : RuleParts} (k : IsRule chained s at r) {b : Bool} (e : b ≡ inside s r.records.at (4 * r.records.len)) where
-  pub rule-sound : b ≡ true → Sound ≡ faultOf (ruleFault chained s at)
-  unfolding ruleFault partFault
-  rule-sound h = rw (k.ends, ← e, h)
+  pub rule_sound_lem : b ≡ true → Sound ≡ fault_of (rule_fault chained s at)
+  unfolding rule_fault part_fault
+  rule_sound_lem h = rw (k.ends, ← e, h)
 
-  pub rule-faulty : b ≡ false → At at ≡ faultOf (ruleFault chained s at)
-  unfolding ruleFault partFault
-  rule-faulty h = rw (k.ends, ← e, h)
+  pub rule_faulty : b ≡ false → At at ≡ fault_of (rule_fault chained s at)
+  unfolding rule_fault part_fault
+  rule_faulty h = rw (k.ends, ← e, h)

@@ -2,7 +2,7 @@
 use Rattle.std.specs.Prelude.{ℕ, ◌+◌, ◌*◌, ◌<◌, ◌≡◌, Bool, List}
 use Rattle.meaning.specs.Words.{words, entries, inside}
 use Rattle.meaning.specs.Tables.{rule}
-use Rattle.meaning.specs.Fault.{ruleSound}
+use Rattle.meaning.specs.Fault.{rule_sound}
 use Rattle.rules.specs.declared.Row.{Row}
 use Rattle.rules.specs.declared.RuleParts.{RuleParts}
 
@@ -18,8 +18,8 @@ pub record IsRule (chained : Bool) (s : List ℕ) (at : ℕ) (r : RuleParts) : T
   pub input : words s r.input.at r.input.len ≡ (rule chained s at).input
   pub ahead : words s r.ahead.at r.ahead.len ≡ (rule chained s at).ahead
   pub records : entries s r.records.at r.records.len ≡ (rule chained s at).records
-  pub ends : ruleSound chained s at ≡ inside s r.records.at (4 * r.records.len)
-  pub near-back : Near at r.back
-  pub near-input : Near at r.input
-  pub near-ahead : Near at r.ahead
-  pub near-records : Near at r.records
+  pub ends : rule_sound chained s at ≡ inside s r.records.at (4 * r.records.len)
+  pub near_back : Near at r.back
+  pub near_input : Near at r.input
+  pub near_ahead : Near at r.ahead
+  pub near_records : Near at r.records

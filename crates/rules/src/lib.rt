@@ -2,9 +2,9 @@
 ghost use Rattle.std.specs.Prelude.{◌≡◌, true, false, ◌+◌, ◌-◌, ◌*◌, ◌<◌};
 ghost use Rattle.meaning.specs.Words.{entries};
 ghost use Rattle.meaning.specs.Tables.{rule};
-ghost use Rattle.meaning.specs.Fault.{ruleFault};
-ghost use Rattle.meaning.specs.Records.{indexesBelow, ruleWithin};
-ghost use Rattle.faults.specs.Fault.{faultOf};
+ghost use Rattle.meaning.specs.Fault.{rule_fault};
+ghost use Rattle.meaning.specs.Records.{indexes_below, rule_within};
+ghost use Rattle.faults.specs.Fault.{fault_of};
 ghost use Rattle.rules.specs.Parts.{IsRule};
 
 use faults::Fault;
@@ -100,7 +100,7 @@ pub fn rule_parts(chained: bool, src: &[u8], at: usize) -> RuleParts
 // The fault of the rule at `at`: it is sound if it ends inside the source.
 pub fn check_rule(chained: bool, src: &[u8], at: usize) -> Fault
     requires { at < 0x8000_0000_0000 }
-    ensures { result ≡ faultOf (ruleFault chained src.now at) }
+    ensures { result ≡ fault_of (rule_fault chained src.now at) }
 {
     let r = rule_parts(chained, src, at);
     if inside(src, r.records.at, 4 * r.records.len) {
@@ -112,7 +112,7 @@ pub fn check_rule(chained: bool, src: &[u8], at: usize) -> Fault
 // Whether each of the `n` records from `at` on has a sequence index below `count`, the count of an input.
 pub fn indexes_below(src: &[u8], at: usize, n: usize, count: usize) -> bool
     requires { at + 4 * n < 0x1_0000_0000_0000 }
-    ensures { result ≡ indexesBelow count (entries src.now at n) }
+    ensures { result ≡ indexes_below count (entries src.now at n) }
 {
     let mut i = 0;
     while i < n {
@@ -127,7 +127,7 @@ pub fn indexes_below(src: &[u8], at: usize, n: usize, count: usize) -> bool
 // Whether no record of the rule at `at` points past it.
 pub fn rule_within(chained: bool, src: &[u8], at: usize) -> bool
     requires { at < 0x8000_0000_0000 }
-    ensures { result ≡ ruleWithin (rule chained src.now at) }
+    ensures { result ≡ rule_within (rule chained src.now at) }
 {
     let r = rule_parts(chained, src, at);
     indexes_below(src, r.records.at, r.records.len, r.count)

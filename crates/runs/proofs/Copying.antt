@@ -10,8 +10,8 @@ use lib.Seq.{sets, length-sets, get_or-set_same, get_or-set_other}
 use borrow.Author.Tests.{eq-eqb, ne_eqb}
 use Rattle.meaning.specs.Words.{word, words, bytes2}
 use Rattle.meaning.specs.Job.{eq_list}
-use Rattle.laws.specs.Left.{words-length, words-at, words_left, words-all, words-none}
-use Rattle.replay_laws.specs.Places.{put-glyph}
+use Rattle.laws.specs.Left.{words_length, words_at, words_left_lem, words_all, words_none}
+use Rattle.replay_laws.specs.Places.{put_glyph}
 
 -- What the loop of `same_words` keeps: the answer for what is left is the whole answer.
 pub record Alike (a : List ℕ) (at : ℕ) (b : List ℕ) (from n i : ℕ) : Type 0 where
@@ -20,27 +20,27 @@ pub record Alike (a : List ℕ) (at : ℕ) (b : List ℕ) (from n i : ℕ) : Typ
 
 module _ {a : List ℕ} {at : ℕ} {b : List ℕ} {from n : ℕ} where
   pub alike_all : Alike a at b from n 0
-  alike_all = record { within = omega arith; left = rw (words-all a at n, words-all b from n) }
+  alike_all = record { within = omega arith; left = rw (words_all a at n, words_all b from n) }
 
   module _ {i x y : ℕ} (k : Alike a at b from n i) (h : i < n) (e : x ≡ word a (at + 2 * i)) (f : y ≡ word b (from + 2 * i)) where
-    pub alike-not : (x ≡ y → ⊥) → false ≡ eq_list (words a at n) (words b from n)
+    pub alike_not : (x ≡ y → ⊥) → false ≡ eq_list (words a at n) (words b from n)
     unfolding eq_list
-    alike-not z = rw (words_left a at n i h, words_left b from n i h, ← e, ← f, ne_eqb x y z) at k.left
+    alike_not z = rw (words_left_lem a at n i h, words_left_lem b from n i h, ← e, ← f, ne_eqb x y z) at k.left
 
-    pub alike-turn : x ≡ y → Alike a at b from n (i + 1)
+    pub alike_turn : x ≡ y → Alike a at b from n (i + 1)
     unfolding eq_list
-    alike-turn z = record { within = omega arith; left = rw (words_left a at n i h, words_left b from n i h, ← e, ← f, eq-eqb x y z) at k.left }
+    alike_turn z = record { within = omega arith; left = rw (words_left_lem a at n i h, words_left_lem b from n i h, ← e, ← f, eq-eqb x y z) at k.left }
 
   pub alike_end : {i : ℕ} → Alike a at b from n i → n ≤ i → true ≡ eq_list (words a at n) (words b from n)
   unfolding eq_list
-  alike_end {i} k h = rw (words-none a (at + 2 * i) n i h, words-none b (from + 2 * i) n i h) at k.left
+  alike_end {i} k h = rw (words_none a (at + 2 * i) n i h, words_none b (from + 2 * i) n i h) at k.left
 
 -- lists of one length that are the same at each place are the same
-same-list : (xs ys : List ℕ) → length xs ≡ length ys → ((k : ℕ) → k < length xs → get_or xs k 0 ≡ get_or ys k 0) → xs ≡ ys
-same-list [] [] e h = refl
-same-list [] (y ∷ ys) e h = absurd (omega arith)
-same-list (x ∷ xs) [] e h = absurd (omega arith)
-same-list (x ∷ xs) (y ∷ ys) e h = rw (h 0 (omega arith), same-list xs ys (omega arith) (λ k l. h (suc k) (omega arith)))
+same_list : (xs ys : List ℕ) → length xs ≡ length ys → ((k : ℕ) → k < length xs → get_or xs k 0 ≡ get_or ys k 0) → xs ≡ ys
+same_list [] [] e h = refl
+same_list [] (y ∷ ys) e h = absurd (omega arith)
+same_list (x ∷ xs) [] e h = absurd (omega arith)
+same_list (x ∷ xs) (y ∷ ys) e h = rw (h 0 (omega arith), same_list xs ys (omega arith) (λ k l. h (suc k) (omega arith)))
 
 -- What the loop of `copy_words` keeps: the first i words are copied.
 pub record Copied (s : List ℕ) (at n : ℕ) (out₀ out : List ℕ) (i : ℕ) : Type 0 where
@@ -52,8 +52,8 @@ module _ {s : List ℕ} {at n : ℕ} {out₀ : List ℕ} where
   pub copied_none : Copied s at n out₀ out₀ 0
   copied_none = record { within = omega arith; long = refl; done = λ k l. absurd (omega arith) }
 
-  pub copied-turn : {out next : List ℕ} {i w : ℕ} → Copied s at n out₀ out i → i < n → 2 * n ≤ length out₀ → (w ≡ word s (at + 2 * i)) × (w < 65536) → next ≡ sets out (2 * i) (bytes2 w) → Copied s at n out₀ next (i + 1)
-  copied-turn {out} {next} {i} {w} c h l e f = record {
+  pub copied_turn : {out next : List ℕ} {i w : ℕ} → Copied s at n out₀ out i → i < n → 2 * n ≤ length out₀ → (w ≡ word s (at + 2 * i)) × (w < 65536) → next ≡ sets out (2 * i) (bytes2 w) → Copied s at n out₀ next (i + 1)
+  copied_turn {out} {next} {i} {w} c h l e f = record {
     within = omega arith;
     long = ap length f ∙ length-sets out (2 * i) (bytes2 w) ∙ c.long;
     done = λ k m. rw stored (there k m (dec_lt k i));
@@ -62,7 +62,7 @@ module _ {s : List ℕ} {at n : ℕ} {out₀ : List ℕ} where
       stored : words next 0 n ≡ set (words out 0 n) i w
       stored =
           let z : 0 + 2 * i ≡ 2 * i = omega arith in
-          ap (λ (x : List ℕ). words x 0 n) f ∙ (rw z at (put-glyph out 0 n i w h e.1 (omega (arith, c.long))))
+          ap (λ (x : List ℕ). words x 0 n) f ∙ (rw z at (put_glyph out 0 n i w h e.1 (omega (arith, c.long))))
 
       there : (k : ℕ) → k < i + 1 → Dec (k < i) → get_or (set (words out 0 n) i w) k 0 ≡ word s (at + 2 * k)
       there k m (yes q) =
@@ -70,9 +70,9 @@ module _ {s : List ℕ} {at n : ℕ} {out₀ : List ℕ} where
           get_or-set_other (words out 0 n) i k w 0 d ∙ c.done k q
       there k m (no q) =
           let d : k ≡ i = omega arith in
-          rw d (get_or-set_same (words out 0 n) i w 0 (omega (arith, words-length out 0 n)) ∙ e.0)
+          rw d (get_or-set_same (words out 0 n) i w 0 (omega (arith, words_length out 0 n)) ∙ e.0)
 
   pub copied_all : {out : List ℕ} {i : ℕ} → Copied s at n out₀ out i → n ≤ i → words out 0 n ≡ words s at n
   copied_all {out} {i} c h =
-      same-list (words out 0 n) (words s at n) (words-length out 0 n ∙ sym (words-length s at n))
-      (λ k l. let m : k < n = omega (arith, words-length out 0 n) in c.done k (omega arith) ∙ sym (words-at s at n k m))
+      same_list (words out 0 n) (words s at n) (words_length out 0 n ∙ sym (words_length s at n))
+      (λ k l. let m : k < n = omega (arith, words_length out 0 n) in c.done k (omega arith) ∙ sym (words_at s at n k m))

@@ -6,6 +6,6 @@ use Rattle.runs.specs.declared.Verdict.{Verdict}
 use Rattle.runs.specs.declared.Verdict.TheVariants.{Agrees, Differs, Deep}
 
 -- what comes out of a run, held against what the trace says of it
-abbrev pub verdictOf : Option (List ℕ) → List ℕ → Verdict
-verdictOf none came = Deep
-verdictOf (some s) came = cond (eq_list s came) Agrees Differs
+abbrev pub verdict_of : Option (List ℕ) → List ℕ → Verdict
+verdict_of none came = Deep
+verdict_of (some s) came = cond (eq_list s came) Agrees Differs

@@ -2,13 +2,13 @@
 ghost use Rattle.std.specs.Prelude.{◌≡◌, ◌+◌, ◌*◌, ◌<◌};
 ghost use Rattle.meaning.specs.Words.{words};
 ghost use Rattle.meaning.specs.Job.{eq_list};
-ghost use Rattle.replaying.specs.Listed.{lookupsOf};
+ghost use Rattle.replaying.specs.Listed.{lookups_of};
 ghost use Rattle.replaying.specs.Applying.{run};
 ghost use Rattle.replaying.specs.Trace.{run_at};
 ghost use Rattle.lookup_list.specs.Ready.{Ready};
 ghost use Rattle.steps.specs.Stepping.{Room};
 ghost use Rattle.traces.specs.Whole.{Whole};
-ghost use Rattle.runs.specs.Verdicts.{verdictOf};
+ghost use Rattle.runs.specs.Verdicts.{verdict_of};
 
 use put_words::put;
 use steps::run_lookups;
@@ -52,7 +52,7 @@ fn copy_words(src: &[u8], at: usize, out: &mut [u8], n: usize)
 // Replays the run of the trace whose count stands at `at`: whether what comes out is what the trace says.
 pub fn replay_run(list: &[u8], buffer: &[u8], trace: &[u8], at: usize) -> Verdict
     requires { Ready list.now buffer.now × Whole trace.now at }
-    ensures { result ≡ verdictOf (run (lookupsOf list.now buffer.now) (run_at trace.now at).given) (run_at trace.now at).came }
+    ensures { result ≡ verdict_of (run (lookups_of list.now buffer.now) (run_at trace.now at).given) (run_at trace.now at).came }
 {
     let n = word_at(trace, at);
     let mut string = [0u8; 128];

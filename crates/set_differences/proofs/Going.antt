@@ -7,63 +7,63 @@ use native.Mathlib.Omega.{arith}
 use lib.ListN.{length, get_or}
 use lib.Dec.{eqb}
 use Rattle.meaning.specs.Words.{bind, up_from}
-use Rattle.coverage_index.specs.Index.{index_of, coveredOf, is_at, is-not}
+use Rattle.coverage_index.specs.Index.{index_of, covered_of, is_at, is_not}
 use Rattle.coverage_index.specs.declared.Covered.{Covered}
 use Rattle.coverage_index.specs.declared.Covered.TheVariants.{At, Not}
-use Rattle.differences.specs.Entries.{Entry, each, beside, longer, ruleEntries}
-use Rattle.listing.specs.Listed.{entry_of, Listed, listed-said, Through, through-all, through-turn, through-end}
-use Rattle.first_glyphs.specs.First.{rightOnly, atGlyph, at_right, at_left, at_both}
+use Rattle.differences.specs.Entries.{Entry, each, beside, longer, rule_entries}
+use Rattle.listing.specs.Listed.{entry_of, Listed, listed_said, Through, through_all, through_turn, through_end}
+use Rattle.first_glyphs.specs.First.{right_only, at_glyph, at_right, at_left, at_both}
 use Rattle.set_numbers.specs.Sets.{codes_of}
-use Rattle.gathered.specs.Gathered.{numbersAt, Fit, Remembered}
+use Rattle.gathered.specs.Gathered.{numbers_at, Fit, Remembered}
 
 -- One first glyph. The numbers of its rules are h i on the left and k j on the right, by its indices i and j.
 module _ (ns ms : List (ℕ × List ℕ)) (c d : List ℕ) (h k : ℕ → List ℕ) (g : ℕ) (e : beside ns g ≡ bind (index_of c g) (λ i. some (h i))) (f : beside ms g ≡ bind (index_of d g) (λ j. some (k j)))
-    {r : Covered} (p : r ≡ coveredOf (index_of c g)) {out next : List ℕ} {pos q : ℕ} where
+    {r : Covered} (p : r ≡ covered_of (index_of c g)) {out next : List ℕ} {pos q : ℕ} where
   -- the left does not cover it
-  pub glyph-right : r ≡ Not → Listed (rightOnly g (index_of d g)) out pos next q × (q ≤ pos + 12) → Listed (atGlyph (ruleEntries eqb) ns ms g) out pos next q × (q ≤ pos + 0x18_0000)
-  glyph-right x l = (listed-said l.0 (at_right (ruleEntries eqb) ns ms c d h k g e f (is-not (index_of c g) x p)), omega (arith, l.1))
+  pub glyph_right : r ≡ Not → Listed (right_only g (index_of d g)) out pos next q × (q ≤ pos + 12) → Listed (at_glyph (rule_entries eqb) ns ms g) out pos next q × (q ≤ pos + 0x18_0000)
+  glyph_right x l = (listed_said l.0 (at_right (rule_entries eqb) ns ms c d h k g e f (is_not (index_of c g) x p)), omega (arith, l.1))
 
-  module _ {i : ℕ} (x : r ≡ At i) {u : Covered} (w : u ≡ coveredOf (index_of d g)) where
+  module _ {i : ℕ} (x : r ≡ At i) {u : Covered} (w : u ≡ covered_of (index_of d g)) where
     -- only the left covers it
-    pub glyph-left : u ≡ Not → Listed (entry_of 2 0 g 0 0 0 ∷ []) out pos next q → Listed (atGlyph (ruleEntries eqb) ns ms g) out pos next q × (q ≤ pos + 0x18_0000)
-    glyph-left y l = (listed-said l (at_left (ruleEntries eqb) ns ms c d h k g e f (is_at (index_of c g) x p) (is-not (index_of d g) y w)), omega (arith, l.place))
+    pub glyph_left : u ≡ Not → Listed (entry_of 2 0 g 0 0 0 ∷ []) out pos next q → Listed (at_glyph (rule_entries eqb) ns ms g) out pos next q × (q ≤ pos + 0x18_0000)
+    glyph_left y l = (listed_said l (at_left (rule_entries eqb) ns ms c d h k g e f (is_at (index_of c g) x p) (is_not (index_of d g) y w)), omega (arith, l.place))
 
     -- both cover it
-    pub glyph-both : {j : ℕ} → u ≡ At j → Listed (ruleEntries eqb g (h i) (k j)) out pos next q → Listed (atGlyph (ruleEntries eqb) ns ms g) out pos next q
-    glyph-both y l = listed-said l (at_both (ruleEntries eqb) ns ms c d h k g e f (is_at (index_of c g) x p) (is_at (index_of d g) y w))
+    pub glyph_both : {j : ℕ} → u ≡ At j → Listed (rule_entries eqb g (h i) (k j)) out pos next q → Listed (at_glyph (rule_entries eqb) ns ms g) out pos next q
+    glyph_both y l = listed_said l (at_both (rule_entries eqb) ns ms c d h k g e f (is_at (index_of c g) x p) (is_at (index_of d g) y w))
 
 -- two null sets list nothing
-remembered-null : (num l r : List ℕ) {nums : List ℕ} → (get_or nums 131072 0 ≡ 0) × (get_or nums 131073 0 ≡ 0) × (get_or nums 131074 0 ≡ 0) → Remembered num l r nums
-unfolding numbersAt codes_of ruleEntries longer each up_from
-remembered-null num l r z = record { few = omega (arith, z.2); bytes = rw (z.2, z.0, z.1) }
+remembered_null : (num l r : List ℕ) {nums : List ℕ} → (get_or nums 131072 0 ≡ 0) × (get_or nums 131073 0 ≡ 0) × (get_or nums 131074 0 ≡ 0) → Remembered num l r nums
+unfolding numbers_at codes_of rule_entries longer each up_from
+remembered_null num l r z = record { few = omega (arith, z.2); bytes = rw (z.2, z.0, z.1) }
 
 -- what the walk over all glyphs keeps, where f is listed of each
 pub record Going (f : ℕ → List Entry) (num left right out₀ nums₀ heads₀ links₀ out nums heads links : List ℕ) (at g : ℕ) : Type 0 where
   pub through : Through f 65536 0x18_0000 out₀ 0 out at g
   pub remembered : Remembered num left right nums
-  pub nums-size : length nums ≡ length nums₀
-  pub heads-size : length heads ≡ length heads₀
-  pub links-size : length links ≡ length links₀
+  pub nums_size : length nums ≡ length nums₀
+  pub heads_size : length heads ≡ length heads₀
+  pub links_size : length links ≡ length links₀
 
 module _ {f : ℕ → List Entry} {num left right out₀ nums₀ heads₀ links₀ : List ℕ} where
-  pub going-none : (get_or nums₀ 131072 0 ≡ 0) × (get_or nums₀ 131073 0 ≡ 0) × (get_or nums₀ 131074 0 ≡ 0) → Going f num left right out₀ nums₀ heads₀ links₀ out₀ nums₀ heads₀ links₀ 0 0
-  going-none z = record { through = through-all; remembered = remembered-null num left right z; nums-size = refl; heads-size = refl; links-size = refl }
+  pub going_none : (get_or nums₀ 131072 0 ≡ 0) × (get_or nums₀ 131073 0 ≡ 0) × (get_or nums₀ 131074 0 ≡ 0) → Going f num left right out₀ nums₀ heads₀ links₀ out₀ nums₀ heads₀ links₀ 0 0
+  going_none z = record { through = through_all; remembered = remembered_null num left right z; nums_size = refl; heads_size = refl; links_size = refl }
 
   module _ {out nums heads links : List ℕ} {at g : ℕ} (k : Going f num left right out₀ nums₀ heads₀ links₀ out nums heads links at g) where
-    pub going-fit : {n : ℕ} → Fit num n (length heads₀) (length links₀) → length nums₀ ≡ n → Fit num (length nums) (length heads) (length links)
-    going-fit w e = record { below = λ c. omega (arith, w.below c, k.heads-size); rows = omega (arith, w.rows, k.nums-size); linked = omega (arith, w.linked, k.links-size) }
+    pub going_fit : {n : ℕ} → Fit num n (length heads₀) (length links₀) → length nums₀ ≡ n → Fit num (length nums) (length heads) (length links)
+    going_fit w e = record { below = λ c. omega (arith, w.below c, k.heads_size); rows = omega (arith, w.rows, k.nums_size); linked = omega (arith, w.linked, k.links_size) }
 
-    pub going-turn : g < 65536 → {next ns hs ls : List ℕ} {q : ℕ} → Listed (f g) out at next q × (q ≤ at + 0x18_0000) × Remembered num left right ns
+    pub going_turn : g < 65536 → {next ns hs ls : List ℕ} {q : ℕ} → Listed (f g) out at next q × (q ≤ at + 0x18_0000) × Remembered num left right ns
         → length ns ≡ length nums → length hs ≡ length heads → length ls ≡ length links → Going f num left right out₀ nums₀ heads₀ links₀ next ns hs ls q (g + 1)
-    going-turn h l a b c = record {
-      through = through-turn k.through h l.0 l.1;
+    going_turn h l a b c = record {
+      through = through_turn k.through h l.0 l.1;
       remembered = l.2;
-      nums-size = a ∙ k.nums-size;
-      heads-size = b ∙ k.heads-size;
-      links-size = c ∙ k.links-size;
+      nums_size = a ∙ k.nums_size;
+      heads_size = b ∙ k.heads_size;
+      links_size = c ∙ k.links_size;
     }
 
     pub going_end : 65536 ≤ g → Listed (each f (up_from 0 65536)) out₀ 0 out at × (at ≤ 0x18_0000_0000)
     going_end h =
-        let e = through-end k.through h in
+        let e = through_end k.through h in
         (e.0, omega (arith, e.1))

@@ -2,10 +2,10 @@
 // `nums` has two rows of 65,536 cells for the numbers of a left set and of a right one, and then three cells that remember the latest pair of sets: where they stand, and how many bytes their list takes.
 // `heads` and `links` are as partners has them. What stands in them before does not matter.
 ghost use Rattle.std.specs.Prelude.{◌≡◌, ◌+◌, ◌≤◌, ◌<◌, length, get_or, eqb};
-ghost use Rattle.differences.specs.Entries.{ruleEntries};
+ghost use Rattle.differences.specs.Entries.{rule_entries};
 ghost use Rattle.listing.specs.Listed.{Listed};
-ghost use Rattle.partners.specs.Chains.{numbersFrom};
-ghost use Rattle.gathered.specs.Gathered.{numbersAt, Rowed, PairedRows, Fit, Remembered, Known};
+ghost use Rattle.partners.specs.Chains.{numbers_from};
+ghost use Rattle.gathered.specs.Gathered.{numbers_at, Rowed, PairedRows, Fit, Remembered, Known};
 
 use cells::{cell, put_cell};
 use gathered::gather;
@@ -41,7 +41,7 @@ struct Counts {
 // The partners of `counts.left` numbers in the first row of `nums` and of `counts.right` in the second one.
 fn pair_rows(counts: Counts, nums: &[u32], heads: &mut [u32], links: &mut [u32])
     requires { Rowed counts.left counts.right nums.now (length heads.old) (length links.old) }
-    ensures { PairedRows (numbersFrom nums.now 0 counts.left) (numbersFrom nums.now 65536 counts.right) links.new }
+    ensures { PairedRows (numbers_from nums.now 0 counts.left) (numbers_from nums.now 65536 counts.right) links.new }
 {
     let rights = &nums[65536..];
     pair(nums, counts.left, rights, counts.right, heads, links, 0);
@@ -60,7 +60,7 @@ fn list_sets(
     out: &mut [u8],
 ) -> usize
     requires { (sets.left < 65536) × (sets.right < 65536) × (sets.pos < 0x2000_0000_0000) × Fit num.now (length nums.old) (length heads.old) (length links.old) }
-    ensures { Listed (ruleEntries eqb sets.first (numbersAt num.now left.now 0 sets.left) (numbersAt num.now right.now 1 sets.right)) out.old sets.pos out.new result × (result ≤ sets.pos + 0x18_0000) }
+    ensures { Listed (rule_entries eqb sets.first (numbers_at num.now left.now 0 sets.left) (numbers_at num.now right.now 1 sets.right)) out.old sets.pos out.new result × (result ≤ sets.pos + 0x18_0000) }
 {
     let lset = Set {
         side: 0,
@@ -116,7 +116,7 @@ pub fn list_set_pair(
     out: &mut [u8],
 ) -> usize
     requires { (sets.left < 65536) × (sets.right < 65536) × (sets.pos < 0x2000_0000_0000) × Fit num.now (length nums.old) (length heads.old) (length links.old) × Remembered num.now left.now right.now nums.old }
-    ensures { Listed (ruleEntries eqb sets.first (numbersAt num.now left.now 0 sets.left) (numbersAt num.now right.now 1 sets.right)) out.old sets.pos out.new result × (result ≤ sets.pos + 0x18_0000) × Remembered num.now left.now right.now nums.new }
+    ensures { Listed (rule_entries eqb sets.first (numbers_at num.now left.now 0 sets.left) (numbers_at num.now right.now 1 sets.right)) out.old sets.pos out.new result × (result ≤ sets.pos + 0x18_0000) × Remembered num.now left.now right.now nums.new }
 {
     if is_known(nums, sets, out.len()) {
         return sets.pos + cell(nums, 131074);

@@ -3,7 +3,7 @@ use Rattle.std.specs.Prelude.{ℕ, zero, suc, ◌+◌, ◌-◌, ◌*◌, ◌≤�
 use Rattle.meaning.specs.Words.{word}
 use Rattle.laws.specs.Stands.{All}
 use Rattle.differences.specs.Content.{Says}
-use Rattle.differences.specs.Entries.{sameSays}
+use Rattle.differences.specs.Entries.{same_says}
 use Rattle.rule_numbers.specs.Book.{Book}
 
 -- a place on one of the two sides, with cells for the codes of rules
@@ -13,13 +13,13 @@ pub record Near (side at size : ℕ) : Type 0 where
   pub codes : 262144 ≤ size
 
 -- the codes of n slots from `slot` on, of the set at `at` of this side; null ones are passed over
-unfoldable pub codesFrom : List ℕ → ℕ → ℕ → ℕ → ℕ → List ℕ
-codesFrom s side at slot zero = []
-codesFrom s side at slot (suc n) = cond (eqb (word s slot) 0) (codesFrom s side at (slot + 2) n) ((2 * (at + word s slot) + side) ∷ codesFrom s side at (slot + 2) n)
+unfoldable pub codes_from : List ℕ → ℕ → ℕ → ℕ → ℕ → List ℕ
+codes_from s side at slot zero = []
+codes_from s side at slot (suc n) = cond (eqb (word s slot) 0) (codes_from s side at (slot + 2) n) ((2 * (at + word s slot) + side) ∷ codes_from s side at (slot + 2) n)
 
 -- the codes of the set at `at`; a null one has none
 unfoldable pub codes_of : List ℕ → ℕ → ℕ → List ℕ
-codes_of s side at = cond (eqb at 0) [] (codesFrom s side at (at + 2) (word s at))
+codes_of s side at = cond (eqb at 0) [] (codes_from s side at (at + 2) (word s at))
 
 -- these codes have numbers
 abbrev pub AllNumbered : List ℕ → List ℕ → Type 0
@@ -49,7 +49,7 @@ pub record Cells (num came : ℕ) : Type 0 where
 
 -- All rules of both sides have numbers, which are equal exactly if the rules say the same, and none is greater than there are cells.
 pub record Told (says : ℕ → Says) (l r : List ℕ) (first : ℕ) (num : List ℕ) : Type 0 where
-  pub tells : (c d : ℕ) → (get_or num c 0 ≡ 0 → ⊥) → (get_or num d 0 ≡ 0 → ⊥) → sameSays (says c) (says d) ≡ eqb (get_or num c 0) (get_or num d 0)
+  pub tells : (c d : ℕ) → (get_or num c 0 ≡ 0 → ⊥) → (get_or num d 0 ≡ 0 → ⊥) → same_says (says c) (says d) ≡ eqb (get_or num c 0) (get_or num d 0)
   pub few : (c : ℕ) → get_or num c 0 ≤ length num
   pub lefts : SetsNumbered l 0 first num
   pub rights : SetsNumbered r 1 first num

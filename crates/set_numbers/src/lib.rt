@@ -1,7 +1,7 @@
 // Numbers for all rules of two subtables. `num` has a cell for each code, and `came` is as rule_numbers has it.
 ghost use Rattle.std.specs.Prelude.{◌≤◌, ◌<◌, length};
 ghost use Rattle.rule_rows.specs.Rows.{side_of};
-ghost use Rattle.rule_says.specs.Said.{saysBy, printSays};
+ghost use Rattle.rule_says.specs.Said.{says_by, print_says};
 ghost use Rattle.rule_numbers.specs.Book.{Book};
 ghost use Rattle.set_numbers.specs.Sets.{Near, codes_of, SetNumbered, SideNumbered, Cells, Told};
 
@@ -30,8 +30,8 @@ fn number_set(
     came: &mut [u32],
     set: Set,
 )
-    requires { Near set.side set.at (length num.old) × Book (saysBy shape left.now right.now t.now) printSays num.old came.old }
-    ensures { SetNumbered (saysBy shape left.now right.now t.now) printSays (codes_of (side_of set.side left.now right.now) set.side set.at) num.old num.new came.new }
+    requires { Near set.side set.at (length num.old) × Book (says_by shape left.now right.now t.now) print_says num.old came.old }
+    ensures { SetNumbered (says_by shape left.now right.now t.now) print_says (codes_of (side_of set.side left.now right.now) set.side set.at) num.old num.new came.new }
 {
     if set.at == 0 {
         return;
@@ -67,8 +67,8 @@ fn number_side(
     came: &mut [u32],
     slots: Set,
 )
-    requires { (2 ≤ slots.at) × Near slots.side slots.at (length num.old) × Book (saysBy shape left.now right.now t.now) printSays num.old came.old }
-    ensures { SideNumbered (saysBy shape left.now right.now t.now) printSays (side_of slots.side left.now right.now) slots.side slots.at num.old num.new came.new }
+    requires { (2 ≤ slots.at) × Near slots.side slots.at (length num.old) × Book (says_by shape left.now right.now t.now) print_says num.old came.old }
+    ensures { SideNumbered (says_by shape left.now right.now t.now) print_says (side_of slots.side left.now right.now) slots.side slots.at num.old num.new came.new }
 {
     let n = word_of(left, right, slots.side, slots.at - 2);
     let mut last = 0;
@@ -100,7 +100,7 @@ pub fn number_all(
     came: &mut [u32],
 )
     requires { (2 ≤ first) × (first < 65536) × Cells (length num.old) (length came.old) }
-    ensures { Told (saysBy shape left.now right.now t.now) left.now right.now first num.new }
+    ensures { Told (says_by shape left.now right.now t.now) left.now right.now first num.new }
 {
     let n = num.len();
     clear(num, n);

@@ -1,8 +1,8 @@
 // GSUB single substitutions, by a delta (format 1) or by a substitute for each covered glyph (format 2): checked.
 ghost use Rattle.std.specs.Prelude.{◌≡◌};
-ghost use Rattle.meaning.specs.Fault.{equalCount, singleFault};
-ghost use Rattle.faults.specs.Fault.{faultOf};
-ghost use Rattle.single_checks.specs.Header.{goodHeader};
+ghost use Rattle.meaning.specs.Fault.{equal_count, single_fault};
+ghost use Rattle.faults.specs.Fault.{fault_of};
+ghost use Rattle.single_checks.specs.Header.{good_header};
 
 use faults::Fault;
 use view::{header, subtable_place};
@@ -10,7 +10,7 @@ use wire::inside;
 
 // Whether there is a substitute for each covered glyph, and no other, where there are `n`; not judged where the coverage is null or faulty.
 fn equal_count(src: &[u8], n: usize) -> bool
-    ensures { result ≡ equalCount src.now n }
+    ensures { result ≡ equal_count src.now n }
 {
     let at = subtable_place(src, 2);
     if at == 0 {
@@ -24,7 +24,7 @@ fn equal_count(src: &[u8], n: usize) -> bool
 
 // Whether the header lies inside, with its delta, or with its substitutes, of which there are as many as covered glyphs.
 fn good_header(src: &[u8]) -> bool
-    ensures { result ≡ goodHeader src.now }
+    ensures { result ≡ good_header src.now }
 {
     if !inside(src, 0, 6) {
         return false;
@@ -38,7 +38,7 @@ fn good_header(src: &[u8]) -> bool
 
 // Where the lowest faulty part of a single substitution starts, header or coverage, or that it is sound.
 pub fn check(src: &[u8]) -> Fault
-    ensures { result ≡ faultOf (singleFault src.now) }
+    ensures { result ≡ fault_of (single_fault src.now) }
 {
     if !good_header(src) {
         return Fault::At(0);

@@ -1,12 +1,12 @@
 // Single substitutions: the table of the pairs that stay, in format 1 or 2, written into the area and handed over.
 ghost use Rattle.std.specs.Prelude.{true, ◌+◌, ◌*◌, ◌<◌, length, ltb};
 ghost use Rattle.meaning.specs.Words.{flat};
-ghost use Rattle.meaning.specs.Cut.{keptSingles};
+ghost use Rattle.meaning.specs.Cut.{kept_singles};
 ghost use Rattle.meaning.specs.Subset.{limit, written};
-ghost use Rattle.room.specs.Laid.{laidAs};
+ghost use Rattle.room.specs.Laid.{laid_as};
 ghost use Rattle.tried.specs.Tries.{Tries};
 ghost use Rattle.single_pairs.specs.Pairs.{pairs};
-ghost use Rattle.single_tables.specs.Writing.{deltaLayout, listLayout, Standing, Writes};
+ghost use Rattle.single_tables.specs.Writing.{delta_layout, list_layout, Standing, Writes};
 
 use room::{HIGHEST, Laid};
 use single_pairs::Pairs;
@@ -16,7 +16,7 @@ use tried::Tried;
 // Format 1 of the `n` pairs from `at` on, laid into the buffer if there is room.
 fn lay_delta(t: &[u32], at: usize, n: usize, area: &mut [u8], out: &mut [u8]) -> Tried
     requires { Standing t.now at n }
-    ensures { Tries (⊥) (length area.old < limit) result out.old out.new (laidAs true out.old (flat (deltaLayout t.now at n))) }
+    ensures { Tries (⊥) (length area.old < limit) result out.old out.new (laid_as true out.old (flat (delta_layout t.now at n))) }
 {
     if area.len() < 6 {
         return Tried::Short;
@@ -28,7 +28,7 @@ fn lay_delta(t: &[u32], at: usize, n: usize, area: &mut [u8], out: &mut [u8]) ->
 // Format 2 of these pairs, laid into the buffer if the coverage's offset fits a word and there is room.
 fn lay_list(t: &[u32], at: usize, n: usize, area: &mut [u8], out: &mut [u8]) -> Tried
     requires { Standing t.now at n }
-    ensures { Tries (⊥) (length area.old < limit) result out.old out.new (laidAs (ltb (6 + 2 * n) 65536) out.old (flat (listLayout t.now at n))) }
+    ensures { Tries (⊥) (length area.old < limit) result out.old out.new (laid_as (ltb (6 + 2 * n) 65536) out.old (flat (list_layout t.now at n))) }
 {
     if HIGHEST < 6 + 2 * n {
         return Tried::Became(Laid::TooBig);
@@ -43,7 +43,7 @@ fn lay_list(t: &[u32], at: usize, n: usize, area: &mut [u8], out: &mut [u8]) -> 
 // The table of the pairs that stand in the cells from `at` on, laid into the buffer if there is room: format 1 if their differences agree, else format 2.
 pub fn lay_pairs(t: &[u32], at: usize, kept: Pairs, area: &mut [u8], out: &mut [u8]) -> Tried
     requires { Writes t.now at kept.count kept.same }
-    ensures { Tries (⊥) (length area.old < limit) result out.old out.new (written out.old (keptSingles (pairs t.now at kept.count))) }
+    ensures { Tries (⊥) (length area.old < limit) result out.old out.new (written out.old (kept_singles (pairs t.now at kept.count))) }
 {
     if kept.count == 0 {
         return Tried::Became(Laid::Nothing);

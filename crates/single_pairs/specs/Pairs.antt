@@ -1,14 +1,14 @@
 -- The pairs of glyph and substitute that stay.
 use Rattle.std.specs.Prelude.{◌≡◌, ℕ, ◌+◌, ◌*◌, ◌/◌, ◌%◌, ◌<◌, ◌≤◌, Bool, cond, List, map, length, ◌==◌, slice_index, slice_set}
 use Rattle.std.proofs.Math.Option.{Option, none, some}
-use Rattle.meaning.specs.Words.{word, words, bind, mapSome}
+use Rattle.meaning.specs.Words.{word, words, bind, map_some}
 use Rattle.meaning.specs.Parts.{coverage}
-use Rattle.meaning.specs.Tables.{plusDelta}
-use Rattle.meaning.specs.Fault.{singleFault}
+use Rattle.meaning.specs.Tables.{plus_delta}
+use Rattle.meaning.specs.Fault.{single_fault}
 use Rattle.meaning.specs.Cut.{agree}
-use Rattle.cell_maps.specs.Cells.{cellEntry, folded, Inside, Kept}
+use Rattle.cell_maps.specs.Cells.{cell_entry, folded, Inside, Kept}
 use Rattle.cell_maps.specs.declared.Map.{Map}
-use Rattle.area.specs.Part.{part, notes, oldAt}
+use Rattle.area.specs.Part.{part, notes, old_at}
 
 -- the covered glyphs of a single substitution
 abbrev pub covered : List ℕ → List ℕ
@@ -16,11 +16,11 @@ covered s = coverage s (word s 2)
 
 -- the substitute of each, in order
 unfoldable pub substitutes : List ℕ → List ℕ
-substitutes s = cond (word s 0 == 1) (map (plusDelta (word s 4)) (covered s)) (words s 6 (word s 4))
+substitutes s = cond (word s 0 == 1) (map (plus_delta (word s 4)) (covered s)) (words s 6 (word s 4))
 
 -- what a substitute asks: the table has no fault, its coverage is not null and has the index i
 pub record Singles (s : List ℕ) (i : ℕ) : Type 0 where
-  pub sound : singleFault s ≡ none
+  pub sound : single_fault s ≡ none
   pub cover : word s 2 ≡ 0 → ⊥
   pub index : i < length (covered s)
 
@@ -45,30 +45,30 @@ abbrev pub pair_at : (ℕ → Option ℕ) → List ℕ → ℕ × ℕ → Option
 pair_at f all e = bind (f (slice_index all e.0)) (λ m. some (e.1, m))
 
 -- the cell that a note becomes, where e is the cell of its substitute in the glyph map
-abbrev pub pairCell : ℕ → ℕ → ℕ
-pairCell e note = e % 65536 * 65536 + note % 65536
+abbrev pub pair_cell : ℕ → ℕ → ℕ
+pair_cell e note = e % 65536 * 65536 + note % 65536
 
 -- the substitute that the note in a cell names
 abbrev pub noted : List ℕ → List ℕ → ℕ → ℕ
-noted s t i = slice_index (substitutes s) (oldAt t i)
+noted s t i = slice_index (substitutes s) (old_at t i)
 
 -- what keeping the i-th note as the k-th pair asks
 pub record KeepsPair (s t : List ℕ) (m : Map) (at i k : ℕ) : Type 0 where
-  pub single : Singles s (oldAt t (at + i))
+  pub single : Singles s (old_at t (at + i))
   pub cells : Inside t m
   pub behind : at + i < length t
   pub few : k ≤ i
 
 -- the k-th cell has the pair, and r counts it if its substitute is in the map
 pub record KeptPair (s t : List ℕ) (m : Map) (at i k : ℕ) (after : List ℕ) (r : ℕ) : Type 0 where
-  pub cell : after ≡ slice_set t (at + k) (pairCell (cellEntry t m (noted s t (at + i))) (slice_index t (at + i)))
-  pub count : r ≡ cond (cellEntry t m (noted s t (at + i)) / 65536 == noted s t (at + i)) (k + 1) k
+  pub cell : after ≡ slice_set t (at + k) (pair_cell (cell_entry t m (noted s t (at + i))) (slice_index t (at + i)))
+  pub count : r ≡ cond (cell_entry t m (noted s t (at + i)) / 65536 == noted s t (at + i)) (k + 1) k
 
 -- what keeping the n notes from `at` on asks
 pub record KeepsPairs (s t : List ℕ) (m : Map) (at n : ℕ) : Type 0 where
-  pub sound : singleFault s ≡ none
+  pub sound : single_fault s ≡ none
   pub cover : word s 2 ≡ 0 → ⊥
-  pub indexes : (j : ℕ) → j < n → oldAt t (at + j) < length (covered s)
+  pub indexes : (j : ℕ) → j < n → old_at t (at + j) < length (covered s)
   pub cells : Inside t m
   pub before : m.at + m.mask < at
   pub behind : at + n ≤ length t
@@ -77,5 +77,5 @@ pub record KeepsPairs (s t : List ℕ) (m : Map) (at n : ℕ) : Type 0 where
 pub record KeptPairs (s t : List ℕ) (m : Map) (at n : ℕ) (after : List ℕ) (k : ℕ) (same : Bool) : Type 0 where
   pub kept : Kept at t after
   pub few : k ≤ n
-  pub stay : pairs after at k ≡ mapSome (pair_at (folded t m) (substitutes s)) (notes t at n)
+  pub stay : pairs after at k ≡ map_some (pair_at (folded t m) (substitutes s)) (notes t at n)
   pub agreed : same ≡ agree (pairs after at k)

@@ -1,6 +1,6 @@
 // Single substitutions: the pairs of a glyph and its substitute that stay, by their new numbers, and whether one delta serves them all.
 ghost use Rattle.std.specs.Prelude.{◌≡◌, ◌+◌, ◌*◌, ◌<◌, ◌≤◌, true, length, slice_index};
-ghost use Rattle.meaning.specs.Cut.{deltaOf, agree};
+ghost use Rattle.meaning.specs.Cut.{delta_of, agree};
 ghost use Rattle.single_pairs.specs.Pairs.{Singles, Substitute, pair_of, pairs, KeepsPair, KeptPair, KeepsPairs, KeptPairs};
 
 use cell_maps::Map;
@@ -47,7 +47,7 @@ fn keep_pair(src: &[u8], t: &mut [u32], m: Map, at: usize, i: usize, k: usize) -
 // The difference of the substitute and the glyph of the pair in a cell, modulo 65,536.
 pub fn difference(t: &[u32], i: usize) -> usize
     requires { i < length t.now }
-    ensures { result ≡ deltaOf (pair_of (slice_index t.now i)) }
+    ensures { result ≡ delta_of (pair_of (slice_index t.now i)) }
 {
     let c = t[i] as usize;
     wrapping_sub_u16((c / 65536) as u16, (c % 65536) as u16) as usize

@@ -1,12 +1,12 @@
 // GSUB single substitutions: a delta that is added to each covered glyph (format 1), or a substitute for each (format 2). Cut in one walk:
 // the retained covered glyphs are noted in cells, those whose substitutes are retained too stay there as pairs, and their table is written into the area and handed over to the buffer.
 ghost use Rattle.std.specs.Prelude.{[], ◌+◌, ◌<◌, length};
-ghost use Rattle.meaning.specs.Maps.{glyphEntries};
+ghost use Rattle.meaning.specs.Maps.{glyph_entries};
 ghost use Rattle.meaning.specs.Tables.{single};
 ghost use Rattle.meaning.specs.Cut.{cut};
 ghost use Rattle.meaning.specs.Subset.{limit, written};
 ghost use Rattle.tried.specs.Tries.{Tries};
-ghost use Rattle.single_subst.specs.Whole.{Sound, MapLaid, enoughCells};
+ghost use Rattle.single_subst.specs.Whole.{Sound, MapLaid, enough_cells};
 
 use cell_maps::Map;
 use fold::entry;
@@ -30,7 +30,7 @@ fn cut_singles(
     out: &mut [u8],
 ) -> Tried
     requires { Sound form src.now glyphs.now × MapLaid form src.now glyphs.now m t.old }
-    ensures { Tries (length t.old < enoughCells) (length area.old < limit) result out.old out.new (written out.old (cut (glyphEntries form glyphs.now) [] (single src.now))) }
+    ensures { Tries (length t.old < enough_cells) (length area.old < limit) result out.old out.new (written out.old (cut (glyph_entries form glyphs.now) [] (single src.now))) }
 {
     let cover = word_inside(src, 2);
     let notes = m.mask + 1;
@@ -53,7 +53,7 @@ pub fn singles(
     out: &mut [u8],
 ) -> Tried
     requires { Sound form src.now glyphs.now }
-    ensures { Tries (length t.old < enoughCells) (length area.old < limit) result out.old out.new (written out.old (cut (glyphEntries form glyphs.now) [] (single src.now))) }
+    ensures { Tries (length t.old < enough_cells) (length area.old < limit) result out.old out.new (written out.old (cut (glyph_entries form glyphs.now) [] (single src.now))) }
 {
     if word_inside(src, 2) == 0 {
         return Tried::Became(Laid::Nothing);

@@ -2,7 +2,7 @@
 ghost use Rattle.std.specs.Prelude.{true, ◌+◌, ◌*◌, ◌≤◌, ◌<◌, length};
 ghost use Rattle.laws.specs.Written.{Wrote};
 ghost use Rattle.single_pairs.specs.Pairs.{subs};
-ghost use Rattle.single_tables.specs.Writing.{deltaLayout, listLayout, Standing, Stands, Hands};
+ghost use Rattle.single_tables.specs.Writing.{delta_layout, list_layout, Standing, Stands, Hands};
 
 use area::{put, put_three};
 use area_parts::write_cover;
@@ -27,7 +27,7 @@ fn put_substitutes(t: &[u32], at: usize, n: usize, area: &mut [u8], to: usize) -
 // Format 1 of the `n` pairs from `at` on: header, with the difference of all, and coverage; the place after it.
 pub fn write_delta(t: &[u32], at: usize, n: usize, area: &mut [u8]) -> usize
     requires { Standing t.now at n × (6 ≤ length area.old) }
-    ensures { Stands area.old (deltaLayout t.now at n) area.new result }
+    ensures { Stands area.old (delta_layout t.now at n) area.new result }
 {
     let p = put_three(area, 0, 1, 6, difference(t, at));
     write_cover(t, at, n, area, p)
@@ -36,7 +36,7 @@ pub fn write_delta(t: &[u32], at: usize, n: usize, area: &mut [u8]) -> usize
 // Format 2 of these pairs: header, with their substitutes, and coverage; the place after it.
 pub fn write_list(t: &[u32], at: usize, n: usize, area: &mut [u8]) -> usize
     requires { Standing t.now at n × (6 + 2 * n ≤ length area.old) }
-    ensures { Stands area.old (listLayout t.now at n) area.new result }
+    ensures { Stands area.old (list_layout t.now at n) area.new result }
 {
     let p = put_three(area, 0, 2, 6 + 2 * n, n);
     let q = put_substitutes(t, at, n, area, p);

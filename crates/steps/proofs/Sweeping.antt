@@ -9,10 +9,10 @@ use lib.ListN.{length}
 use borrow.Author.Tests.{not-true, not-false}
 use Rattle.meaning.specs.Words.{words, bind, up_from}
 use Rattle.meaning.specs.Tables.{Table}
-use Rattle.laws.specs.Left.{words-length}
-use Rattle.replaying.specs.Listed.{entriesFrom, listed, lookupOf, lookupsOf}
-use Rattle.replaying.specs.Applying.{Step as StepOf, apply, depthLimit, sweepAll, inOrder, run}
-use Rattle.replay_laws.specs.Turns.{sweepLeft, onward, sweep-turn, sweep-end, order-turn, order-end}
+use Rattle.laws.specs.Left.{words_length}
+use Rattle.replaying.specs.Listed.{entries_from, listed, lookup_of, lookups_of}
+use Rattle.replaying.specs.Applying.{Step as StepOf, apply, depth_limit, sweep_all, in_order, run}
+use Rattle.replay_laws.specs.Turns.{sweep_left, onward, sweep_turn, sweep_end, order_turn, order_end}
 use Rattle.steps.specs.Stepping.{Stepped, Ruled}
 use Rattle.steps.specs.declared.Step.{Step}
 use Rattle.steps.specs.declared.Step.TheVariants.{Took, Deep}
@@ -21,16 +21,16 @@ no : {A : Type 0} → ◌≡◌ {A = ℕ} 0 1 → A
 no e = absurd (omega arith)
 
 -- how far the next place is
-pub onward-one : {took : ℕ} → took ≡ 0 → (1 ≡ onward took) × (0 < 1) × (1 ≤ 65536)
-onward-one e = (rw e, omega arith, omega arith)
+pub onward_one : {took : ℕ} → took ≡ 0 → (1 ≡ onward took) × (0 < 1) × (1 ≤ 65536)
+onward_one e = (rw e, omega arith, omega arith)
 
-pub onward-some : (took : ℕ) → (took ≡ 0 → ⊥) → took ≤ 65536 → (took ≡ onward took) × (0 < took) × (took ≤ 65536)
-onward-some zero h l = absurd (h refl)
-onward-some (suc k) h l = (refl, omega arith, l)
+pub onward_some : (took : ℕ) → (took ≡ 0 → ⊥) → took ≤ 65536 → (took ≡ onward took) × (0 < took) × (took ≤ 65536)
+onward_some zero h l = absurd (h refl)
+onward_some (suc k) h l = (refl, omega arith, l)
 
-pub took-small : (o : Option StepOf) (n : ℕ) {s : Step} (t : List ℕ) {k : ℕ} → Stepped o n s t → s ≡ Took k → k ≤ 65536
-took-small none n {s} t h e = let y : s ≡ Deep = h in no (cc)
-took-small (some u) n {s} t {k} h e =
+pub took_small : (o : Option StepOf) (n : ℕ) {s : Step} (t : List ℕ) {k : ℕ} → Stepped o n s t → s ≡ Took k → k ≤ 65536
+took_small none n {s} t h e = let y : s ≡ Deep = h in no (cc)
+took_small (some u) n {s} t {k} h e =
     let y : s ≡ Took u.took = h.0 in
     let z : k ≡ u.took = cc in
     omega (arith, h.2)
@@ -39,25 +39,25 @@ took-small (some u) n {s} t {k} h e =
 pub record Sweeping (ts : List Table) (lookup n : ℕ) (string₀ string : List ℕ) (place : ℕ) : Type 0 where
   pub near : place ≤ n + 65536
   pub long : length string ≡ length string₀
-  pub left : sweepLeft (apply 8 ts lookup) n (words string 0 n) place ≡ sweepAll ts lookup (words string₀ 0 n)
+  pub left : sweep_left (apply 8 ts lookup) n (words string 0 n) place ≡ sweep_all ts lookup (words string₀ 0 n)
 
 module _ {ts : List Table} {lookup n : ℕ} {string₀ : List ℕ} where
-  pub sweeping-all : Sweeping ts lookup n string₀ string₀ 0
-  unfolding sweepAll depthLimit
-  sweeping-all =
+  pub sweeping_all : Sweeping ts lookup n string₀ string₀ 0
+  unfolding sweep_all depth_limit
+  sweeping_all =
       let e : n - 0 ≡ n = omega arith in
-      record { near = omega arith; long = refl; left = rw (e, words-length string₀ 0 n) }
+      record { near = omega arith; long = refl; left = rw (e, words_length string₀ 0 n) }
 
   module _ {string : List ℕ} {place : ℕ} (c : Sweeping ts lookup n string₀ string place) (h : place < n) where
-    on : bind (apply 8 ts lookup (words string 0 n) place) (λ step. sweepLeft (apply 8 ts lookup) n step.string (place + onward step.took)) ≡ sweepAll ts lookup (words string₀ 0 n)
-    on = sym (sweep-turn (apply 8 ts lookup) n (words string 0 n) place h) ∙ c.left
+    on : bind (apply 8 ts lookup (words string 0 n) place) (λ step. sweep_left (apply 8 ts lookup) n step.string (place + onward step.took)) ≡ sweep_all ts lookup (words string₀ 0 n)
+    on = sym (sweep_turn (apply 8 ts lookup) n (words string 0 n) place h) ∙ c.left
 
-    pub sweeping-turn : {s : Step} {t : List ℕ} {k r : ℕ} → Stepped (apply 8 ts lookup (words string 0 n) place) n s t → length t ≡ length string → s ≡ Took k → (r ≡ onward k) × (0 < r) × (r ≤ 65536)
+    pub sweeping_turn : {s : Step} {t : List ℕ} {k r : ℕ} → Stepped (apply 8 ts lookup (words string 0 n) place) n s t → length t ≡ length string → s ≡ Took k → (r ≡ onward k) × (0 < r) × (r ≤ 65536)
         → Sweeping ts lookup n string₀ t (place + r)
     unfolding bind
-    sweeping-turn {s} {t} {k} {r} g m q w = go (apply 8 ts lookup (words string 0 n) place) g on
+    sweeping_turn {s} {t} {k} {r} g m q w = go (apply 8 ts lookup (words string 0 n) place) g on
       where
-        go : (o : Option StepOf) → Stepped o n s t → bind o (λ step. sweepLeft (apply 8 ts lookup) n step.string (place + onward step.took)) ≡ sweepAll ts lookup (words string₀ 0 n)
+        go : (o : Option StepOf) → Stepped o n s t → bind o (λ step. sweep_left (apply 8 ts lookup) n step.string (place + onward step.took)) ≡ sweep_all ts lookup (words string₀ 0 n)
             → Sweeping ts lookup n string₀ t (place + r)
         go none p z = let y : s ≡ Deep = p in no (cc)
         go (some u) p z =
@@ -65,56 +65,56 @@ module _ {ts : List Table} {lookup n : ℕ} {string₀ : List ℕ} where
             let x : k ≡ u.took = cc in
             record { near = omega arith; long = m ∙ c.long; left = rw (w.0, x, p.1) z }
 
-    pub sweeping-deep : {s : Step} (t : List ℕ) → Stepped (apply 8 ts lookup (words string 0 n) place) n s t → s ≡ Deep → Ruled (sweepAll ts lookup (words string₀ 0 n)) n false t
+    pub sweeping_deep : {s : Step} (t : List ℕ) → Stepped (apply 8 ts lookup (words string 0 n) place) n s t → s ≡ Deep → Ruled (sweep_all ts lookup (words string₀ 0 n)) n false t
     unfolding bind
-    sweeping-deep {s} t g q = go (apply 8 ts lookup (words string 0 n) place) g on
+    sweeping_deep {s} t g q = go (apply 8 ts lookup (words string 0 n) place) g on
       where
-        go : (o : Option StepOf) → Stepped o n s t → bind o (λ step. sweepLeft (apply 8 ts lookup) n step.string (place + onward step.took)) ≡ sweepAll ts lookup (words string₀ 0 n)
-            → Ruled (sweepAll ts lookup (words string₀ 0 n)) n false t
+        go : (o : Option StepOf) → Stepped o n s t → bind o (λ step. sweep_left (apply 8 ts lookup) n step.string (place + onward step.took)) ≡ sweep_all ts lookup (words string₀ 0 n)
+            → Ruled (sweep_all ts lookup (words string₀ 0 n)) n false t
         go none p z = rw (← z) refl
         go (some u) p z = let y : s ≡ Took u.took = p.0 in no (cc)
 
-  pub sweeping-end : {string : List ℕ} {place : ℕ} → Sweeping ts lookup n string₀ string place → n ≤ place → Ruled (sweepAll ts lookup (words string₀ 0 n)) n true string
-  sweeping-end {string} {place} c h = rw (← c.left, sweep-end (apply 8 ts lookup) n (words string 0 n) place h) (refl, refl)
+  pub sweeping_end : {string : List ℕ} {place : ℕ} → Sweeping ts lookup n string₀ string place → n ≤ place → Ruled (sweep_all ts lookup (words string₀ 0 n)) n true string
+  sweeping_end {string} {place} c h = rw (← c.left, sweep_end (apply 8 ts lookup) n (words string 0 n) place h) (refl, refl)
 
 -- as many lookups as entries
-entries-length : (buffer list : List ℕ) (at n : ℕ) → length (map (lookupOf buffer) (entriesFrom list at n)) ≡ n
-unfolding entriesFrom
-entries-length buffer list at zero = refl
-entries-length buffer list at (suc n) = ap suc (entries-length buffer list (at + 10) n)
+entries_length : (buffer list : List ℕ) (at n : ℕ) → length (map (lookup_of buffer) (entries_from list at n)) ≡ n
+unfolding entries_from
+entries_length buffer list at zero = refl
+entries_length buffer list at (suc n) = ap suc (entries_length buffer list (at + 10) n)
 
 -- The same for the lookups that are left.
 pub record Ordering (ts : List Table) (many n : ℕ) (string₀ string : List ℕ) (k : ℕ) : Type 0 where
   pub within : k ≤ many
   pub long : length string ≡ length string₀
-  pub left : inOrder ts (up_from k (many - k)) (words string 0 n) ≡ run ts (words string₀ 0 n)
+  pub left : in_order ts (up_from k (many - k)) (words string 0 n) ≡ run ts (words string₀ 0 n)
 
-pub ordering-all : (list buffer : List ℕ) {n : ℕ} {string₀ : List ℕ} → Ordering (lookupsOf list buffer) (length list / 10) n string₀ string₀ 0
-unfolding run lookupsOf listed
-ordering-all list buffer =
+pub ordering_all : (list buffer : List ℕ) {n : ℕ} {string₀ : List ℕ} → Ordering (lookups_of list buffer) (length list / 10) n string₀ string₀ 0
+unfolding run lookups_of listed
+ordering_all list buffer =
     let e : length list / 10 - 0 ≡ length list / 10 = omega arith in
-    record { within = omega arith; long = refl; left = rw (e, entries-length buffer list 0 (length list / 10)) }
+    record { within = omega arith; long = refl; left = rw (e, entries_length buffer list 0 (length list / 10)) }
 
 module _ {ts : List Table} {many n : ℕ} {string₀ : List ℕ} where
   module _ {string : List ℕ} {k : ℕ} (c : Ordering ts many n string₀ string k) (h : k < many) where
-    over : bind (sweepAll ts k (words string 0 n)) (inOrder ts (up_from (k + 1) (many - (k + 1)))) ≡ run ts (words string₀ 0 n)
-    over = sym (order-turn ts many k (words string 0 n) h) ∙ c.left
+    over : bind (sweep_all ts k (words string 0 n)) (in_order ts (up_from (k + 1) (many - (k + 1)))) ≡ run ts (words string₀ 0 n)
+    over = sym (order_turn ts many k (words string 0 n) h) ∙ c.left
 
-    pub ordering-turn : (b : Bool) (t : List ℕ) → Ruled (sweepAll ts k (words string 0 n)) n b t → length t ≡ length string → not b ≡ false → Ordering ts many n string₀ t (k + 1)
+    pub ordering_turn : (b : Bool) (t : List ℕ) → Ruled (sweep_all ts k (words string 0 n)) n b t → length t ≡ length string → not b ≡ false → Ordering ts many n string₀ t (k + 1)
     unfolding bind
-    ordering-turn b t g m q = go (sweepAll ts k (words string 0 n)) g over
+    ordering_turn b t g m q = go (sweep_all ts k (words string 0 n)) g over
       where
-        go : (o : Option (List ℕ)) → Ruled o n b t → bind o (inOrder ts (up_from (k + 1) (many - (k + 1)))) ≡ run ts (words string₀ 0 n) → Ordering ts many n string₀ t (k + 1)
+        go : (o : Option (List ℕ)) → Ruled o n b t → bind o (in_order ts (up_from (k + 1) (many - (k + 1)))) ≡ run ts (words string₀ 0 n) → Ordering ts many n string₀ t (k + 1)
         go none p z = absurd (true≢false (sym (not-false b q) ∙ p))
         go (some u) p z = record { within = omega arith; long = m ∙ c.long; left = rw p.1 z }
 
-    pub ordering-deep : (b : Bool) (t : List ℕ) → Ruled (sweepAll ts k (words string 0 n)) n b t → not b ≡ true → Ruled (run ts (words string₀ 0 n)) n false t
+    pub ordering_deep : (b : Bool) (t : List ℕ) → Ruled (sweep_all ts k (words string 0 n)) n b t → not b ≡ true → Ruled (run ts (words string₀ 0 n)) n false t
     unfolding bind
-    ordering-deep b t g q = go (sweepAll ts k (words string 0 n)) g over
+    ordering_deep b t g q = go (sweep_all ts k (words string 0 n)) g over
       where
-        go : (o : Option (List ℕ)) → Ruled o n b t → bind o (inOrder ts (up_from (k + 1) (many - (k + 1)))) ≡ run ts (words string₀ 0 n) → Ruled (run ts (words string₀ 0 n)) n false t
+        go : (o : Option (List ℕ)) → Ruled o n b t → bind o (in_order ts (up_from (k + 1) (many - (k + 1)))) ≡ run ts (words string₀ 0 n) → Ruled (run ts (words string₀ 0 n)) n false t
         go none p z = rw (← z) refl
         go (some u) p z = absurd (true≢false (sym p.0 ∙ not-true b q))
 
-  pub ordering-end : {string : List ℕ} {k : ℕ} → Ordering ts many n string₀ string k → many ≤ k → Ruled (run ts (words string₀ 0 n)) n true string
-  ordering-end {string} {k} c h = rw (← c.left, order-end ts many k (words string 0 n) h) (refl, refl)
+  pub ordering_end : {string : List ℕ} {k : ℕ} → Ordering ts many n string₀ string k → many ≤ k → Ruled (run ts (words string₀ 0 n)) n true string
+  ordering_end {string} {k} c h = rw (← c.left, order_end ts many k (words string 0 n) h) (refl, refl)

@@ -1,10 +1,10 @@
 // Lookups applied to a string: a lookup runs a rule and a rule runs lookups, to depth 8. A string is `n` glyphs in a slice, two bytes a glyph.
 ghost use Rattle.std.specs.Prelude.{◌≡◌, ◌+◌, ◌*◌, ◌/◌, ◌≤◌, ◌<◌, length};
 ghost use Rattle.meaning.specs.Words.{words, entries};
-ghost use Rattle.replaying.specs.Listed.{lookupsOf};
-ghost use Rattle.replaying.specs.Applying.{apply, runRecords, sweepAll, run};
+ghost use Rattle.replaying.specs.Listed.{lookups_of};
+ghost use Rattle.replaying.specs.Applying.{apply, run_records, sweep_all, run};
 ghost use Rattle.replay_laws.specs.Turns.{onward};
-ghost use Rattle.lookup_list.specs.Ready.{Ready, sourceAt};
+ghost use Rattle.lookup_list.specs.Ready.{Ready, source_at};
 ghost use Rattle.steps.specs.Stepping.{Room, Stepped, Ruled};
 
 use asking::{Asked, ask_at, source_word};
@@ -33,7 +33,7 @@ fn lookup_step(
     depth: usize,
 ) -> Step
     requires { Ready list.now buffer.now × Room n string.old × (place + 65536 * depth < 0x1_0000_0000_0000) }
-    ensures { Stepped (apply depth (lookupsOf list.now buffer.now) lookup (words string.old 0 n) place) n result string.new }
+    ensures { Stepped (apply depth (lookups_of list.now buffer.now) lookup (words string.old 0 n) place) n result string.new }
 {
     if depth == 0 {
         return Step::Deep;
@@ -70,7 +70,7 @@ fn record_step(
     depth: usize,
 ) -> bool
     requires { Ready list.now buffer.now × Room n string.old × (owner < length list.now / 10) × (records.at < 0x1_0000_0000) × (records.len < 65536) × (place + 65536 * (depth + 1) < 0x1_0000_0000_0000) }
-    ensures { Ruled (runRecords (apply depth (lookupsOf list.now buffer.now)) (entries (sourceAt list.now buffer.now owner) records.at records.len) (words string.old 0 n) place) n result string.new }
+    ensures { Ruled (run_records (apply depth (lookups_of list.now buffer.now)) (entries (source_at list.now buffer.now owner) records.at records.len) (words string.old 0 n) place) n result string.new }
 {
     let mut i = 0;
     while i < records.len {
@@ -99,7 +99,7 @@ fn onward(took: usize) -> usize
 // Applies a listed lookup at every place of a string from left to right; false if it goes too deep.
 fn sweep_lookup(list: &[u8], buffer: &[u8], string: &mut [u8], n: usize, lookup: usize) -> bool
     requires { Ready list.now buffer.now × Room n string.old }
-    ensures { Ruled (sweepAll (lookupsOf list.now buffer.now) lookup (words string.old 0 n)) n result string.new }
+    ensures { Ruled (sweep_all (lookups_of list.now buffer.now) lookup (words string.old 0 n)) n result string.new }
 {
     let mut place = 0;
     while place < n {
@@ -114,7 +114,7 @@ fn sweep_lookup(list: &[u8], buffer: &[u8], string: &mut [u8], n: usize, lookup:
 // Applies the lookups of the list in order; false if one goes too deep.
 pub fn run_lookups(list: &[u8], buffer: &[u8], string: &mut [u8], n: usize) -> bool
     requires { Ready list.now buffer.now × Room n string.old }
-    ensures { Ruled (run (lookupsOf list.now buffer.now) (words string.old 0 n)) n result string.new }
+    ensures { Ruled (run (lookups_of list.now buffer.now) (words string.old 0 n)) n result string.new }
 {
     let many = list.len() / 10;
     let mut lookup = 0;

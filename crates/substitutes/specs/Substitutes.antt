@@ -2,18 +2,18 @@
 use Rattle.std.specs.Prelude.{◌≡◌, ℕ, ◌<◌, true, List, ◌≢◌}
 use Rattle.std.proofs.Math.Option.{Option, none, some}
 use Rattle.meaning.specs.Words.{word}
-use Rattle.meaning.specs.Parts.{coverageSound}
+use Rattle.meaning.specs.Parts.{coverage_sound}
 use Rattle.substitutes.specs.declared.Substituted.{Substituted}
 use Rattle.substitutes.specs.declared.Substituted.TheVariants.{By, Not}
 
 -- the coverage whose offset stands at 2 is sound, where it is not null
 abbrev pub SoundCover : List ℕ → Type 0
-SoundCover s = (word s 2 ≢ 0) → coverageSound s (word s 2) ≡ true
+SoundCover s = (word s 2 ≢ 0) → coverage_sound s (word s 2) ≡ true
 
 -- the substitute that an answer stands for
-abbrev pub substituteBy : Substituted → Option ℕ
-substituteBy (By g) = some g
-substituteBy Not = none
+abbrev pub substitute_by : Substituted → Option ℕ
+substitute_by (By g) = some g
+substitute_by Not = none
 
 -- it is a word
 abbrev pub Small : Substituted → Type 0
@@ -22,5 +22,5 @@ Small Not = Unit {0}
 
 -- r is the substitute, if there is one
 pub record Substitutes (o : Option ℕ) (r : Substituted) : Type 0 where
-  pub says : substituteBy r ≡ o
+  pub says : substitute_by r ≡ o
   pub small : Small r

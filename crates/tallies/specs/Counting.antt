@@ -11,17 +11,17 @@ abbrev pub tally_of : Tally → TallyOf
 tally_of t = record { runs = t.runs; agreements = t.agreements; first = t.first }
 
 -- what is given back, by the definition
-abbrev pub replayedOf : Replayed → ReplayedOf
-replayedOf r = record { number = r.number; place = r.place; tally = tally_of r.tally }
+abbrev pub replayed_of : Replayed → ReplayedOf
+replayed_of r = record { number = r.number; place = r.place; tally = tally_of r.tally }
 
 -- a run went too deep
-abbrev pub isDeep : Verdict → Bool
-isDeep Agrees = false
-isDeep Differs = false
-isDeep Deep = true
+abbrev pub is_deep : Verdict → Bool
+is_deep Agrees = false
+is_deep Differs = false
+is_deep Deep = true
 
 -- a run agreed
-abbrev pub doesAgree : Verdict → Bool
-doesAgree Agrees = true
-doesAgree Differs = false
-doesAgree Deep = false
+abbrev pub does_agree : Verdict → Bool
+does_agree Agrees = true
+does_agree Differs = false
+does_agree Deep = false

@@ -1,7 +1,7 @@
 // The trace: for each run a count, that many glyphs that went in, and as many that came out. Tested.
 ghost use Rattle.std.specs.Prelude.{◌≡◌, ◌<◌, length};
 ghost use Rattle.meaning.specs.Words.{is_some};
-ghost use Rattle.replaying.specs.Trace.{goodRun, runsOf};
+ghost use Rattle.replaying.specs.Trace.{good_run, runs_of};
 
 use wire::word_at;
 
@@ -11,7 +11,7 @@ const RUN_LIMIT: usize = 64;
 // Whether the run whose count stands at `at` has at most 64 glyphs and lies inside the trace.
 fn good_run(trace: &[u8], at: usize) -> bool
     requires { at < length trace.now }
-    ensures { result ≡ goodRun trace.now at }
+    ensures { result ≡ good_run trace.now at }
 {
     let left = trace.len() - at;
     if left < 2 {
@@ -26,7 +26,7 @@ fn good_run(trace: &[u8], at: usize) -> bool
 
 // Whether the trace is made of good runs.
 pub fn good_trace(trace: &[u8]) -> bool
-    ensures { result ≡ is_some (runsOf trace.now) }
+    ensures { result ≡ is_some (runs_of trace.now) }
 {
     let mut at = 0;
     while at < trace.len() {

@@ -2,7 +2,7 @@
 use Rattle.std.specs.Prelude.{ℕ, ◌≤◌, ◌<◌, ◌≡◌, List, length, take}
 use Rattle.std.proofs.Common.{sym, arith, length-take-le}
 use Rattle.meaning.specs.Subset.{Outcome}
-use Rattle.tried.specs.Tries.{Tries, tries-less}
+use Rattle.tried.specs.Tries.{Tries, tries_less}
 use Rattle.tried.specs.declared.Tried.{Tried}
 
 -- r is the lesser of a and b
@@ -14,17 +14,17 @@ pub record Least (a b r : ℕ) : Type 0 where
 pub front_length : {n c : ℕ} (t : List ℕ) → Least (length t) c n → n ≡ length (take n t)
 front_length {n} t h = sym (length-take-le n t h.first)
 
-front-short : {n c : ℕ} (t : List ℕ) → Least (length t) c n → length (take n t) < c → length t < c
-front-short {n} {c} t h l = omega (arith, front_length t h, h.one (omega (arith, front_length t h)))
+front_short : {n c : ℕ} (t : List ℕ) → Least (length t) c n → length (take n t) < c → length t < c
+front_short {n} {c} t h l = omega (arith, front_length t h, h.one (omega (arith, front_length t h)))
 
 -- what a front of the area was too short for, all of it is too short for
-pub front-area : {n c : ℕ} (area : List ℕ) → Least (length area) c n → (few : Type 0) (r : Tried) (out after : List ℕ) (made : Outcome)
+pub front_area : {n c : ℕ} (area : List ℕ) → Least (length area) c n → (few : Type 0) (r : Tried) (out after : List ℕ) (made : Outcome)
     → Tries few (length (take n area) < c) r out after made → Tries few (length area < c) r out after made
-front-area {n} {c} area h few r out after made =
-    tries-less few (length (take n area) < c) few (length area < c) r out after made (λ f. f) (front-short area h)
+front_area {n} {c} area h few r out after made =
+    tries_less few (length (take n area) < c) few (length area < c) r out after made (λ f. f) (front_short area h)
 
 -- and so of the cells
-pub front-tries : {n k c d : ℕ} (t area : List ℕ) (r : Tried) (out after : List ℕ) (made : Outcome) → Least (length t) c n → Least (length area) d k
+pub front_tries : {n k c d : ℕ} (t area : List ℕ) (r : Tried) (out after : List ℕ) (made : Outcome) → Least (length t) c n → Least (length area) d k
     → Tries (length (take n t) < c) (length (take k area) < d) r out after made → Tries (length t < c) (length area < d) r out after made
-front-tries {n} {k} {c} {d} t area r out after made h g =
-    tries-less (length (take n t) < c) (length (take k area) < d) (length t < c) (length area < d) r out after made (front-short t h) (front-short area g)
+front_tries {n} {k} {c} {d} t area r out after made h g =
+    tries_less (length (take n t) < c) (length (take k area) < d) (length t < c) (length area < d) r out after made (front_short t h) (front_short area g)

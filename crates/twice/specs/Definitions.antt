@@ -1,31 +1,31 @@
 -- What request 6 speaks of: the combined map of two maps, and the identity maps over what was cut.
 use Rattle.std.specs.Prelude.{ℕ, ◌≡◌, true, List, [], ◌∷◌, ◌++◌}
 use Rattle.std.proofs.Math.Option.{Option, none, some}
-use Rattle.meaning.specs.Words.{flat, twos, member, keys, values, find, bind, mapSome}
-use Rattle.meaning.specs.Maps.{mapEntries, glyphEntries}
+use Rattle.meaning.specs.Words.{flat, twos, member, keys, values, find, bind, map_some}
+use Rattle.meaning.specs.Maps.{map_entries, glyph_entries}
 use Rattle.meaning.specs.Tables.{Rule, Table}
-use Rattle.meaning.specs.Cut.{insertUp}
+use Rattle.meaning.specs.Cut.{insert_up}
 use Rattle.laws.specs.Stands.{All}
 
 -- the old ids of the first map whose new id the second one maps, each with that new id
 unfoldable pub combined : List (ℕ × ℕ) → List (ℕ × ℕ) → List (ℕ × ℕ)
-combined m n = mapSome (λ e. bind (find n e.1) (λ v. some (e.0, v))) m
+combined m n = map_some (λ e. bind (find n e.1) (λ v. some (e.0, v))) m
 
 -- each old id of the second map is a new id of the first
 abbrev pub Within : List (ℕ × ℕ) → List (ℕ × ℕ) → Type 0
 Within m n = All (λ x. member x (values m) ≡ true) (keys n)
 
 -- a map's entries as its bytes: four an entry, old id then new id
-unfoldable pub mapBytes : List (ℕ × ℕ) → List ℕ
-mapBytes es = flat (twos es)
+unfoldable pub map_bytes : List (ℕ × ℕ) → List ℕ
+map_bytes es = flat (twos es)
 
 -- the combined glyph map of two glyph maps, each in its own form, as the bytes of its pairs
-unfoldable pub combinedGlyphs : ℕ → List ℕ → ℕ → List ℕ → List ℕ
-combinedGlyphs form m form₂ n = mapBytes (combined (glyphEntries form m) (glyphEntries form₂ n))
+unfoldable pub combined_glyphs : ℕ → List ℕ → ℕ → List ℕ → List ℕ
+combined_glyphs form m form₂ n = map_bytes (combined (glyph_entries form m) (glyph_entries form₂ n))
 
 -- the combined lookup map of two lookup maps, from bytes to bytes
-unfoldable pub combinedLookups : List ℕ → List ℕ → List ℕ
-combinedLookups m n = mapBytes (combined (mapEntries m) (mapEntries n))
+unfoldable pub combined_lookups : List ℕ → List ℕ → List ℕ
+combined_lookups m n = map_bytes (combined (map_entries m) (map_entries n))
 
 -- each number with itself
 unfoldable pub same : List ℕ → List (ℕ × ℕ)
@@ -37,35 +37,35 @@ abbrev pub Identity : List (ℕ × ℕ) → Type 0
 Identity m = All (λ e. e.0 ≡ e.1) m
 
 -- the identity glyph map over the new ids of a glyph map in a form, as the bytes of its pairs
-unfoldable pub identityMap : ℕ → List ℕ → List ℕ
-identityMap form m = mapBytes (same (values (glyphEntries form m)))
+unfoldable pub identity_map : ℕ → List ℕ → List ℕ
+identity_map form m = map_bytes (same (values (glyph_entries form m)))
 
 -- the lookups that rules, sets and tables name
-unfoldable pub ruleLookups : List Rule → List ℕ
-ruleLookups [] = []
-ruleLookups (r ∷ rs) = values r.records ++ ruleLookups rs
+unfoldable pub rule_lookups : List Rule → List ℕ
+rule_lookups [] = []
+rule_lookups (r ∷ rs) = values r.records ++ rule_lookups rs
 
-unfoldable pub setLookups : List (Option (List Rule)) → List ℕ
-setLookups [] = []
-setLookups (none ∷ ss) = setLookups ss
-setLookups (some rs ∷ ss) = ruleLookups rs ++ setLookups ss
+unfoldable pub set_lookups : List (Option (List Rule)) → List ℕ
+set_lookups [] = []
+set_lookups (none ∷ ss) = set_lookups ss
+set_lookups (some rs ∷ ss) = rule_lookups rs ++ set_lookups ss
 
-unfoldable pub lookupsOf : Table → List ℕ
-unfolding values ruleLookups setLookups
-lookupsOf (Table.by-glyph chained cover sets) = setLookups sets
-lookupsOf (Table.by-class chained cover b i a sets) = setLookups sets
-lookupsOf (Table.by-cover chained b i a rs) = values rs
-lookupsOf (Table.ligatures cover sets) = []
-lookupsOf (Table.pairs_of cover f1 f2 sets) = []
-lookupsOf (Table.class-pairs cover first second f1 f2 n rows) = []
-lookupsOf (Table.single-delta cover d) = []
-lookupsOf (Table.single-list cover subs) = []
+unfoldable pub lookups_of : Table → List ℕ
+unfolding values rule_lookups set_lookups
+lookups_of (Table.by_glyph chained cover sets) = set_lookups sets
+lookups_of (Table.by_class chained cover b i a sets) = set_lookups sets
+lookups_of (Table.by_cover chained b i a rs) = values rs
+lookups_of (Table.ligatures cover sets) = []
+lookups_of (Table.pairs_of cover f1 f2 sets) = []
+lookups_of (Table.class_pairs cover first second f1 f2 n rows) = []
+lookups_of (Table.single_delta cover d) = []
+lookups_of (Table.single_list cover subs) = []
 
 -- numbers in order, each once
 unfoldable pub ordered : List ℕ → List ℕ
 ordered [] = []
-ordered (n ∷ ns) = insertUp n (ordered ns)
+ordered (n ∷ ns) = insert_up n (ordered ns)
 
 -- the identity lookup map over all the lookups that a table names
-unfoldable pub identityLookups : Table → List ℕ
-identityLookups t = mapBytes (same (ordered (lookupsOf t)))
+unfoldable pub identity_lookups : Table → List ℕ
+identity_lookups t = map_bytes (same (ordered (lookups_of t)))

@@ -6,19 +6,19 @@ use Rattle.std.proofs.Math.Bool.{or-true}
 use Rattle.std.proofs.Math.Option.{Option, none, some, none-ne-some}
 use mathlib.Core.List.{List, [], ◌∷◌}
 use Rattle.std.proofs.lemmas.Bool.{eqb-false}
-use Rattle.meaning.specs.Words.{member, keys, values, find, bind, push, mapSome}
+use Rattle.meaning.specs.Words.{member, keys, values, find, bind, push, map_some}
 use Rattle.meaning.specs.Parts.{class_of}
 use Rattle.meaning.specs.Tables.{Pair, Table}
-use Rattle.meaning.specs.Cut.{insertUp, heldBy, numbered, classMap, classesUnder, newClasses, cutPair, newFormat, newSecond, thin, coveredMap, secondMap, keptRows, rows_of, keptClassPairs, cut}
+use Rattle.meaning.specs.Cut.{insert_up, held_by, numbered, class_map, classes_under, new_classes, cut_pair, new_format, new_second, thin, covered_map, second_map, kept_rows, rows_of, kept_class_pairs, cut}
 use Rattle.laws.specs.Stands.{All, all_map}
 use Rattle.laws.specs.Runs.{Up}
-use Rattle.laws.specs.CutCells.{insert-up, held_up}
-use Rattle.promises.specs.Classes.{insert-member}
-use Rattle.promises.specs.Pairs.{second-zero}
-use Rattle.twice.specs.Answers.{Then, some-twice}
-use Rattle.twice.specs.Maps.{all-members, Moved, Along, along-keys, along-values, Injective}
-use Rattle.twice_laws.specs.Classes.{rank-order, insert-moved, held_moved, numbered-moved, zero-first, held-class, follow-under, under_twice}
-use Rattle.twice_laws.specs.Pairs.{pair-twice, KeptAlike, first-format, second-format, thin-kept, cut-alike, thinned-sets}
+use Rattle.laws.specs.CutCells.{insert_up_lem, held_up}
+use Rattle.promises.specs.Classes.{insert_member}
+use Rattle.promises.specs.Pairs.{second_zero}
+use Rattle.twice.specs.Answers.{Then, some_twice}
+use Rattle.twice.specs.Maps.{all_members, Moved, Along, along_keys, along_values, Injective}
+use Rattle.twice_laws.specs.Classes.{rank_order, insert_moved, held_moved, numbered_moved, zero_first, held_class, follow_under, under_twice}
+use Rattle.twice_laws.specs.Pairs.{pair_twice, KeptAlike, first_format, second_format, thin_kept, cut_alike, thinned_sets}
 
 -- Rows, numbered as they stand.
 
@@ -28,36 +28,36 @@ Counted k [] = Unit {0}
 Counted k (e ∷ r) = (e.0 ≡ k) × Counted (k + 1) r
 
 -- a kept row, cut again
-abbrev rowAgain : List (ℕ × ℕ) → List (ℕ × ℕ) → ℕ × List Pair → Option (ℕ × List Pair)
-rowAgain m1 m2 e = bind (find m1 e.0) (λ n. some (n, mapSome (cutPair m2) e.1))
+abbrev row_again : List (ℕ × ℕ) → List (ℕ × ℕ) → ℕ × List Pair → Option (ℕ × List Pair)
+row_again m1 m2 e = bind (find m1 e.0) (λ n. some (n, map_some (cut_pair m2) e.1))
 
 -- rows that are numbered so are kept by their numbers
-counted-rows : (m1 m2 : List (ℕ × ℕ)) (k : ℕ) (ks : List (ℕ × List Pair)) → Counted k ks → keptRows m1 m2 k (rows_of ks) ≡ mapSome (rowAgain m1 m2) ks
-unfolding keptRows rows_of mapSome
-counted-rows m1 m2 k [] c = refl
-counted-rows m1 m2 k (e ∷ ks) c = rw c.0 (ap (push (bind (find m1 k) (λ n. some (n, mapSome (cutPair m2) e.1)))) (counted-rows m1 m2 (k + 1) ks c.1))
+counted_rows : (m1 m2 : List (ℕ × ℕ)) (k : ℕ) (ks : List (ℕ × List Pair)) → Counted k ks → kept_rows m1 m2 k (rows_of ks) ≡ map_some (row_again m1 m2) ks
+unfolding kept_rows rows_of map_some
+counted_rows m1 m2 k [] c = refl
+counted_rows m1 m2 k (e ∷ ks) c = rw c.0 (ap (push (bind (find m1 k) (λ n. some (n, map_some (cut_pair m2) e.1)))) (counted_rows m1 m2 (k + 1) ks c.1))
 
-counted-thin : (f1 f2 n1 n2 k : ℕ) (ks : List (ℕ × List Pair)) → Counted k ks → Counted k (thin f1 f2 n1 n2 ks)
+counted_thin : (f1 f2 n1 n2 k : ℕ) (ks : List (ℕ × List Pair)) → Counted k ks → Counted k (thin f1 f2 n1 n2 ks)
 unfolding thin
-counted-thin f1 f2 n1 n2 k [] c = tt
-counted-thin f1 f2 n1 n2 k (e ∷ ks) c = (c.0, counted-thin f1 f2 n1 n2 (k + 1) ks c.1)
+counted_thin f1 f2 n1 n2 k [] c = tt
+counted_thin f1 f2 n1 n2 k (e ∷ ks) c = (c.0, counted_thin f1 f2 n1 n2 (k + 1) ks c.1)
 
 -- a class below all has no rank
-no-rank : (k low : ℕ) (hs : List ℕ) (c : ℕ) → Up low hs → c < low → find (numbered k hs) c ≡ none
+no_rank : (k low : ℕ) (hs : List ℕ) (c : ℕ) → Up low hs → c < low → find (numbered k hs) c ≡ none
 unfolding find numbered
-no-rank k low [] c u l = refl
-no-rank k low (h ∷ hs) c u l = rw (ne_eqb h c (omega (arith, u.0))) (no-rank (k + 1) (h + 1) hs c u.1 (omega (arith, u.0)))
+no_rank k low [] c u l = refl
+no_rank k low (h ∷ hs) c u l = rw (ne_eqb h c (omega (arith, u.0))) (no_rank (k + 1) (h + 1) hs c u.1 (omega (arith, u.0)))
 
 -- classes hs that ascend from c on, with ranks from k on: the rows from class c on get the numbers from k on, as they stand
-counted-kept : (ρ m2 : List (ℕ × ℕ)) (rows : List (List Pair)) (c k : ℕ) (hs : List ℕ) → Up c hs → ((d : ℕ) → c ≤ d → find ρ d ≡ find (numbered k hs) d) → Counted k (keptRows ρ m2 c rows)
-unfolding keptRows push bind find numbered
-counted-kept ρ m2 [] c k hs u same = tt
-counted-kept ρ m2 (row ∷ rows) c k hs u same = step hs u same (counted-kept ρ m2 rows (c + 1))
+counted_kept : (ρ m2 : List (ℕ × ℕ)) (rows : List (List Pair)) (c k : ℕ) (hs : List ℕ) → Up c hs → ((d : ℕ) → c ≤ d → find ρ d ≡ find (numbered k hs) d) → Counted k (kept_rows ρ m2 c rows)
+unfolding kept_rows push bind find numbered
+counted_kept ρ m2 [] c k hs u same = tt
+counted_kept ρ m2 (row ∷ rows) c k hs u same = step hs u same (counted_kept ρ m2 rows (c + 1))
   where
     step : (hs : List ℕ) → Up c hs → ((d : ℕ) → c ≤ d → find ρ d ≡ find (numbered k hs) d)
-        → ((k : ℕ) (hs : List ℕ) → Up (c + 1) hs → ((d : ℕ) → c + 1 ≤ d → find ρ d ≡ find (numbered k hs) d) → Counted k (keptRows ρ m2 (c + 1) rows))
-        → Counted k (push (bind (find ρ c) (λ n. some (n, mapSome (cutPair m2) row))) (keptRows ρ m2 (c + 1) rows))
-    step [] u same i = rw (same c (omega arith) ∙ no-rank k (c + 1) [] c tt (omega arith)) (i k [] tt (λ d l. same d (omega arith)))
+        → ((k : ℕ) (hs : List ℕ) → Up (c + 1) hs → ((d : ℕ) → c + 1 ≤ d → find ρ d ≡ find (numbered k hs) d) → Counted k (kept_rows ρ m2 (c + 1) rows))
+        → Counted k (push (bind (find ρ c) (λ n. some (n, map_some (cut_pair m2) row))) (kept_rows ρ m2 (c + 1) rows))
+    step [] u same i = rw (same c (omega arith) ∙ no_rank k (c + 1) [] c tt (omega arith)) (i k [] tt (λ d l. same d (omega arith)))
     step (h ∷ hs) u same i = here (eqb h c) refl
       where
         first : eqb h c ≡ true → find (numbered k (h ∷ hs)) c ≡ some k
@@ -66,81 +66,81 @@ counted-kept ρ m2 (row ∷ rows) c k hs u same = step hs u same (counted-kept �
         later : (d : ℕ) → h + 1 ≤ d → find (numbered k (h ∷ hs)) d ≡ find (numbered (k + 1) hs) d
         later d l = rw (ne_eqb h d (omega arith))
 
-        here : (b : Bool) → eqb h c ≡ b → Counted k (push (bind (find ρ c) (λ n. some (n, mapSome (cutPair m2) row))) (keptRows ρ m2 (c + 1) rows))
+        here : (b : Bool) → eqb h c ≡ b → Counted k (push (bind (find ρ c) (λ n. some (n, map_some (cut_pair m2) row))) (kept_rows ρ m2 (c + 1) rows))
         here true e =
             let t = eqb-true h c e in
             rw (same c (omega arith) ∙ first e) (refl, i (k + 1) hs (subst (λ (x : ℕ). Up (x + 1) hs) t u.1) (λ d l. same d (omega arith) ∙ later d (omega arith)))
         here false e =
             let t = eqb-false h c e in
             let l : c + 1 ≤ h = omega (arith, u.0) in
-            rw (same c (omega arith) ∙ no-rank k (c + 1) (h ∷ hs) c (l, u.1) (omega arith)) (i k (h ∷ hs) (l, u.1) (λ d q. same d (omega arith)))
+            rw (same c (omega arith) ∙ no_rank k (c + 1) (h ∷ hs) c (l, u.1) (omega arith)) (i k (h ∷ hs) (l, u.1) (λ d q. same d (omega arith)))
 
 -- Rows, cut again: they are the rows that both cuts keep.
 module _ (m1 m2 m1' m2' m1'' m2'' : List (ℕ × ℕ)) (t : Then (find m1) (find m1') (find m1'')) (v : Then (find m2) (find m2') (find m2'')) where
-  rows-twice : (c : ℕ) (rows : List (List Pair)) → mapSome (rowAgain m1' m2') (keptRows m1 m2 c rows) ≡ keptRows m1'' m2'' c rows
-  unfolding keptRows mapSome push bind
-  rows-twice c [] = refl
-  rows-twice c (row ∷ rows) =
-      go (find m1 c) (keptRows m1 m2 (c + 1) rows)
-      ∙ rw (t c, some-twice (cutPair m2) (cutPair m2') (cutPair m2'') (pair-twice m2 m2' m2'' v) row)
-      (ap (push (bind (find m1'' c) (λ n. some (n, mapSome (cutPair m2'') row)))) (rows-twice (c + 1) rows))
+  rows_twice : (c : ℕ) (rows : List (List Pair)) → map_some (row_again m1' m2') (kept_rows m1 m2 c rows) ≡ kept_rows m1'' m2'' c rows
+  unfolding kept_rows map_some push bind
+  rows_twice c [] = refl
+  rows_twice c (row ∷ rows) =
+      go (find m1 c) (kept_rows m1 m2 (c + 1) rows)
+      ∙ rw (t c, some_twice (cut_pair m2) (cut_pair m2') (cut_pair m2'') (pair_twice m2 m2' m2'' v) row)
+      (ap (push (bind (find m1'' c) (λ n. some (n, map_some (cut_pair m2'') row)))) (rows_twice (c + 1) rows))
     where
       go : (o : Option ℕ) (ks : List (ℕ × List Pair))
-          → mapSome (rowAgain m1' m2') (push (bind o (λ n. some (n, mapSome (cutPair m2) row))) ks)
-          ≡ push (bind (bind o (find m1')) (λ n. some (n, mapSome (cutPair m2') (mapSome (cutPair m2) row)))) (mapSome (rowAgain m1' m2') ks)
+          → map_some (row_again m1' m2') (push (bind o (λ n. some (n, map_some (cut_pair m2) row))) ks)
+          ≡ push (bind (bind o (find m1')) (λ n. some (n, map_some (cut_pair m2') (map_some (cut_pair m2) row)))) (map_some (row_again m1' m2') ks)
       go none ks = refl
       go (some n) ks = refl
 
 -- rows with equal fields stay so
 module _ (f1 f2 f1' f2' : ℕ) (m1 m2 : List (ℕ × ℕ)) where
-  again-alike : (ks js : List (ℕ × List Pair)) → KeptAlike f1 f2 f1' f2' ks js → KeptAlike f1 f2 f1' f2' (mapSome (rowAgain m1 m2) ks) (mapSome (rowAgain m1 m2) js)
-  unfolding mapSome push bind
-  again-alike [] [] a = tt
-  again-alike [] (d ∷ js) a = absurd a
-  again-alike (e ∷ ks) [] a = absurd a
-  again-alike (e ∷ ks) (d ∷ js) a = rw a.0 (go (find m1 e.0) (again-alike ks js a.2))
+  again_alike : (ks js : List (ℕ × List Pair)) → KeptAlike f1 f2 f1' f2' ks js → KeptAlike f1 f2 f1' f2' (map_some (row_again m1 m2) ks) (map_some (row_again m1 m2) js)
+  unfolding map_some push bind
+  again_alike [] [] a = tt
+  again_alike [] (d ∷ js) a = absurd a
+  again_alike (e ∷ ks) [] a = absurd a
+  again_alike (e ∷ ks) (d ∷ js) a = rw a.0 (go (find m1 e.0) (again_alike ks js a.2))
     where
-      go : (o : Option ℕ) → KeptAlike f1 f2 f1' f2' (mapSome (rowAgain m1 m2) ks) (mapSome (rowAgain m1 m2) js)
-          → KeptAlike f1 f2 f1' f2' (push (bind o (λ n. some (n, mapSome (cutPair m2) e.1))) (mapSome (rowAgain m1 m2) ks)) (push (bind o (λ n. some (n, mapSome (cutPair m2) d.1))) (mapSome (rowAgain m1 m2) js))
+      go : (o : Option ℕ) → KeptAlike f1 f2 f1' f2' (map_some (row_again m1 m2) ks) (map_some (row_again m1 m2) js)
+          → KeptAlike f1 f2 f1' f2' (push (bind o (λ n. some (n, map_some (cut_pair m2) e.1))) (map_some (row_again m1 m2) ks)) (push (bind o (λ n. some (n, map_some (cut_pair m2) d.1))) (map_some (row_again m1 m2) js))
       go none i = i
-      go (some n) i = (refl, cut-alike f1 f2 f1' f2' m2 e.1 d.1 a.1, i)
+      go (some n) i = (refl, cut_alike f1 f2 f1' f2' m2 e.1 d.1 a.1, i)
 
 -- The covered glyphs' maps.
 module _ (g₁ g₂ g : List (ℕ × ℕ)) (e : Then (find g₁) (find g₂) (find g)) where
-  covered-found : (cov : List ℕ) → All (λ p. find g₁ p.0 ≡ some p.1) (coveredMap g₁ cov)
-  unfolding coveredMap mapSome push bind
-  covered-found [] = tt
-  covered-found (c ∷ cov) = go (find g₁ c) refl (covered-found cov)
+  covered_found : (cov : List ℕ) → All (λ p. find g₁ p.0 ≡ some p.1) (covered_map g₁ cov)
+  unfolding covered_map map_some push bind
+  covered_found [] = tt
+  covered_found (c ∷ cov) = go (find g₁ c) refl (covered_found cov)
     where
-      go : (o : Option ℕ) → find g₁ c ≡ o → All (λ p. find g₁ p.0 ≡ some p.1) (coveredMap g₁ cov) → All (λ p. find g₁ p.0 ≡ some p.1) (push (bind o (λ n. some (c, n))) (coveredMap g₁ cov))
+      go : (o : Option ℕ) → find g₁ c ≡ o → All (λ p. find g₁ p.0 ≡ some p.1) (covered_map g₁ cov) → All (λ p. find g₁ p.0 ≡ some p.1) (push (bind o (λ n. some (c, n))) (covered_map g₁ cov))
       go none q i = i
       go (some n) q i = (q, i)
 
   -- by ρ, which is the first one's or more
-  covered-along : (ρ : ℕ → Option ℕ) (cov : List ℕ) → All (λ c. (n : ℕ) → find g₁ c ≡ some n → ρ c ≡ some n) cov → Along ρ (coveredMap g cov) (coveredMap g₂ (values (coveredMap g₁ cov)))
-  unfolding coveredMap mapSome push bind values
-  covered-along ρ [] w = tt
-  covered-along ρ (c ∷ cov) w = go (find g₁ c) refl (find g c) (e c) (covered-along ρ cov w.1)
+  covered_along : (ρ : ℕ → Option ℕ) (cov : List ℕ) → All (λ c. (n : ℕ) → find g₁ c ≡ some n → ρ c ≡ some n) cov → Along ρ (covered_map g cov) (covered_map g₂ (values (covered_map g₁ cov)))
+  unfolding covered_map map_some push bind values
+  covered_along ρ [] w = tt
+  covered_along ρ (c ∷ cov) w = go (find g₁ c) refl (find g c) (e c) (covered_along ρ cov w.1)
     where
-      go : (o : Option ℕ) → find g₁ c ≡ o → (p : Option ℕ) → bind o (find g₂) ≡ p → Along ρ (coveredMap g cov) (coveredMap g₂ (values (coveredMap g₁ cov)))
-          → Along ρ (push (bind p (λ n. some (c, n))) (coveredMap g cov)) (coveredMap g₂ (values (push (bind o (λ n. some (c, n))) (coveredMap g₁ cov))))
+      go : (o : Option ℕ) → find g₁ c ≡ o → (p : Option ℕ) → bind o (find g₂) ≡ p → Along ρ (covered_map g cov) (covered_map g₂ (values (covered_map g₁ cov)))
+          → Along ρ (push (bind p (λ n. some (c, n))) (covered_map g cov)) (covered_map g₂ (values (push (bind o (λ n. some (c, n))) (covered_map g₁ cov))))
       go none q none r i = i
       go none q (some n) r i = absurd (none-ne-some n r)
       go (some d) q none r i = rw r i
       go (some d) q (some n) r i = rw r (w.0 d q, refl, i)
 
 -- the covered glyphs' map finds the covered glyphs
-covered-is : (g : List (ℕ × ℕ)) (cov : List ℕ) (x : ℕ) → find (coveredMap g cov) x ≡ cond (member x cov) (find g x) none
-unfolding coveredMap mapSome push bind find member
-covered-is g [] x = refl
-covered-is g (c ∷ cov) x = go (find g c) refl (eqb c x) refl (covered-is g cov x)
+covered_is : (g : List (ℕ × ℕ)) (cov : List ℕ) (x : ℕ) → find (covered_map g cov) x ≡ cond (member x cov) (find g x) none
+unfolding covered_map map_some push bind find member
+covered_is g [] x = refl
+covered_is g (c ∷ cov) x = go (find g c) refl (eqb c x) refl (covered_is g cov x)
   where
     same : (b : Bool) → cond {A = Option ℕ} b none none ≡ none
     same true = refl
     same false = refl
 
-    go : (o : Option ℕ) → find g c ≡ o → (b : Bool) → eqb c x ≡ b → find (coveredMap g cov) x ≡ cond (member x cov) (find g x) none
-        → find (push (bind o (λ n. some (c, n))) (coveredMap g cov)) x ≡ cond (b || member x cov) (find g x) none
+    go : (o : Option ℕ) → find g c ≡ o → (b : Bool) → eqb c x ≡ b → find (covered_map g cov) x ≡ cond (member x cov) (find g x) none
+        → find (push (bind o (λ n. some (c, n))) (covered_map g cov)) x ≡ cond (b || member x cov) (find g x) none
     go none q true r i =
         let s : find g x ≡ none = ap (find g) (sym (eqb-true c x r)) ∙ q in
         i ∙ rw s (same (member x cov))
@@ -148,16 +148,16 @@ covered-is g (c ∷ cov) x = go (find g c) refl (eqb c x) refl (covered-is g cov
     go (some n) q true r i = rw r (sym (ap (find g) (sym (eqb-true c x r)) ∙ q))
     go (some n) q false r i = rw r i
 
-covered-sub : (g : List (ℕ × ℕ)) (cov : List ℕ) (x y : ℕ) → find (coveredMap g cov) x ≡ some y → find g x ≡ some y
-covered-sub g cov x y q = go (member x cov) (sym (covered-is g cov x) ∙ q)
+covered_sub : (g : List (ℕ × ℕ)) (cov : List ℕ) (x y : ℕ) → find (covered_map g cov) x ≡ some y → find g x ≡ some y
+covered_sub g cov x y q = go (member x cov) (sym (covered_is g cov x) ∙ q)
   where
     go : (b : Bool) → cond b (find g x) none ≡ some y → find g x ≡ some y
     go true e = e
     go false e = absurd (none-ne-some y e)
 
-covered-find : (g : List (ℕ × ℕ)) (cov : List ℕ) → All (λ c. (n : ℕ) → find g c ≡ some n → find (coveredMap g cov) c ≡ some n) cov
-covered-find g cov =
-    all_map (λ x. member x cov ≡ true) (λ c. (n : ℕ) → find g c ≡ some n → find (coveredMap g cov) c ≡ some n) (λ c m n q. covered-is g cov c ∙ rw m q) cov (all-members cov)
+covered_find : (g : List (ℕ × ℕ)) (cov : List ℕ) → All (λ c. (n : ℕ) → find g c ≡ some n → find (covered_map g cov) c ≡ some n) cov
+covered_find g cov =
+    all_map (λ x. member x cov ≡ true) (λ c. (n : ℕ) → find g c ≡ some n → find (covered_map g cov) c ≡ some n) (λ c m n q. covered_is g cov c ∙ rw m q) cov (all_members cov)
 
 -- Moved lists are of one length.
 moved_length : (ρ : ℕ → Option ℕ) (xs ys : List ℕ) → Moved ρ xs ys → length ys ≡ length xs
@@ -166,39 +166,39 @@ moved_length ρ [] (y ∷ ys) m = absurd m
 moved_length ρ (x ∷ xs) [] m = absurd m
 moved_length ρ (x ∷ xs) (y ∷ ys) m = ap suc (moved_length ρ xs ys m.1)
 
-numbered-length : (k : ℕ) (hs : List ℕ) → length (numbered k hs) ≡ length hs
+numbered_length : (k : ℕ) (hs : List ℕ) → length (numbered k hs) ≡ length hs
 unfolding numbered
-numbered-length k [] = refl
-numbered-length k (h ∷ hs) = ap suc (numbered-length (k + 1) hs)
+numbered_length k [] = refl
+numbered_length k (h ∷ hs) = ap suc (numbered_length (k + 1) hs)
 
 -- The table that is kept, if a covered glyph is retained.
 abbrev whole : List (ℕ × ℕ) → List (ℕ × ℕ) → List (ℕ × ℕ) → List (ℕ × ℕ) → ℕ → ℕ → List (List Pair) → Table
 whole g h cs ds f1 f2 rows =
-    let kept = keptRows (classMap h cs) (secondMap g ds) 0 rows in
-    let n1 = newFormat (λ p. p.first-values) f1 kept in
-    let n2 = newSecond f2 kept in
-    Table.class-pairs (some (values h)) (some (newClasses h cs)) (some (classesUnder (secondMap g ds) g ds)) n1 n2 (length (secondMap g ds)) (rows_of (thin f1 f2 n1 n2 kept))
+    let kept = kept_rows (class_map h cs) (second_map g ds) 0 rows in
+    let n1 = new_format (λ p. p.first_values) f1 kept in
+    let n2 = new_second f2 kept in
+    Table.class_pairs (some (values h)) (some (new_classes h cs)) (some (classes_under (second_map g ds) g ds)) n1 n2 (length (second_map g ds)) (rows_of (thin f1 f2 n1 n2 kept))
 
-abbrev ifAny : List (ℕ × ℕ) → Option Table → Option Table
-ifAny [] t = none
-ifAny (e ∷ r) t = t
+abbrev if_any : List (ℕ × ℕ) → Option Table → Option Table
+if_any [] t = none
+if_any (e ∷ r) t = t
 
-kept_whole : (g h cs ds : List (ℕ × ℕ)) (f1 f2 : ℕ) (rows : List (List Pair)) → keptClassPairs g h cs ds f1 f2 rows ≡ ifAny h (some (whole g h cs ds f1 f2 rows))
-unfolding keptClassPairs
+kept_whole : (g h cs ds : List (ℕ × ℕ)) (f1 f2 : ℕ) (rows : List (List Pair)) → kept_class_pairs g h cs ds f1 f2 rows ≡ if_any h (some (whole g h cs ds f1 f2 rows))
+unfolding kept_class_pairs
 kept_whole g [] cs ds f1 f2 rows = refl
 kept_whole g (e ∷ r) cs ds f1 f2 rows = refl
 
-cut-whole : (g l : List (ℕ × ℕ)) (cov : List ℕ) (cs ds : List (ℕ × ℕ)) (f1 f2 n : ℕ) (rows : List (List Pair))
-    → cut g l (Table.class-pairs (some cov) (some cs) (some ds) f1 f2 n rows) ≡ ifAny (coveredMap g cov) (some (whole g (coveredMap g cov) cs ds f1 f2 rows))
+cut_whole : (g l : List (ℕ × ℕ)) (cov : List ℕ) (cs ds : List (ℕ × ℕ)) (f1 f2 n : ℕ) (rows : List (List Pair))
+    → cut g l (Table.class_pairs (some cov) (some cs) (some ds) f1 f2 n rows) ≡ if_any (covered_map g cov) (some (whole g (covered_map g cov) cs ds f1 f2 rows))
 unfolding cut
-cut-whole g l cov cs ds f1 f2 n rows = kept_whole g (coveredMap g cov) cs ds f1 f2 rows
+cut_whole g l cov cs ds f1 f2 n rows = kept_whole g (covered_map g cov) cs ds f1 f2 rows
 
-none-covered : (g : List (ℕ × ℕ)) → coveredMap g (values []) ≡ []
-unfolding coveredMap values mapSome
-none-covered g = refl
+none_covered : (g : List (ℕ × ℕ)) → covered_map g (values []) ≡ []
+unfolding covered_map values map_some
+none_covered g = refl
 
 -- of three maps, where nothing of the first leaves nothing of the second, and the second goes along with the third
-any_twice : (ρ : ℕ → Option ℕ) (x y z : List (ℕ × ℕ)) (t u : Table) (k : Table → Option Table) → (x ≡ [] → y ≡ []) → Along ρ z y → k t ≡ ifAny y (some u) → bind (ifAny x (some t)) k ≡ ifAny z (some u)
+any_twice : (ρ : ℕ → Option ℕ) (x y z : List (ℕ × ℕ)) (t u : Table) (k : Table → Option Table) → (x ≡ [] → y ≡ []) → Along ρ z y → k t ≡ if_any y (some u) → bind (if_any x (some t)) k ≡ if_any z (some u)
 unfolding bind
 any_twice ρ [] [] [] t u k n a e = refl
 any_twice ρ [] [] (c ∷ z) t u k n a e = absurd a
@@ -216,120 +216,120 @@ module _ (g₁ g₂ g : List (ℕ × ℕ)) (found : All (λ e. find g₁ e.0 ≡
   -- second classes: those that retained glyphs hold, and 0
   module _ (ds : List (ℕ × ℕ)) where
     abbrev hs₁ : List ℕ
-    hs₁ = insertUp 0 (heldBy ds (keys g₁))
+    hs₁ = insert_up 0 (held_by ds (keys g₁))
 
     abbrev ds₁ : List (ℕ × ℕ)
-    ds₁ = classesUnder (secondMap g₁ ds) g₁ ds
+    ds₁ = classes_under (second_map g₁ ds) g₁ ds
 
     ascend : Up 0 hs₁
-    ascend = insert-up 0 0 (heldBy ds (keys g₁)) (omega arith) (held_up ds (keys g₁))
+    ascend = insert_up_lem 0 0 (held_by ds (keys g₁)) (omega arith) (held_up ds (keys g₁))
 
-    second-follow : (x y : ℕ) → find g₁ x ≡ some y → find (secondMap g₁ ds) (class_of ds x) ≡ some (class_of ds₁ y)
-    unfolding secondMap
-    second-follow x y q = follow-under (find g₁) one g₁ found hs₁ ds x y q q (insert-member (class_of ds x) 0 (heldBy ds (keys g₁)) ∙ rw (held-class ds g₁ x y q) (or-true (eqb 0 (class_of ds x))))
+    second_follow : (x y : ℕ) → find g₁ x ≡ some y → find (second_map g₁ ds) (class_of ds x) ≡ some (class_of ds₁ y)
+    unfolding second_map
+    second_follow x y q = follow_under (find g₁) one g₁ found hs₁ ds x y q q (insert_member (class_of ds x) 0 (held_by ds (keys g₁)) ∙ rw (held_class ds g₁ x y q) (or-true (eqb 0 (class_of ds x))))
 
-    second-zero-first : find (secondMap g₁ ds) 0 ≡ some 0
-    unfolding secondMap
-    second-zero-first = zero-first hs₁ ascend (insert-member 0 0 (heldBy ds (keys g₁)))
+    second_zero_first : find (second_map g₁ ds) 0 ≡ some 0
+    unfolding second_map
+    second_zero_first = zero_first hs₁ ascend (insert_member 0 0 (held_by ds (keys g₁)))
 
-    second-moved : Moved (find (secondMap g₁ ds)) (insertUp 0 (heldBy ds (keys g))) (insertUp 0 (heldBy ds₁ (keys g₂)))
-    unfolding secondMap
-    second-moved =
-        let κ = find (secondMap g₁ ds) in
-        let o = rank-order hs₁ ascend in
-        insert-moved κ o 0 0 second-zero-first (heldBy ds (keys g)) (heldBy ds₁ (keys g₂)) (held_moved κ o (find g₁) ds ds₁ second-follow (keys g) (keys g₂) (along-keys (find g₁) g g₂ a))
+    second_moved : Moved (find (second_map g₁ ds)) (insert_up 0 (held_by ds (keys g))) (insert_up 0 (held_by ds₁ (keys g₂)))
+    unfolding second_map
+    second_moved =
+        let κ = find (second_map g₁ ds) in
+        let o = rank_order hs₁ ascend in
+        insert_moved κ o 0 0 second_zero_first (held_by ds (keys g)) (held_by ds₁ (keys g₂)) (held_moved κ o (find g₁) ds ds₁ second_follow (keys g) (keys g₂) (along_keys (find g₁) g g₂ a))
 
-    second-twice : Then (find (secondMap g₁ ds)) (find (secondMap g₂ ds₁)) (find (secondMap g ds))
-    unfolding secondMap
-    second-twice = numbered-moved (find (secondMap g₁ ds)) (rank-order hs₁ ascend) 0 (insertUp 0 (heldBy ds (keys g))) (insertUp 0 (heldBy ds₁ (keys g₂))) second-moved
+    second_twice : Then (find (second_map g₁ ds)) (find (second_map g₂ ds₁)) (find (second_map g ds))
+    unfolding second_map
+    second_twice = numbered_moved (find (second_map g₁ ds)) (rank_order hs₁ ascend) 0 (insert_up 0 (held_by ds (keys g))) (insert_up 0 (held_by ds₁ (keys g₂))) second_moved
 
-    seconds-twice : classesUnder (secondMap g₂ ds₁) g₂ ds₁ ≡ classesUnder (secondMap g ds) g ds
-    seconds-twice = under_twice (find g₁) g g₂ a ds ds₁ (secondMap g₁ ds) (secondMap g₂ ds₁) (secondMap g ds) second-twice second-follow
+    seconds_twice : classes_under (second_map g₂ ds₁) g₂ ds₁ ≡ classes_under (second_map g ds) g ds
+    seconds_twice = under_twice (find g₁) g g₂ a ds ds₁ (second_map g₁ ds) (second_map g₂ ds₁) (second_map g ds) second_twice second_follow
 
-    second-count : length (secondMap g₂ ds₁) ≡ length (secondMap g ds)
-    unfolding secondMap
-    second-count =
-        numbered-length 0 (insertUp 0 (heldBy ds₁ (keys g₂)))
-        ∙ moved_length (find (secondMap g₁ ds)) (insertUp 0 (heldBy ds (keys g))) (insertUp 0 (heldBy ds₁ (keys g₂))) second-moved
-        ∙ sym (numbered-length 0 (insertUp 0 (heldBy ds (keys g))))
+    second_count : length (second_map g₂ ds₁) ≡ length (second_map g ds)
+    unfolding second_map
+    second_count =
+        numbered_length 0 (insert_up 0 (held_by ds₁ (keys g₂)))
+        ∙ moved_length (find (second_map g₁ ds)) (insert_up 0 (held_by ds (keys g))) (insert_up 0 (held_by ds₁ (keys g₂))) second_moved
+        ∙ sym (numbered_length 0 (insert_up 0 (held_by ds (keys g))))
 
   -- first classes: those that retained covered glyphs hold
   module _ (cov : List ℕ) (cs : List (ℕ × ℕ)) where
     abbrev h₁ : List (ℕ × ℕ)
-    h₁ = coveredMap g₁ cov
+    h₁ = covered_map g₁ cov
 
     abbrev h₂ : List (ℕ × ℕ)
-    h₂ = coveredMap g₂ (values h₁)
+    h₂ = covered_map g₂ (values h₁)
 
     abbrev h : List (ℕ × ℕ)
-    h = coveredMap g cov
+    h = covered_map g cov
 
     abbrev cs₁ : List (ℕ × ℕ)
-    cs₁ = newClasses h₁ cs
+    cs₁ = new_classes h₁ cs
 
-    go-along : Along (find h₁) h h₂
-    go-along = covered-along g₁ g₂ g e (find h₁) cov (covered-find g₁ cov)
+    go_along : Along (find h₁) h h₂
+    go_along = covered_along g₁ g₂ g e (find h₁) cov (covered_find g₁ cov)
 
-    first-follow : (x y : ℕ) → find h₁ x ≡ some y → find (classMap h₁ cs) (class_of cs x) ≡ some (class_of cs₁ y)
-    unfolding newClasses classMap
-    first-follow x y q = follow-under (find g₁) one h₁ (covered-found g₁ g₂ g e cov) (heldBy cs (keys h₁)) cs x y (covered-sub g₁ cov x y q) q (held-class cs h₁ x y q)
+    first_follow : (x y : ℕ) → find h₁ x ≡ some y → find (class_map h₁ cs) (class_of cs x) ≡ some (class_of cs₁ y)
+    unfolding new_classes class_map
+    first_follow x y q = follow_under (find g₁) one h₁ (covered_found g₁ g₂ g e cov) (held_by cs (keys h₁)) cs x y (covered_sub g₁ cov x y q) q (held_class cs h₁ x y q)
 
-    first-twice : Then (find (classMap h₁ cs)) (find (classMap h₂ cs₁)) (find (classMap h cs))
-    unfolding classMap
-    first-twice =
-        let κ = find (classMap h₁ cs) in
-        let o = rank-order (heldBy cs (keys h₁)) (held_up cs (keys h₁)) in
-        numbered-moved κ o 0 (heldBy cs (keys h)) (heldBy cs₁ (keys h₂)) (held_moved κ o (find h₁) cs cs₁ first-follow (keys h) (keys h₂) (along-keys (find h₁) h h₂ go-along))
+    first_twice : Then (find (class_map h₁ cs)) (find (class_map h₂ cs₁)) (find (class_map h cs))
+    unfolding class_map
+    first_twice =
+        let κ = find (class_map h₁ cs) in
+        let o = rank_order (held_by cs (keys h₁)) (held_up cs (keys h₁)) in
+        numbered_moved κ o 0 (held_by cs (keys h)) (held_by cs₁ (keys h₂)) (held_moved κ o (find h₁) cs cs₁ first_follow (keys h) (keys h₂) (along_keys (find h₁) h h₂ go_along))
 
-    firsts-twice : newClasses h₂ cs₁ ≡ newClasses h cs
-    unfolding newClasses
-    firsts-twice = under_twice (find h₁) h h₂ go-along cs cs₁ (classMap h₁ cs) (classMap h₂ cs₁) (classMap h cs) first-twice first-follow
+    firsts_twice : new_classes h₂ cs₁ ≡ new_classes h cs
+    unfolding new_classes
+    firsts_twice = under_twice (find h₁) h h₂ go_along cs cs₁ (class_map h₁ cs) (class_map h₂ cs₁) (class_map h cs) first_twice first_follow
 
     -- the rows: those that the second cut keeps of the kept rows are, with equal fields, those that the single cut keeps
     module _ (ds : List (ℕ × ℕ)) (f1 f2 : ℕ) (rows : List (List Pair)) where
       abbrev kept₁ : List (ℕ × List Pair)
-      kept₁ = keptRows (classMap h₁ cs) (secondMap g₁ ds) 0 rows
+      kept₁ = kept_rows (class_map h₁ cs) (second_map g₁ ds) 0 rows
 
       abbrev n1 : ℕ
-      n1 = newFormat (λ p. p.first-values) f1 kept₁
+      n1 = new_format (λ p. p.first_values) f1 kept₁
 
       abbrev n2 : ℕ
-      n2 = newSecond f2 kept₁
+      n2 = new_second f2 kept₁
 
       abbrev kept₂ : List (ℕ × List Pair)
-      kept₂ = keptRows (classMap h₂ cs₁) (secondMap g₂ (ds₁ ds)) 0 (rows_of (thin f1 f2 n1 n2 kept₁))
+      kept₂ = kept_rows (class_map h₂ cs₁) (second_map g₂ (ds₁ ds)) 0 (rows_of (thin f1 f2 n1 n2 kept₁))
 
       abbrev kept : List (ℕ × List Pair)
-      kept = keptRows (classMap h cs) (secondMap g ds) 0 rows
+      kept = kept_rows (class_map h cs) (second_map g ds) 0 rows
 
       counted : Counted 0 kept₁
-      unfolding classMap
-      counted = counted-kept (classMap h₁ cs) (secondMap g₁ ds) rows 0 0 (heldBy cs (keys h₁)) (held_up cs (keys h₁)) (λ d l. refl)
+      unfolding class_map
+      counted = counted_kept (class_map h₁ cs) (second_map g₁ ds) rows 0 0 (held_by cs (keys h₁)) (held_up cs (keys h₁)) (λ d l. refl)
 
       rows_alike : KeptAlike f1 f2 n1 n2 kept kept₂
       rows_alike =
           subst (λ (js : List (ℕ × List Pair)). KeptAlike f1 f2 n1 n2 kept js)
-          (sym (counted-rows (classMap h₂ cs₁) (secondMap g₂ (ds₁ ds)) 0 (thin f1 f2 n1 n2 kept₁) (counted-thin f1 f2 n1 n2 0 kept₁ counted)))
-          (subst (λ (ks : List (ℕ × List Pair)). KeptAlike f1 f2 n1 n2 ks (mapSome (rowAgain (classMap h₂ cs₁) (secondMap g₂ (ds₁ ds))) (thin f1 f2 n1 n2 kept₁)))
-          (rows-twice (classMap h₁ cs) (secondMap g₁ ds) (classMap h₂ cs₁) (secondMap g₂ (ds₁ ds)) (classMap h cs) (secondMap g ds) first-twice (second-twice ds) 0 rows)
-          (again-alike f1 f2 n1 n2 (classMap h₂ cs₁) (secondMap g₂ (ds₁ ds)) kept₁ (thin f1 f2 n1 n2 kept₁) (thinned-sets kept₁ f1 f2)))
+          (sym (counted_rows (class_map h₂ cs₁) (second_map g₂ (ds₁ ds)) 0 (thin f1 f2 n1 n2 kept₁) (counted_thin f1 f2 n1 n2 0 kept₁ counted)))
+          (subst (λ (ks : List (ℕ × List Pair)). KeptAlike f1 f2 n1 n2 ks (map_some (row_again (class_map h₂ cs₁) (second_map g₂ (ds₁ ds))) (thin f1 f2 n1 n2 kept₁)))
+          (rows_twice (class_map h₁ cs) (second_map g₁ ds) (class_map h₂ cs₁) (second_map g₂ (ds₁ ds)) (class_map h cs) (second_map g ds) first_twice (second_twice ds) 0 rows)
+          (again_alike f1 f2 n1 n2 (class_map h₂ cs₁) (second_map g₂ (ds₁ ds)) kept₁ (thin f1 f2 n1 n2 kept₁) (thinned_sets kept₁ f1 f2)))
 
       -- the whole table
       whole_twice : whole g₂ h₂ cs₁ (ds₁ ds) n1 n2 (rows_of (thin f1 f2 n1 n2 kept₁)) ≡ whole g h cs ds f1 f2 rows
       whole_twice =
           rw (
-            sym (along-values (find h₁) h h₂ go-along),
-            firsts-twice,
-            seconds-twice ds,
-            second-count ds,
-            first-format f1 f2 n1 n2 kept kept₂ rows_alike,
-            second-format f1 f2 n1 n2 kept kept₂ rows_alike (second-zero f2 kept₁),
-            thin-kept f1 f2 n1 n2 (newFormat (λ p. p.first-values) f1 kept) (newSecond f2 kept) kept kept₂ rows_alike,
+            sym (along_values (find h₁) h h₂ go_along),
+            firsts_twice,
+            seconds_twice ds,
+            second_count ds,
+            first_format f1 f2 n1 n2 kept kept₂ rows_alike,
+            second_format f1 f2 n1 n2 kept kept₂ rows_alike (second_zero f2 kept₁),
+            thin_kept f1 f2 n1 n2 (new_format (λ p. p.first_values) f1 kept) (new_second f2 kept) kept kept₂ rows_alike,
           )
 
-      pub class-pairs-twice : (l₂ : List (ℕ × ℕ)) → bind (keptClassPairs g₁ h₁ cs ds f1 f2 rows) (cut g₂ l₂) ≡ keptClassPairs g h cs ds f1 f2 rows
-      class-pairs-twice l₂ =
+      pub class_pairs_twice : (l₂ : List (ℕ × ℕ)) → bind (kept_class_pairs g₁ h₁ cs ds f1 f2 rows) (cut g₂ l₂) ≡ kept_class_pairs g h cs ds f1 f2 rows
+      class_pairs_twice l₂ =
           ap (λ (o : Option Table). bind o (cut g₂ l₂)) (kept_whole g₁ h₁ cs ds f1 f2 rows)
-          ∙ any_twice (find h₁) h₁ h₂ h (whole g₁ h₁ cs ds f1 f2 rows) (whole g h cs ds f1 f2 rows) (cut g₂ l₂) (λ q. rw q (none-covered g₂)) go-along
-          (cut-whole g₂ l₂ (values h₁) cs₁ (ds₁ ds) n1 n2 (length (secondMap g₁ ds)) (rows_of (thin f1 f2 n1 n2 kept₁)) ∙ ap (λ (t : Table). ifAny h₂ (some t)) whole_twice)
+          ∙ any_twice (find h₁) h₁ h₂ h (whole g₁ h₁ cs ds f1 f2 rows) (whole g h cs ds f1 f2 rows) (cut g₂ l₂) (λ q. rw q (none_covered g₂)) go_along
+          (cut_whole g₂ l₂ (values h₁) cs₁ (ds₁ ds) n1 n2 (length (second_map g₁ ds)) (rows_of (thin f1 f2 n1 n2 kept₁)) ∙ ap (λ (t : Table). if_any h₂ (some t)) whole_twice)
           ∙ sym (kept_whole g h cs ds f1 f2 rows)

@@ -8,17 +8,17 @@ use Rattle.std.proofs.Math.Option
 use Rattle.std.proofs.Math.Option.{Option, none, some, some-injective, none-ne-some}
 use mathlib.Core.List.{List, [], ◌∷◌}
 use Rattle.std.proofs.Math.Decide.{dec_lt}
-use Rattle.meaning.specs.Words.{member, keys, values, find, is_some, bind, push, mapSome}
+use Rattle.meaning.specs.Words.{member, keys, values, find, is_some, bind, push, map_some}
 use Rattle.meaning.specs.Parts.{class_of, listed}
 use Rattle.meaning.specs.Tables.{Rule}
-use Rattle.meaning.specs.Cut.{insertUp, heldBy, numbered, classMap, classMap?, classesUnder, newClasses, newClasses?, newCoverage, retained, slots, keepSlot, trim}
+use Rattle.meaning.specs.Cut.{insert_up, held_by, numbered, class_map, class_map?, classes_under, new_classes, new_classes?, new_coverage, retained, slots, keep_slot, trim}
 use Rattle.laws.specs.Stands.{All}
 use Rattle.laws.specs.Runs.{Up}
 use Rattle.laws.specs.CutCells.{held_up}
-use Rattle.promises.specs.Covers.{keys-same}
-use Rattle.promises.specs.Classes.{numbered-member, insert-member, held-member, slot_at, trim_same}
+use Rattle.promises.specs.Covers.{keys_same}
+use Rattle.promises.specs.Classes.{numbered_member, insert_member, held_member, slot_at, trim_same}
 use Rattle.twice.specs.Answers.{Then}
-use Rattle.twice.specs.Maps.{Moved, Along, along-keys, Injective}
+use Rattle.twice.specs.Maps.{Moved, Along, along_keys, Injective}
 
 -- A renumbering that keeps the order.
 abbrev pub Order : (ℕ → Option ℕ) → Type 0
@@ -37,19 +37,19 @@ order κ h a b a' b' p q = go (dec_lt a b) (dec_lt b a)
         (le-ltb a b (omega arith) ∙ sym (le-ltb a' b' (omega arith)), eq-eqb a b s ∙ sym (eq-eqb a' b' t))
 
 -- ranks: none is below the first, and none is of a class below the first
-rank-low : (k : ℕ) (hs : List ℕ) (c n : ℕ) → find (numbered k hs) c ≡ some n → k ≤ n
+rank_low : (k : ℕ) (hs : List ℕ) (c n : ℕ) → find (numbered k hs) c ≡ some n → k ≤ n
 unfolding find numbered
-rank-low k [] c n e = absurd (none-ne-some n e)
-rank-low k (h ∷ hs) c n e = go (eqb h c) (rank-low (k + 1) hs c n) e
+rank_low k [] c n e = absurd (none-ne-some n e)
+rank_low k (h ∷ hs) c n e = go (eqb h c) (rank_low (k + 1) hs c n) e
   where
     go : (t : Bool) → (find (numbered (k + 1) hs) c ≡ some n → k + 1 ≤ n) → cond t (some k) (find (numbered (k + 1) hs) c) ≡ some n → k ≤ n
     go true i q = omega (arith, some-injective k n q)
     go false i q = omega (arith, i q)
 
-rank-high : (k low : ℕ) (hs : List ℕ) (c n : ℕ) → Up low hs → find (numbered k hs) c ≡ some n → low ≤ c
+rank_high : (k low : ℕ) (hs : List ℕ) (c n : ℕ) → Up low hs → find (numbered k hs) c ≡ some n → low ≤ c
 unfolding find numbered
-rank-high k low [] c n u e = absurd (none-ne-some n e)
-rank-high k low (h ∷ hs) c n u e = go (eqb h c) refl (rank-high (k + 1) (h + 1) hs c n u.1) e
+rank_high k low [] c n u e = absurd (none-ne-some n e)
+rank_high k low (h ∷ hs) c n u e = go (eqb h c) refl (rank_high (k + 1) (h + 1) hs c n u.1) e
   where
     go : (t : Bool) → eqb h c ≡ t → (find (numbered (k + 1) hs) c ≡ some n → h + 1 ≤ c) → cond t (some k) (find (numbered (k + 1) hs) c) ≡ some n → low ≤ c
     go true s i q = omega (arith, eqb-true h c s)
@@ -63,48 +63,48 @@ rank_rises k low (h ∷ hs) u a b a' b' l p q = go (eqb h a) (eqb h b) refl refl
     go : (s t : Bool) → eqb h a ≡ s → eqb h b ≡ t → (find (numbered (k + 1) hs) a ≡ some a' → find (numbered (k + 1) hs) b ≡ some b' → a' < b')
         → cond s (some k) (find (numbered (k + 1) hs) a) ≡ some a' → cond t (some k) (find (numbered (k + 1) hs) b) ≡ some b' → a' < b'
     go true true x y i p q = absurd (omega (arith, eqb-true h a x, eqb-true h b y))
-    go true false x y i p q = omega (arith, some-injective k a' p, rank-low (k + 1) hs b b' q)
-    go false true x y i p q = absurd (omega (arith, eqb-true h b y, rank-high (k + 1) (h + 1) hs a a' u.1 p))
+    go true false x y i p q = omega (arith, some-injective k a' p, rank_low (k + 1) hs b b' q)
+    go false true x y i p q = absurd (omega (arith, eqb-true h b y, rank_high (k + 1) (h + 1) hs a a' u.1 p))
     go false false x y i p q = i p q
 
-pub rank-order : (hs : List ℕ) → Up 0 hs → Order (find (numbered 0 hs))
-rank-order hs u = order (find (numbered 0 hs)) (rank_rises 0 0 hs u)
+pub rank_order : (hs : List ℕ) → Up 0 hs → Order (find (numbered 0 hs))
+rank_order hs u = order (find (numbered 0 hs)) (rank_rises 0 0 hs u)
 
 -- what is done to classes goes along with a renumbering of them that keeps the order
 module _ (κ : ℕ → Option ℕ) (o : Order κ) where
-  pub insert-moved : (c c' : ℕ) → κ c ≡ some c' → (l l' : List ℕ) → Moved κ l l' → Moved κ (insertUp c l) (insertUp c' l')
-  unfolding insertUp
-  insert-moved c c' e [] [] m = (e, tt)
-  insert-moved c c' e [] (d' ∷ l') m = absurd m
-  insert-moved c c' e (d ∷ l) [] m = absurd m
-  insert-moved c c' e (d ∷ l) (d' ∷ l') m =
+  pub insert_moved : (c c' : ℕ) → κ c ≡ some c' → (l l' : List ℕ) → Moved κ l l' → Moved κ (insert_up c l) (insert_up c' l')
+  unfolding insert_up
+  insert_moved c c' e [] [] m = (e, tt)
+  insert_moved c c' e [] (d' ∷ l') m = absurd m
+  insert_moved c c' e (d ∷ l) [] m = absurd m
+  insert_moved c c' e (d ∷ l) (d' ∷ l') m =
       let s = o c d c' d' e m.0 in
-      rw (s.0, s.1) (go (ltb c' d') (eqb c' d') (insert-moved c c' e l l' m.1))
+      rw (s.0, s.1) (go (ltb c' d') (eqb c' d') (insert_moved c c' e l l' m.1))
     where
-      go : (s t : Bool) → Moved κ (insertUp c l) (insertUp c' l')
-          → Moved κ (cond s (c ∷ d ∷ l) (cond t (d ∷ l) (d ∷ insertUp c l))) (cond s (c' ∷ d' ∷ l') (cond t (d' ∷ l') (d' ∷ insertUp c' l')))
+      go : (s t : Bool) → Moved κ (insert_up c l) (insert_up c' l')
+          → Moved κ (cond s (c ∷ d ∷ l) (cond t (d ∷ l) (d ∷ insert_up c l))) (cond s (c' ∷ d' ∷ l') (cond t (d' ∷ l') (d' ∷ insert_up c' l')))
       go true t i = (e, m)
       go false true i = m
       go false false i = (m.0, i)
 
-  pub member-moved : (c c' : ℕ) → κ c ≡ some c' → (l l' : List ℕ) → Moved κ l l' → member c' l' ≡ member c l
+  pub member_moved : (c c' : ℕ) → κ c ≡ some c' → (l l' : List ℕ) → Moved κ l l' → member c' l' ≡ member c l
   unfolding member
-  member-moved c c' e [] [] m = refl
-  member-moved c c' e [] (d' ∷ l') m = absurd m
-  member-moved c c' e (d ∷ l) [] m = absurd m
-  member-moved c c' e (d ∷ l) (d' ∷ l') m = ap₂ ◌||◌ (sym (o d c d' c' m.0 e).1) (member-moved c c' e l l' m.1)
+  member_moved c c' e [] [] m = refl
+  member_moved c c' e [] (d' ∷ l') m = absurd m
+  member_moved c c' e (d ∷ l) [] m = absurd m
+  member_moved c c' e (d ∷ l) (d' ∷ l') m = ap₂ ◌||◌ (sym (o d c d' c' m.0 e).1) (member_moved c c' e l l' m.1)
 
   -- the rank of a class is that of its new number
-  pub numbered-moved : (k : ℕ) (l l' : List ℕ) → Moved κ l l' → Then κ (find (numbered k l')) (find (numbered k l))
+  pub numbered_moved : (k : ℕ) (l l' : List ℕ) → Moved κ l l' → Then κ (find (numbered k l')) (find (numbered k l))
   unfolding find numbered bind
-  numbered-moved k [] [] m c = go (κ c)
+  numbered_moved k [] [] m c = go (κ c)
     where
       go : (o : Option ℕ) → bind {B = ℕ} o (λ c. none) ≡ none
       go none = refl
       go (some c) = refl
-  numbered-moved k [] (d' ∷ l') m c = absurd m
-  numbered-moved k (d ∷ l) [] m c = absurd m
-  numbered-moved k (d ∷ l) (d' ∷ l') m c = go (κ c) refl (numbered-moved (k + 1) l l' m.1 c)
+  numbered_moved k [] (d' ∷ l') m c = absurd m
+  numbered_moved k (d ∷ l) [] m c = absurd m
+  numbered_moved k (d ∷ l) (d' ∷ l') m c = go (κ c) refl (numbered_moved (k + 1) l l' m.1 c)
     where
       go : (p : Option ℕ) → κ c ≡ p → bind p (find (numbered (k + 1) l')) ≡ find (numbered (k + 1) l) c
           → bind p (find (numbered k (d' ∷ l'))) ≡ cond (eqb d c) (some k) (find (numbered (k + 1) l) c)
@@ -112,33 +112,33 @@ module _ (κ : ℕ → Option ℕ) (o : Order κ) where
       go (some c') q i = rw (o d c d' c' m.0 q).1 (ap (cond (eqb d' c') (some k)) i)
 
   module _ (ρ : ℕ → Option ℕ) (cs cs' : List (ℕ × ℕ)) (follow : (x y : ℕ) → ρ x ≡ some y → κ (class_of cs x) ≡ some (class_of cs' y)) where
-    pub held_moved : (xs ys : List ℕ) → Moved ρ xs ys → Moved κ (heldBy cs xs) (heldBy cs' ys)
-    unfolding heldBy
+    pub held_moved : (xs ys : List ℕ) → Moved ρ xs ys → Moved κ (held_by cs xs) (held_by cs' ys)
+    unfolding held_by
     held_moved [] [] m = tt
     held_moved [] (y ∷ ys) m = absurd m
     held_moved (x ∷ xs) [] m = absurd m
-    held_moved (x ∷ xs) (y ∷ ys) m = insert-moved (class_of cs x) (class_of cs' y) (follow x y m.0) (heldBy cs xs) (heldBy cs' ys) (held_moved xs ys m.1)
+    held_moved (x ∷ xs) (y ∷ ys) m = insert_moved (class_of cs x) (class_of cs' y) (follow x y m.0) (held_by cs xs) (held_by cs' ys) (held_moved xs ys m.1)
 
 -- without sets no slot is kept
-pub no-slots : (f : List Rule → Option (List Rule)) (held hs : List ℕ) → trim (slots f held [] hs) ≡ []
-unfolding trim keepSlot slots bind
-no-slots f held [] = refl
-no-slots f held (h ∷ hs) = go (member h held) (no-slots f held hs)
+pub no_slots : (f : List Rule → Option (List Rule)) (held hs : List ℕ) → trim (slots f held [] hs) ≡ []
+unfolding trim keep_slot slots bind
+no_slots f held [] = refl
+no_slots f held (h ∷ hs) = go (member h held) (no_slots f held hs)
   where
-    go : (t : Bool) → trim (slots f held [] hs) ≡ [] → keepSlot (cond t none none) (trim (slots f held [] hs)) ≡ []
+    go : (t : Bool) → trim (slots f held [] hs) ≡ [] → keep_slot (cond t none none) (trim (slots f held [] hs)) ≡ []
     go true i = rw i
     go false i = rw i
 
 -- slots of classes and of their new numbers
-slots-moved : (κ : ℕ → Option ℕ) (f f' : List Rule → Option (List Rule)) (held held' : List ℕ) (sets sets' : List (Option (List Rule)))
+slots_moved : (κ : ℕ → Option ℕ) (f f' : List Rule → Option (List Rule)) (held held' : List ℕ) (sets sets' : List (Option (List Rule)))
     → ((c c' : ℕ) → κ c ≡ some c' → cond (member c' held') (bind (get_or sets' c' none) f') none ≡ cond (member c held) (bind (get_or sets c none) f) none)
     → (l l' : List ℕ) → Moved κ l l' → slots f' held' sets' l' ≡ slots f held sets l
 unfolding slots
-slots-moved κ f f' held held' sets sets' h [] [] m = refl
-slots-moved κ f f' held held' sets sets' h [] (c' ∷ l') m = absurd m
-slots-moved κ f f' held held' sets sets' h (c ∷ l) [] m = absurd m
-slots-moved κ f f' held held' sets sets' h (c ∷ l) (c' ∷ l') m =
-    ap₂ (λ (o : Option (List Rule)) (os : List (Option (List Rule))). o ∷ os) (h c c' m.0) (slots-moved κ f f' held held' sets sets' h l l' m.1)
+slots_moved κ f f' held held' sets sets' h [] [] m = refl
+slots_moved κ f f' held held' sets sets' h [] (c' ∷ l') m = absurd m
+slots_moved κ f f' held held' sets sets' h (c ∷ l) [] m = absurd m
+slots_moved κ f f' held held' sets sets' h (c ∷ l) (c' ∷ l') m =
+    ap₂ (λ (o : Option (List Rule)) (os : List (Option (List Rule))). o ∷ os) (h c c' m.0) (slots_moved κ f f' held held' sets sets' h l l' m.1)
 
 -- The new class table under a map of classes: the new number of a glyph holds what the map says of the glyph's class.
 
@@ -147,13 +147,13 @@ abbrev shown : Option ℕ → Option ℕ
 shown o = bind o (λ n. cond (eqb n 0) none (some n))
 
 under_at : (k : ℕ → Option ℕ) (x y : ℕ) (h : List (ℕ × ℕ)) → All (λ e. e.1 ≡ y → e.0 ≡ x) h
-    → find (mapSome (λ (e : ℕ × ℕ). bind (k e.0) (λ n. cond (eqb n 0) none (some (e.1, n)))) h) y ≡ cond (member y (values h)) (shown (k x)) none
-unfolding find mapSome push bind member values
+    → find (map_some (λ (e : ℕ × ℕ). bind (k e.0) (λ n. cond (eqb n 0) none (some (e.1, n)))) h) y ≡ cond (member y (values h)) (shown (k x)) none
+unfolding find map_some push bind member values
 under_at k x y [] i = refl
 under_at k x y (p ∷ h) i = go (eqb p.1 y) refl (k p.0) refl (under_at k x y h i.1)
   where
     rest : List (ℕ × ℕ)
-    rest = mapSome (λ (e : ℕ × ℕ). bind (k e.0) (λ n. cond (eqb n 0) none (some (e.1, n)))) h
+    rest = map_some (λ (e : ℕ × ℕ). bind (k e.0) (λ n. cond (eqb n 0) none (some (e.1, n)))) h
 
     same : (b : Bool) → cond {A = Option ℕ} b none none ≡ none
     same true = refl
@@ -180,10 +180,10 @@ under_at k x y (p ∷ h) i = go (eqb p.1 y) refl (k p.0) refl (under_at k x y h 
     go false q (some n) e r = miss n (eqb n 0) q ∙ r
 
 -- class 0, if it is there, has rank 0
-pub zero-first : (hs : List ℕ) → Up 0 hs → member 0 hs ≡ true → find (numbered 0 hs) 0 ≡ some 0
+pub zero_first : (hs : List ℕ) → Up 0 hs → member 0 hs ≡ true → find (numbered 0 hs) 0 ≡ some 0
 unfolding find numbered member
-zero-first [] u m = absurd (true≢false (sym m))
-zero-first (h ∷ hs) u m = go (eqb h 0) refl m
+zero_first [] u m = absurd (true≢false (sym m))
+zero_first (h ∷ hs) u m = go (eqb h 0) refl m
   where
     higher : (low : ℕ) (l : List ℕ) → 0 < low → Up low l → member 0 l ≡ false
     higher low [] p v = refl
@@ -194,26 +194,26 @@ zero-first (h ∷ hs) u m = go (eqb h 0) refl m
     go false q r = absurd (true≢false (sym r ∙ higher (h + 1) hs (omega arith) u.1))
 
 -- what is found is in the second column
-found-value : (h : List (ℕ × ℕ)) (x y : ℕ) → find h x ≡ some y → member y (values h) ≡ true
+found_value : (h : List (ℕ × ℕ)) (x y : ℕ) → find h x ≡ some y → member y (values h) ≡ true
 unfolding find values member
-found-value [] x y e = absurd (none-ne-some y e)
-found-value (p ∷ h) x y e = go (eqb p.0 x) (found-value h x y) e
+found_value [] x y e = absurd (none-ne-some y e)
+found_value (p ∷ h) x y e = go (eqb p.0 x) (found_value h x y) e
   where
     go : (b : Bool) → (find h x ≡ some y → member y (values h) ≡ true) → cond b (some p.1) (find h x) ≡ some y → eqb p.1 y || member y (values h) ≡ true
     go true k q = rw (eq-eqb p.1 y (some-injective p.1 y q))
     go false k q = rw (k q) (or-true (eqb p.1 y))
 
 -- the class of a held glyph
-pub held-class : (cs h : List (ℕ × ℕ)) (x y : ℕ) → find h x ≡ some y → member (class_of cs x) (heldBy cs (keys h)) ≡ true
+pub held_class : (cs h : List (ℕ × ℕ)) (x y : ℕ) → find h x ≡ some y → member (class_of cs x) (held_by cs (keys h)) ≡ true
 unfolding is_some
-held-class cs h x y q = held-member cs (keys h) x (keys-same h x ∙ ap is_some q)
+held_class cs h x y q = held_member cs (keys h) x (keys_same h x ∙ ap is_some q)
 
 -- h is a part of a map ρ that takes no two numbers to one: a glyph's new number holds the rank of the glyph's class
-pub follow-under : (ρ : ℕ → Option ℕ) → Injective ρ → (h : List (ℕ × ℕ)) → All (λ e. ρ e.0 ≡ some e.1) h → (hs : List ℕ) (cs : List (ℕ × ℕ)) (x y : ℕ) → ρ x ≡ some y → find h x ≡ some y
-    → member (class_of cs x) hs ≡ true → find (numbered 0 hs) (class_of cs x) ≡ some (class_of (classesUnder (numbered 0 hs) h cs) y)
+pub follow_under : (ρ : ℕ → Option ℕ) → Injective ρ → (h : List (ℕ × ℕ)) → All (λ e. ρ e.0 ≡ some e.1) h → (hs : List ℕ) (cs : List (ℕ × ℕ)) (x y : ℕ) → ρ x ≡ some y → find h x ≡ some y
+    → member (class_of cs x) hs ≡ true → find (numbered 0 hs) (class_of cs x) ≡ some (class_of (classes_under (numbered 0 hs) h cs) y)
 unfolding class_of is_some bind
-follow-under ρ i h s hs cs x y q f m =
-    rw (under_at (λ x. find (numbered 0 hs) (class_of cs x)) x y h (only h s), found-value h x y f) (go (find (numbered 0 hs) (class_of cs x)) (numbered-member 0 hs (class_of cs x) ∙ m))
+follow_under ρ i h s hs cs x y q f m =
+    rw (under_at (λ x. find (numbered 0 hs) (class_of cs x)) x y h (only h s), found_value h x y f) (go (find (numbered 0 hs) (class_of cs x)) (numbered_member 0 hs (class_of cs x) ∙ m))
   where
     only : (h : List (ℕ × ℕ)) → All (λ e. ρ e.0 ≡ some e.1) h → All (λ e. e.1 ≡ y → e.0 ≡ x) h
     only [] s = tt
@@ -230,8 +230,8 @@ follow-under ρ i h s hs cs x y q f m =
 -- Class tables under two maps of classes, one after the other. h and h₂ are glyph maps that go along by ρ; each glyph's new number holds its class's new number.
 module _ (ρ : ℕ → Option ℕ) (h h₂ : List (ℕ × ℕ)) (a : Along ρ h h₂) (cs cs₁ m₁ m₂ m : List (ℕ × ℕ)) (t : Then (find m₁) (find m₂) (find m))
     (follow : (x y : ℕ) → ρ x ≡ some y → find m₁ (class_of cs x) ≡ some (class_of cs₁ y)) where
-  pub under_twice : classesUnder m₂ h₂ cs₁ ≡ classesUnder m h cs
-  unfolding mapSome bind
+  pub under_twice : classes_under m₂ h₂ cs₁ ≡ classes_under m h cs
+  unfolding map_some bind
   under_twice = go h h₂ a
     where
       entry : List (ℕ × ℕ) → List (ℕ × ℕ) → ℕ × ℕ → Option (ℕ × ℕ)
@@ -240,7 +240,7 @@ module _ (ρ : ℕ → Option ℕ) (h h₂ : List (ℕ × ℕ)) (a : Along ρ h 
       same : (x y : ℕ) → ρ x ≡ some y → find m₂ (class_of cs₁ y) ≡ find m (class_of cs x)
       same x y r = rw (follow x y r) at (t (class_of cs x))
 
-      go : (p q : List (ℕ × ℕ)) → Along ρ p q → mapSome (entry m₂ cs₁) q ≡ mapSome (entry m cs) p
+      go : (p q : List (ℕ × ℕ)) → Along ρ p q → map_some (entry m₂ cs₁) q ≡ map_some (entry m cs) p
       go [] [] k = refl
       go [] (e ∷ q) k = absurd k
       go (d ∷ p) [] k = absurd k
@@ -249,84 +249,84 @@ module _ (ρ : ℕ → Option ℕ) (h h₂ : List (ℕ × ℕ)) (a : Along ρ h 
 -- A context's classes. The second glyph map's old ids are new ids of the first.
 module _ (g₁ g₂ g : List (ℕ × ℕ)) (found : All (λ e. find g₁ e.0 ≡ some e.1) g₁) (one : Injective (find g₁)) (e : Then (find g₁) (find g₂) (find g)) (a : Along (find g₁) g g₂) where
   -- the retained glyphs of a coverage
-  retained-moved : (cov : List ℕ) → Moved (find g₁) (retained g cov) (retained g₂ (newCoverage g₁ cov))
-  unfolding retained newCoverage mapSome push is_some bind
-  retained-moved [] = tt
-  retained-moved (c ∷ cov) = go (find g₁ c) refl (find g c) (e c) (retained-moved cov)
+  retained_moved : (cov : List ℕ) → Moved (find g₁) (retained g cov) (retained g₂ (new_coverage g₁ cov))
+  unfolding retained new_coverage map_some push is_some bind
+  retained_moved [] = tt
+  retained_moved (c ∷ cov) = go (find g₁ c) refl (find g c) (e c) (retained_moved cov)
     where
-      go : (o : Option ℕ) → find g₁ c ≡ o → (p : Option ℕ) → bind o (find g₂) ≡ p → Moved (find g₁) (retained g cov) (retained g₂ (newCoverage g₁ cov))
-          → Moved (find g₁) (push (cond (is_some p) (some c) none) (retained g cov)) (retained g₂ (push o (newCoverage g₁ cov)))
+      go : (o : Option ℕ) → find g₁ c ≡ o → (p : Option ℕ) → bind o (find g₂) ≡ p → Moved (find g₁) (retained g cov) (retained g₂ (new_coverage g₁ cov))
+          → Moved (find g₁) (push (cond (is_some p) (some c) none) (retained g cov)) (retained g₂ (push o (new_coverage g₁ cov)))
       go none q none r i = i
       go none q (some n) r i = absurd (none-ne-some n r)
       go (some d) q none r i = rw r i
       go (some d) q (some n) r i = rw r (q, i)
 
   -- what both maps retain the first one does
-  retained-first : (cs : List (ℕ × ℕ)) (cov : List ℕ) (c : ℕ) → member c (heldBy cs (retained g cov)) ≡ true → member c (heldBy cs (retained g₁ cov)) ≡ true
-  unfolding retained mapSome push is_some bind heldBy member
-  retained-first cs [] c h = h
-  retained-first cs (x ∷ cov) c h = go (find g₁ x) (find g x) (e x) (retained-first cs cov c) h
+  retained_first : (cs : List (ℕ × ℕ)) (cov : List ℕ) (c : ℕ) → member c (held_by cs (retained g cov)) ≡ true → member c (held_by cs (retained g₁ cov)) ≡ true
+  unfolding retained map_some push is_some bind held_by member
+  retained_first cs [] c h = h
+  retained_first cs (x ∷ cov) c h = go (find g₁ x) (find g x) (e x) (retained_first cs cov c) h
     where
-      more : (d : ℕ) (hs : List ℕ) → member c hs ≡ true → member c (insertUp d hs) ≡ true
-      more d hs q = insert-member c d hs ∙ rw q (or-true (eqb d c))
+      more : (d : ℕ) (hs : List ℕ) → member c hs ≡ true → member c (insert_up d hs) ≡ true
+      more d hs q = insert_member c d hs ∙ rw q (or-true (eqb d c))
 
-      both : (d : ℕ) (hs ks : List ℕ) → (member c hs ≡ true → member c ks ≡ true) → member c (insertUp d hs) ≡ true → member c (insertUp d ks) ≡ true
-      both d hs ks i q = insert-member c d ks ∙ step (eqb d c) (sym (insert-member c d hs) ∙ q)
+      both : (d : ℕ) (hs ks : List ℕ) → (member c hs ≡ true → member c ks ≡ true) → member c (insert_up d hs) ≡ true → member c (insert_up d ks) ≡ true
+      both d hs ks i q = insert_member c d ks ∙ step (eqb d c) (sym (insert_member c d hs) ∙ q)
         where
           step : (t : Bool) → t || member c hs ≡ true → t || member c ks ≡ true
           step true r = refl
           step false r = i r
 
-      go : (o p : Option ℕ) → bind o (find g₂) ≡ p → (member c (heldBy cs (retained g cov)) ≡ true → member c (heldBy cs (retained g₁ cov)) ≡ true)
-          → member c (heldBy cs (push (cond (is_some p) (some x) none) (retained g cov))) ≡ true → member c (heldBy cs (push (cond (is_some o) (some x) none) (retained g₁ cov))) ≡ true
+      go : (o p : Option ℕ) → bind o (find g₂) ≡ p → (member c (held_by cs (retained g cov)) ≡ true → member c (held_by cs (retained g₁ cov)) ≡ true)
+          → member c (held_by cs (push (cond (is_some p) (some x) none) (retained g cov))) ≡ true → member c (held_by cs (push (cond (is_some o) (some x) none) (retained g₁ cov))) ≡ true
       go none none r i q = i q
       go none (some n) r i q = absurd (none-ne-some n r)
-      go (some d) none r i q = more (class_of cs x) (heldBy cs (retained g₁ cov)) (i q)
-      go (some d) (some n) r i q = both (class_of cs x) (heldBy cs (retained g cov)) (heldBy cs (retained g₁ cov)) i q
+      go (some d) none r i q = more (class_of cs x) (held_by cs (retained g₁ cov)) (i q)
+      go (some d) (some n) r i q = both (class_of cs x) (held_by cs (retained g cov)) (held_by cs (retained g₁ cov)) i q
 
   -- classes that go along with glyphs: cs₁ says of new numbers the ranks of what cs says
-  module _ (cs cs₁ : List (ℕ × ℕ)) (follow : (x y : ℕ) → find g₁ x ≡ some y → find (classMap g₁ cs) (class_of cs x) ≡ some (class_of cs₁ y)) where
-    keeps : Order (find (classMap g₁ cs))
-    unfolding classMap
-    keeps = rank-order (heldBy cs (keys g₁)) (held_up cs (keys g₁))
+  module _ (cs cs₁ : List (ℕ × ℕ)) (follow : (x y : ℕ) → find g₁ x ≡ some y → find (class_map g₁ cs) (class_of cs x) ≡ some (class_of cs₁ y)) where
+    keeps : Order (find (class_map g₁ cs))
+    unfolding class_map
+    keeps = rank_order (held_by cs (keys g₁)) (held_up cs (keys g₁))
 
-    held : Moved (find (classMap g₁ cs)) (heldBy cs (keys g)) (heldBy cs₁ (keys g₂))
-    held = held_moved (find (classMap g₁ cs)) keeps (find g₁) cs cs₁ follow (keys g) (keys g₂) (along-keys (find g₁) g g₂ a)
+    held : Moved (find (class_map g₁ cs)) (held_by cs (keys g)) (held_by cs₁ (keys g₂))
+    held = held_moved (find (class_map g₁ cs)) keeps (find g₁) cs cs₁ follow (keys g) (keys g₂) (along_keys (find g₁) g g₂ a)
 
     -- the class maps
-    map-twice : Then (find (classMap g₁ cs)) (find (classMap g₂ cs₁)) (find (classMap g cs))
-    unfolding classMap
-    map-twice = numbered-moved (find (classMap g₁ cs)) keeps 0 (heldBy cs (keys g)) (heldBy cs₁ (keys g₂)) held
+    map_twice : Then (find (class_map g₁ cs)) (find (class_map g₂ cs₁)) (find (class_map g cs))
+    unfolding class_map
+    map_twice = numbered_moved (find (class_map g₁ cs)) keeps 0 (held_by cs (keys g)) (held_by cs₁ (keys g₂)) held
 
   -- a class table and its new one
   module _ (cs : List (ℕ × ℕ)) where
-    follow : (x y : ℕ) → find g₁ x ≡ some y → find (classMap g₁ cs) (class_of cs x) ≡ some (class_of (newClasses g₁ cs) y)
-    unfolding newClasses classMap
-    follow x y q = follow-under (find g₁) one g₁ found (heldBy cs (keys g₁)) cs x y q q (held-class cs g₁ x y q)
+    follow : (x y : ℕ) → find g₁ x ≡ some y → find (class_map g₁ cs) (class_of cs x) ≡ some (class_of (new_classes g₁ cs) y)
+    unfolding new_classes class_map
+    follow x y q = follow_under (find g₁) one g₁ found (held_by cs (keys g₁)) cs x y q q (held_class cs g₁ x y q)
 
-    pub class-map-twice : Then (find (classMap g₁ cs)) (find (classMap g₂ (newClasses g₁ cs))) (find (classMap g cs))
-    class-map-twice = map-twice cs (newClasses g₁ cs) follow
+    pub class_map_twice : Then (find (class_map g₁ cs)) (find (class_map g₂ (new_classes g₁ cs))) (find (class_map g cs))
+    class_map_twice = map_twice cs (new_classes g₁ cs) follow
 
-    pub classes-twice : newClasses g₂ (newClasses g₁ cs) ≡ newClasses g cs
-    unfolding newClasses
-    classes-twice = under_twice (find g₁) g g₂ a cs (newClasses g₁ cs) (classMap g₁ cs) (classMap g₂ (newClasses g₁ cs)) (classMap g cs) class-map-twice follow
+    pub classes_twice : new_classes g₂ (new_classes g₁ cs) ≡ new_classes g cs
+    unfolding new_classes
+    classes_twice = under_twice (find g₁) g g₂ a cs (new_classes g₁ cs) (class_map g₁ cs) (class_map g₂ (new_classes g₁ cs)) (class_map g cs) class_map_twice follow
 
     -- the slots: what is left of what the first cut left, nulls at its end or not
     pub slots_twice : (f₁ f₂ f : List Rule → Option (List Rule)) → Then f₁ f₂ f → (cov : List ℕ) (sets : List (Option (List Rule)))
-        → slots f₂ (heldBy (newClasses g₁ cs) (retained g₂ (newCoverage g₁ cov))) (trim (slots f₁ (heldBy cs (retained g₁ cov)) sets (heldBy cs (keys g₁)))) (heldBy (newClasses g₁ cs) (keys g₂))
-        ≡ slots f (heldBy cs (retained g cov)) sets (heldBy cs (keys g))
-    unfolding classMap bind
+        → slots f₂ (held_by (new_classes g₁ cs) (retained g₂ (new_coverage g₁ cov))) (trim (slots f₁ (held_by cs (retained g₁ cov)) sets (held_by cs (keys g₁)))) (held_by (new_classes g₁ cs) (keys g₂))
+        ≡ slots f (held_by cs (retained g cov)) sets (held_by cs (keys g))
+    unfolding class_map bind
     slots_twice f₁ f₂ f k cov sets =
-        slots-moved κ f f₂ (heldBy cs (retained g cov)) (heldBy cs₁ (retained g₂ (newCoverage g₁ cov))) sets left one-slot (heldBy cs (keys g)) (heldBy cs₁ (keys g₂)) (held cs cs₁ follow)
+        slots_moved κ f f₂ (held_by cs (retained g cov)) (held_by cs₁ (retained g₂ (new_coverage g₁ cov))) sets left one_slot (held_by cs (keys g)) (held_by cs₁ (keys g₂)) (held cs cs₁ follow)
       where
         cs₁ : List (ℕ × ℕ)
-        cs₁ = newClasses g₁ cs
+        cs₁ = new_classes g₁ cs
 
         κ : ℕ → Option ℕ
-        κ = find (classMap g₁ cs)
+        κ = find (class_map g₁ cs)
 
         left : List (Option (List Rule))
-        left = trim (slots f₁ (heldBy cs (retained g₁ cov)) sets (heldBy cs (keys g₁)))
+        left = trim (slots f₁ (held_by cs (retained g₁ cov)) sets (held_by cs (keys g₁)))
 
         go : (s t : Bool) (o : Option (List Rule)) → (t ≡ true → s ≡ true) → cond t (bind (cond s (bind o f₁) none) f₂) none ≡ cond t (bind o f) none
         go s false o h = refl
@@ -334,28 +334,28 @@ module _ (g₁ g₂ g : List (ℕ × ℕ)) (found : All (λ e. find g₁ e.0 ≡
         go true true (some x) h = k x
         go false true o h = absurd (true≢false (sym (h refl)))
 
-        one-slot : (c c' : ℕ) → κ c ≡ some c'
-            → cond (member c' (heldBy cs₁ (retained g₂ (newCoverage g₁ cov)))) (bind (get_or left c' none) f₂) none ≡ cond (member c (heldBy cs (retained g cov))) (bind (get_or sets c none) f) none
-        one-slot c c' q =
+        one_slot : (c c' : ℕ) → κ c ≡ some c'
+            → cond (member c' (held_by cs₁ (retained g₂ (new_coverage g₁ cov)))) (bind (get_or left c' none) f₂) none ≡ cond (member c (held_by cs (retained g cov))) (bind (get_or sets c none) f) none
+        one_slot c c' q =
             rw (
-              trim_same (slots f₁ (heldBy cs (retained g₁ cov)) sets (heldBy cs (keys g₁))) c',
-              slot_at f₁ (heldBy cs (retained g₁ cov)) sets (heldBy cs (keys g₁)) c c' q,
-              member-moved κ (keeps cs cs₁ follow) c c' q (heldBy cs (retained g cov)) (heldBy cs₁ (retained g₂ (newCoverage g₁ cov)))
-                  (held_moved κ (keeps cs cs₁ follow) (find g₁) cs cs₁ follow (retained g cov) (retained g₂ (newCoverage g₁ cov)) (retained-moved cov)),
+              trim_same (slots f₁ (held_by cs (retained g₁ cov)) sets (held_by cs (keys g₁))) c',
+              slot_at f₁ (held_by cs (retained g₁ cov)) sets (held_by cs (keys g₁)) c c' q,
+              member_moved κ (keeps cs cs₁ follow) c c' q (held_by cs (retained g cov)) (held_by cs₁ (retained g₂ (new_coverage g₁ cov)))
+                  (held_moved κ (keeps cs cs₁ follow) (find g₁) cs cs₁ follow (retained g cov) (retained g₂ (new_coverage g₁ cov)) (retained_moved cov)),
             )
-            (go (member c (heldBy cs (retained g₁ cov))) (member c (heldBy cs (retained g cov))) (get_or sets c none) (retained-first cs cov c))
+            (go (member c (held_by cs (retained g₁ cov))) (member c (held_by cs (retained g cov))) (get_or sets c none) (retained_first cs cov c))
 
   -- class tables that may be null: every glyph holds class 0 in a null one, before and after
-  null-follow : (x y : ℕ) → find g₁ x ≡ some y → find (classMap g₁ []) (class_of [] x) ≡ some (class_of [] y)
-  unfolding classMap class_of find
-  null-follow x y q = zero-first (heldBy [] (keys g₁)) (held_up [] (keys g₁)) (held-class [] g₁ x y q)
+  null_follow : (x y : ℕ) → find g₁ x ≡ some y → find (class_map g₁ []) (class_of [] x) ≡ some (class_of [] y)
+  unfolding class_map class_of find
+  null_follow x y q = zero_first (held_by [] (keys g₁)) (held_up [] (keys g₁)) (held_class [] g₁ x y q)
 
-  pub class-map-twice? : (b : Option (List (ℕ × ℕ))) → Then (find (classMap? g₁ b)) (find (classMap? g₂ (newClasses? g₁ b))) (find (classMap? g b))
-  unfolding classMap? newClasses? listed
-  class-map-twice? none = map-twice [] [] null-follow
-  class-map-twice? (some cs) = class-map-twice cs
+  pub class_map_twice? : (b : Option (List (ℕ × ℕ))) → Then (find (class_map? g₁ b)) (find (class_map? g₂ (new_classes? g₁ b))) (find (class_map? g b))
+  unfolding class_map? new_classes? listed
+  class_map_twice? none = map_twice [] [] null_follow
+  class_map_twice? (some cs) = class_map_twice cs
 
-  pub classes-twice? : (b : Option (List (ℕ × ℕ))) → newClasses? g₂ (newClasses? g₁ b) ≡ newClasses? g b
-  unfolding newClasses?
-  classes-twice? none = refl
-  classes-twice? (some cs) = ap {B = Option (List (ℕ × ℕ))} some (classes-twice cs)
+  pub classes_twice? : (b : Option (List (ℕ × ℕ))) → new_classes? g₂ (new_classes? g₁ b) ≡ new_classes? g b
+  unfolding new_classes?
+  classes_twice? none = refl
+  classes_twice? (some cs) = ap {B = Option (List (ℕ × ℕ))} some (classes_twice cs)

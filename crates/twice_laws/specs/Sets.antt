@@ -5,23 +5,23 @@ use Rattle.std.proofs.Common.{ap, ◌∙◌}
 use Rattle.std.proofs.Math.Option.{Option, none, some}
 use mathlib.Core.List.{List, [], ◌∷◌}
 use Rattle.meaning.specs.Words.{find, bind, push}
-use Rattle.meaning.specs.Cut.{keptSets, glyphsOf, setsOf}
+use Rattle.meaning.specs.Cut.{kept_sets, glyphs_of, sets_of}
 use Rattle.twice.specs.Answers.{Then}
 
 module _ {A : Type 0} (g₁ g₂ g : List (ℕ × ℕ)) (e : Then (find g₁) (find g₂) (find g)) (f₁ f₂ f : A → Option A) (k : Then f₁ f₂ f) where
-  pub kept-twice : (cov : List ℕ) (sets : List (Option A)) → let ks = keptSets f₁ g₁ cov sets in keptSets f₂ g₂ (glyphsOf ks) (setsOf ks) ≡ keptSets f g cov sets
-  unfolding keptSets glyphsOf setsOf bind push
-  kept-twice [] sets = refl
-  kept-twice (c ∷ cov) [] = refl
-  kept-twice (c ∷ cov) (s ∷ sets) = go (find g₁ c) s ∙ rw (e c) (ap (push (bind (find g c) (λ n. bind s (λ x. bind (f x) (λ y. some (n, y)))))) (kept-twice cov sets))
+  pub kept_twice : (cov : List ℕ) (sets : List (Option A)) → let ks = kept_sets f₁ g₁ cov sets in kept_sets f₂ g₂ (glyphs_of ks) (sets_of ks) ≡ kept_sets f g cov sets
+  unfolding kept_sets glyphs_of sets_of bind push
+  kept_twice [] sets = refl
+  kept_twice (c ∷ cov) [] = refl
+  kept_twice (c ∷ cov) (s ∷ sets) = go (find g₁ c) s ∙ rw (e c) (ap (push (bind (find g c) (λ n. bind s (λ x. bind (f x) (λ y. some (n, y)))))) (kept_twice cov sets))
     where
       ks : List (ℕ × A)
-      ks = keptSets f₁ g₁ cov sets
+      ks = kept_sets f₁ g₁ cov sets
 
       rest : List (ℕ × A)
-      rest = keptSets f₂ g₂ (glyphsOf ks) (setsOf ks)
+      rest = kept_sets f₂ g₂ (glyphs_of ks) (sets_of ks)
 
-      one : (n : ℕ) (o : Option A) → let j = push (bind o (λ y. some (n, y))) ks in keptSets f₂ g₂ (glyphsOf j) (setsOf j) ≡ push (bind (find g₂ n) (λ n. bind (bind o f₂) (λ y. some (n, y)))) rest
+      one : (n : ℕ) (o : Option A) → let j = push (bind o (λ y. some (n, y))) ks in kept_sets f₂ g₂ (glyphs_of j) (sets_of j) ≡ push (bind (find g₂ n) (λ n. bind (bind o f₂) (λ y. some (n, y)))) rest
       one n none = inner (find g₂ n)
         where
           inner : (o : Option ℕ) → rest ≡ push (bind {B = ℕ × A} o (λ n. none)) rest
@@ -30,7 +30,7 @@ module _ {A : Type 0} (g₁ g₂ g : List (ℕ × ℕ)) (e : Then (find g₁) (f
       one n (some y) = refl
 
       go : (o : Option ℕ) (s : Option A) → let j = push (bind o (λ n. bind s (λ x. bind (f₁ x) (λ y. some (n, y))))) ks in
-          keptSets f₂ g₂ (glyphsOf j) (setsOf j) ≡ push (bind (bind o (find g₂)) (λ n. bind s (λ x. bind (f x) (λ y. some (n, y))))) rest
+          kept_sets f₂ g₂ (glyphs_of j) (sets_of j) ≡ push (bind (bind o (find g₂)) (λ n. bind s (λ x. bind (f x) (λ y. some (n, y))))) rest
       go none s = refl
       go (some n) none = inner (find g₂ n)
         where

@@ -7,14 +7,14 @@ use native.Mathlib.Omega.{arith}
 use lib.Dec.{eqb}
 use borrow.Author.Tests.{eq-eqb, ne_eqb, eqb-true}
 use Rattle.meaning.specs.Words.{word, words}
-use Rattle.meaning.specs.Tables.{bit, fieldCount, fieldsBelow, field}
-use Rattle.laws.specs.Left.{words-at}
+use Rattle.meaning.specs.Tables.{bit, field_count, fields_below, field}
+use Rattle.laws.specs.Left.{words_at}
 use Rattle.pair_places.specs.Formats.{Below, below}
-use Rattle.value_differences.specs.Held.{isField}
+use Rattle.value_differences.specs.Held.{is_field}
 
 -- what holds of each of the four fields holds of any of them
-each-field : (P : ℕ → Type 0) → P 1 → P 2 → P 4 → P 8 → (k : ℕ) → isField k ≡ true → P k
-each-field P p1 p2 p4 p8 k = step (eqb k 1) refl (eqb k 2) refl (eqb k 4) refl (eqb k 8) refl
+each_field : (P : ℕ → Type 0) → P 1 → P 2 → P 4 → P 8 → (k : ℕ) → is_field k ≡ true → P k
+each_field P p1 p2 p4 p8 k = step (eqb k 1) refl (eqb k 2) refl (eqb k 4) refl (eqb k 8) refl
   where
     step : (a : Bool) → eqb k 1 ≡ a → (b : Bool) → eqb k 2 ≡ b → (c : Bool) → eqb k 4 ≡ c → (d : Bool) → eqb k 8 ≡ d → a || (b || (c || d)) ≡ true → P k
     step true e b _ c _ d _ h = rw (eqb-true k 1 e) p1
@@ -24,18 +24,18 @@ each-field P p1 p2 p4 p8 k = step (eqb k 1) refl (eqb k 2) refl (eqb k 4) refl (
     step false _ false _ false _ false _ h = absurd (true≢false (sym h))
 
 -- a field's number is no 0, so that formats can be divided by it
-pub field-positive : (k : ℕ) → isField k ≡ true → 0 < k
-field-positive = each-field (λ k. 0 < k) (omega arith) (omega arith) (omega arith) (omega arith)
+pub field_positive : (k : ℕ) → is_field k ≡ true → 0 < k
+field_positive = each_field (λ k. 0 < k) (omega arith) (omega arith) (omega arith) (omega arith)
 
 module _ (f k : ℕ) where
-  below-count : isField k ≡ true → Below f k
-  below-count = let b = below f in each-field (Below f) b.0 b.1.0 b.1.1.0 b.1.1.1.0 k
+  below_count : is_field k ≡ true → Below f k
+  below_count = let b = below f in each_field (Below f) b.0 b.1.0 b.1.1.0 b.1.1.1.0 k
 
-  pub field-there : isField k ≡ true → f / k % 2 ≡ 1 → (s : List ℕ) (at : ℕ) {n w : ℕ} → n ≡ fieldCount (f % k) → w ≡ word s (at + 2 * n)
-      → w ≡ field f (words s at (fieldCount f)) k
-  unfolding bit fieldsBelow field
-  field-there h b s at e g = g ∙ rw (e, eq-eqb (bit f k) 1 b) (sym (words-at s at (fieldCount f) (fieldsBelow f k) (below-count h b)))
+  pub field_there : is_field k ≡ true → f / k % 2 ≡ 1 → (s : List ℕ) (at : ℕ) {n w : ℕ} → n ≡ field_count (f % k) → w ≡ word s (at + 2 * n)
+      → w ≡ field f (words s at (field_count f)) k
+  unfolding bit fields_below field
+  field_there h b s at e g = g ∙ rw (e, eq-eqb (bit f k) 1 b) (sym (words_at s at (field_count f) (fields_below f k) (below_count h b)))
 
-  pub field-absent : (f / k % 2 ≡ 1 → ⊥) → (vs : List ℕ) → 0 ≡ field f vs k
+  pub field_absent : (f / k % 2 ≡ 1 → ⊥) → (vs : List ℕ) → 0 ≡ field f vs k
   unfolding bit field
-  field-absent b vs = rw (ne_eqb (bit f k) 1 b)
+  field_absent b vs = rw (ne_eqb (bit f k) 1 b)

@@ -6,69 +6,69 @@ use native.Mathlib.Omega.{arith}
 use lib.ListN.{get_or}
 use borrow.Author.Tests.{eq-eqb, ne_eqb}
 use Rattle.meaning.specs.Words.{word, words, up_from}
-use Rattle.meaning.specs.Tables.{fieldCount, field}
-use Rattle.differences.specs.Content.{fourValues}
-use Rattle.differences.specs.Entries.{each, atField}
-use Rattle.difference_laws.specs.Walks.{nil-each}
-use Rattle.listing.specs.Listed.{entry_of, Listed, listed-none, listed-said, Through, through-turn}
-use Rattle.value_differences.specs.Held.{fieldBit, valuesAt, valueEntry, size_of}
+use Rattle.meaning.specs.Tables.{field_count, field}
+use Rattle.differences.specs.Content.{four_values}
+use Rattle.differences.specs.Entries.{each, at_field}
+use Rattle.difference_laws.specs.Walks.{nil_each}
+use Rattle.listing.specs.Listed.{entry_of, Listed, listed_none, listed_said, Through, through_turn}
+use Rattle.value_differences.specs.Held.{field_bit, values_at, value_entry, size_of}
 
 -- the four values of a value record are its four fields
-four-first : (f : ℕ) (vs rest : List ℕ) (i : ℕ) → i < 4 → get_or (fourValues f vs ++ rest) i 0 ≡ field f vs (fieldBit i)
-unfolding fourValues
-four-first f vs rest zero h = refl
-four-first f vs rest (suc zero) h = refl
-four-first f vs rest (suc (suc zero)) h = refl
-four-first f vs rest (suc (suc (suc zero))) h = refl
-four-first f vs rest (suc (suc (suc (suc i)))) h = absurd (omega arith)
+four_first : (f : ℕ) (vs rest : List ℕ) (i : ℕ) → i < 4 → get_or (four_values f vs ++ rest) i 0 ≡ field f vs (field_bit i)
+unfolding four_values
+four_first f vs rest zero h = refl
+four_first f vs rest (suc zero) h = refl
+four_first f vs rest (suc (suc zero)) h = refl
+four_first f vs rest (suc (suc (suc zero))) h = refl
+four_first f vs rest (suc (suc (suc (suc i)))) h = absurd (omega arith)
 
-four-alone : (f : ℕ) (vs : List ℕ) (i : ℕ) → i < 4 → get_or (fourValues f vs) i 0 ≡ field f vs (fieldBit i)
-unfolding fourValues
-four-alone f vs zero h = refl
-four-alone f vs (suc zero) h = refl
-four-alone f vs (suc (suc zero)) h = refl
-four-alone f vs (suc (suc (suc zero))) h = refl
-four-alone f vs (suc (suc (suc (suc i)))) h = absurd (omega arith)
+four_alone : (f : ℕ) (vs : List ℕ) (i : ℕ) → i < 4 → get_or (four_values f vs) i 0 ≡ field f vs (field_bit i)
+unfolding four_values
+four_alone f vs zero h = refl
+four_alone f vs (suc zero) h = refl
+four_alone f vs (suc (suc zero)) h = refl
+four_alone f vs (suc (suc (suc zero))) h = refl
+four_alone f vs (suc (suc (suc (suc i)))) h = absurd (omega arith)
 
-four-past : (f : ℕ) (vs rest : List ℕ) (j : ℕ) → get_or (fourValues f vs ++ rest) (suc (suc (suc (suc j)))) 0 ≡ get_or rest j 0
-unfolding fourValues
-four-past f vs rest j = refl
+four_past : (f : ℕ) (vs rest : List ℕ) (j : ℕ) → get_or (four_values f vs ++ rest) (suc (suc (suc (suc j)))) 0 ≡ get_or rest j 0
+unfolding four_values
+four_past f vs rest j = refl
 
 module _ (s : List ℕ) (p i : ℕ) {f k r : ℕ} (e : f ≡ word s 4) where
   -- the two ways through `value_at`
-  pub value-first : i < 4 → k ≡ fieldBit i → r ≡ field f (words s (p + 2) (fieldCount f)) k → r ≡ get_or (valuesAt s p) i 0
-  unfolding valuesAt
-  value-first h b g =
-      g ∙ rw (e, b) (sym (four-first (word s 4) (words s (p + 2) (fieldCount (word s 4))) (fourValues (word s 6) (words s (p + 2 + 2 * fieldCount (word s 4)) (fieldCount (word s 6)))) i h))
+  pub value_first : i < 4 → k ≡ field_bit i → r ≡ field f (words s (p + 2) (field_count f)) k → r ≡ get_or (values_at s p) i 0
+  unfolding values_at
+  value_first h b g =
+      g ∙ rw (e, b) (sym (four_first (word s 4) (words s (p + 2) (field_count (word s 4))) (four_values (word s 6) (words s (p + 2 + 2 * field_count (word s 4)) (field_count (word s 6)))) i h))
 
-  pub value-second : 4 ≤ i → i < 8 → k ≡ fieldBit (i - 4) → {n h : ℕ} → n ≡ fieldCount f → h ≡ word s 6
-      → r ≡ field h (words s (p + 2 + 2 * n) (fieldCount h)) k → r ≡ get_or (valuesAt s p) i 0
-  unfolding valuesAt
-  value-second l m b {n} {h} c d g =
+  pub value_second : 4 ≤ i → i < 8 → k ≡ field_bit (i - 4) → {n h : ℕ} → n ≡ field_count f → h ≡ word s 6
+      → r ≡ field h (words s (p + 2 + 2 * n) (field_count h)) k → r ≡ get_or (values_at s p) i 0
+  unfolding values_at
+  value_second l m b {n} {h} c d g =
       let j : i ≡ suc (suc (suc (suc (i - 4)))) = omega arith in
-      let v = words s (p + 2 + 2 * fieldCount (word s 4)) (fieldCount (word s 6)) in
-      let a : get_or (fourValues (word s 6) v) (i - 4) 0 ≡ r = four-alone (word s 6) v (i - 4) (omega arith) ∙ sym (g ∙ rw (c, e, d, b)) in
-      sym (ap (λ (x : ℕ). get_or (valuesAt s p) x 0) j ∙ four-past (word s 4) (words s (p + 2) (fieldCount (word s 4))) (fourValues (word s 6) v) (i - 4) ∙ a)
+      let v = words s (p + 2 + 2 * field_count (word s 4)) (field_count (word s 6)) in
+      let a : get_or (four_values (word s 6) v) (i - 4) 0 ≡ r = four_alone (word s 6) v (i - 4) (omega arith) ∙ sym (g ∙ rw (c, e, d, b)) in
+      sym (ap (λ (x : ℕ). get_or (values_at s p) x 0) j ∙ four_past (word s 4) (words s (p + 2) (field_count (word s 4))) (four_values (word s 6) v) (i - 4) ∙ a)
 
 -- the size of a pair record
-pub size_is : (s : List ℕ) {f h a b : ℕ} → f ≡ word s 4 → (a ≡ fieldCount f) × (a ≤ 8) → h ≡ word s 6 → (b ≡ fieldCount h) × (b ≤ 8)
+pub size_is : (s : List ℕ) {f h a b : ℕ} → f ≡ word s 4 → (a ≡ field_count f) × (a ≤ 8) → h ≡ word s 6 → (b ≡ field_count h) × (b ≤ 8)
     → (2 + 2 * a + 2 * b ≡ size_of s) × (2 + 2 * a + 2 * b ≤ 34)
 size_is s e x g y = (rw (x.0, y.0, e, g), omega (arith, x.1, y.1))
 
 module _ (g second i : ℕ) {a b : ℕ} where
   -- the two ways through `put_value`
-  pub value_same : {out : List ℕ} {pos : ℕ} → a ≡ b → Listed (valueEntry g second i a b) out pos out pos × (pos ≤ pos + 12)
-  value_same e = (listed-said listed-none (rw (eq-eqb a b e)), omega arith)
+  pub value_same : {out : List ℕ} {pos : ℕ} → a ≡ b → Listed (value_entry g second i a b) out pos out pos × (pos ≤ pos + 12)
+  value_same e = (listed_said listed_none (rw (eq-eqb a b e)), omega arith)
 
-  pub value-differs : {out next : List ℕ} {pos r : ℕ} → (a ≡ b → ⊥) → Listed (entry_of 6 i g second a b ∷ []) out pos next r
-      → Listed (valueEntry g second i a b) out pos next r × (r ≤ pos + 12)
-  value-differs e l = (listed-said l (rw (ne_eqb a b e)), omega (arith, l.place))
+  pub value_differs : {out next : List ℕ} {pos r : ℕ} → (a ≡ b → ⊥) → Listed (entry_of 6 i g second a b ∷ []) out pos next r
+      → Listed (value_entry g second i a b) out pos next r × (r ≤ pos + 12)
+  value_differs e l = (listed_said l (rw (ne_eqb a b e)), omega (arith, l.place))
 
 -- one turn of `list_fields`
-pub valuing-turn : (g second : ℕ) (xs ys : List ℕ) {out₀ : List ℕ} {pos : ℕ} {out next : List ℕ} {at i a b q : ℕ} → Through (atField g second xs ys) 8 12 out₀ pos out at i → i < 8
-    → a ≡ get_or xs i 0 → b ≡ get_or ys i 0 → Listed (valueEntry g second i a b) out at next q × (q ≤ at + 12) → Through (atField g second xs ys) 8 12 out₀ pos next q (i + 1)
-unfolding atField
-valuing-turn g second xs ys k h e f l = through-turn k h (listed-said l.0 (rw (e, f))) l.1
+pub valuing_turn : (g second : ℕ) (xs ys : List ℕ) {out₀ : List ℕ} {pos : ℕ} {out next : List ℕ} {at i a b q : ℕ} → Through (at_field g second xs ys) 8 12 out₀ pos out at i → i < 8
+    → a ≡ get_or xs i 0 → b ≡ get_or ys i 0 → Listed (value_entry g second i a b) out at next q × (q ≤ at + 12) → Through (at_field g second xs ys) 8 12 out₀ pos next q (i + 1)
+unfolding at_field
+valuing_turn g second xs ys k h e f l = through_turn k h (listed_said l.0 (rw (e, f))) l.1
 
 -- What the loop of `same_words` keeps: if the words that are left are the same, all are.
 pub record Wording (l r : List ℕ) (p q n i : ℕ) : Type 0 where
@@ -76,37 +76,37 @@ pub record Wording (l r : List ℕ) (p q n i : ℕ) : Type 0 where
   pub rest : words l (p + 2 * i) (n - i) ≡ words r (q + 2 * i) (n - i) → words l p n ≡ words r q n
 
 module _ {l r : List ℕ} {p q n : ℕ} where
-  pub wording-all : Wording l r p q n 0
-  wording-all =
+  pub wording_all : Wording l r p q n 0
+  wording_all =
       let a : p + 2 * 0 ≡ p = omega arith in
       let b : q + 2 * 0 ≡ q = omega arith in
       let d : n - 0 ≡ n = omega arith in
       record { within = omega arith; rest = λ e. rw (a, b, d) at e }
 
-  pub wording-turn : {i a b : ℕ} → Wording l r p q n i → i < n → a ≡ word l (p + 2 * i) → b ≡ word r (q + 2 * i) → a ≡ b → Wording l r p q n (i + 1)
+  pub wording_turn : {i a b : ℕ} → Wording l r p q n i → i < n → a ≡ word l (p + 2 * i) → b ≡ word r (q + 2 * i) → a ≡ b → Wording l r p q n (i + 1)
   unfolding words
-  wording-turn {i} k h x y e =
+  wording_turn {i} k h x y e =
       let d : n - i ≡ suc (n - (i + 1)) = omega arith in
       let u : p + 2 * (i + 1) ≡ p + 2 * i + 2 = omega arith in
       let v : q + 2 * (i + 1) ≡ q + 2 * i + 2 = omega arith in
       let w : word l (p + 2 * i) ≡ word r (q + 2 * i) = sym x ∙ e ∙ y in
       record { within = omega arith; rest = λ f. k.rest (rw (d, w) (ap (λ (z : List ℕ). word r (q + 2 * i) ∷ z) (rw (u, v) at f))) }
 
-  pub wording-end : {i : ℕ} → Wording l r p q n i → n ≤ i → words l p n ≡ words r q n
+  pub wording_end : {i : ℕ} → Wording l r p q n i → n ≤ i → words l p n ≡ words r q n
   unfolding words
-  wording-end {i} k h =
+  wording_end {i} k h =
       let d : n - i ≡ 0 = omega arith in
       k.rest (rw d)
 
 -- records with the same words, in tables with the same value formats, have the same values
-pub alike-values : (l r : List ℕ) (p q : ℕ) {f h n m : ℕ} → f ≡ word l 4 → h ≡ word l 6 → f ≡ word r 4 → h ≡ word r 6 → n ≡ fieldCount f → m ≡ fieldCount h
-    → words l (p + 2) n ≡ words r (q + 2) n → words l (p + 2 + 2 * n) m ≡ words r (q + 2 + 2 * n) m → valuesAt l p ≡ valuesAt r q
-unfolding valuesAt
-alike-values l r p q a b c d x y u v =
+pub alike_values : (l r : List ℕ) (p q : ℕ) {f h n m : ℕ} → f ≡ word l 4 → h ≡ word l 6 → f ≡ word r 4 → h ≡ word r 6 → n ≡ field_count f → m ≡ field_count h
+    → words l (p + 2) n ≡ words r (q + 2) n → words l (p + 2 + 2 * n) m ≡ words r (q + 2 + 2 * n) m → values_at l p ≡ values_at r q
+unfolding values_at
+alike_values l r p q a b c d x y u v =
     rw (sym a, sym b, sym c, sym d, sym x, sym y, u, v)
 
 -- nothing is listed where the values are the same
-pub nothing-listed : (g second : ℕ) {xs ys out : List ℕ} {pos : ℕ} → xs ≡ ys → Listed (each (atField g second xs ys) (up_from 0 8)) out pos out pos × (pos ≤ pos + 96)
-unfolding atField
-nothing-listed g second {xs} {ys} e =
-    (listed-said listed-none (sym (rw e (nil-each (atField g second ys ys) (up_from 0 8) (λ f. rw (eq-eqb (get_or ys f 0) (get_or ys f 0) refl))))), omega arith)
+pub nothing_listed : (g second : ℕ) {xs ys out : List ℕ} {pos : ℕ} → xs ≡ ys → Listed (each (at_field g second xs ys) (up_from 0 8)) out pos out pos × (pos ≤ pos + 96)
+unfolding at_field
+nothing_listed g second {xs} {ys} e =
+    (listed_said listed_none (sym (rw e (nil_each (at_field g second ys ys) (up_from 0 8) (λ f. rw (eq-eqb (get_or ys f 0) (get_or ys f 0) refl))))), omega arith)

@@ -1,10 +1,10 @@
 // What differs between two pair records: values, field by field. The tables stand at the front of their slices.
 ghost use Rattle.std.specs.Prelude.{◌≡◌, true, ◌+◌, ◌-◌, ◌*◌, ◌≤◌, ◌<◌, get_or};
 ghost use Rattle.meaning.specs.Words.{words, up_from};
-ghost use Rattle.meaning.specs.Tables.{fieldCount, field};
-ghost use Rattle.differences.specs.Entries.{each, atField};
+ghost use Rattle.meaning.specs.Tables.{field_count, field};
+ghost use Rattle.differences.specs.Entries.{each, at_field};
 ghost use Rattle.listing.specs.Listed.{Listed};
-ghost use Rattle.value_differences.specs.Held.{isField, fieldBit, valuesAt, valueEntry};
+ghost use Rattle.value_differences.specs.Held.{is_field, field_bit, values_at, value_entry};
 
 use listing::put_listed;
 use pair_places::field_count;
@@ -12,8 +12,8 @@ use wire::word_at;
 
 // The field `k` (1, 2, 4 or 8) of the value record of format `f` that stands at `at`; 0 where the format has no such field.
 fn field_at(src: &[u8], at: usize, f: usize, k: usize) -> usize
-    requires { (at < 0x1_0000_0000_0000) × (isField k ≡ true) }
-    ensures { (result ≡ field f (words src.now at (fieldCount f)) k) × (result < 65536) }
+    requires { (at < 0x1_0000_0000_0000) × (is_field k ≡ true) }
+    ensures { (result ≡ field f (words src.now at (field_count f)) k) × (result < 65536) }
 {
     if f / k % 2 != 1 {
         return 0;
@@ -24,7 +24,7 @@ fn field_at(src: &[u8], at: usize, f: usize, k: usize) -> usize
 // The bit of the `i`-th of the four fields in a value format.
 fn field_bit(i: usize) -> usize
     requires { i < 4 }
-    ensures { (result ≡ fieldBit i) × (isField result ≡ true) }
+    ensures { (result ≡ field_bit i) × (is_field result ≡ true) }
 {
     match i {
         0 => 1,
@@ -37,7 +37,7 @@ fn field_bit(i: usize) -> usize
 // The `i`-th value of the pair record at `p`: four of the first glyph, then four of the second; 0 where the format has no such field.
 fn value_at(src: &[u8], p: usize, i: usize) -> usize
     requires { (p < 0x1_0000_0000) × (i < 8) }
-    ensures { result ≡ get_or (valuesAt src.now p) i 0 }
+    ensures { result ≡ get_or (values_at src.now p) i 0 }
 {
     let f = word_at(src, 4);
     if i < 4 {
@@ -58,7 +58,7 @@ fn put_value(
     b: usize,
 ) -> usize
     requires { pos < 0x8000_0000_0000 }
-    ensures { Listed (valueEntry g second i a b) out.old pos out.new result × (result ≤ pos + 12) }
+    ensures { Listed (value_entry g second i a b) out.old pos out.new result × (result ≤ pos + 12) }
 {
     if a == b {
         return pos;
@@ -78,7 +78,7 @@ pub fn list_fields(
     pos: usize,
 ) -> usize
     requires { (p < 0x1_0000_0000) × (q < 0x1_0000_0000) × (pos < 0x4000_0000_0000) }
-    ensures { Listed (each (atField g second (valuesAt left.now p) (valuesAt right.now q)) (up_from 0 8)) out.old pos out.new result × (result ≤ pos + 96) }
+    ensures { Listed (each (at_field g second (values_at left.now p) (values_at right.now q)) (up_from 0 8)) out.old pos out.new result × (result ≤ pos + 96) }
 {
     let mut at = pos;
     let mut i = 0;

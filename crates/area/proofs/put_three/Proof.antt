@@ -14,6 +14,6 @@ returns c =
     let w3 = wrote_one a.c w2 p3.put3.ensures in
     (w3.place, w3.bytes)
 
-pub put-three-spec : {M : Type 1} → statement M
-put-three-spec =
+pub put_three_spec : {M : Type 1} → statement M
+put_three_spec =
     tie.close (tie.spec (λ c κs. search rules) (λ c κs. search rules) (λ c κs. search rules) (λ c. search rules) returns)

@@ -1,4 +1,4 @@
-use Rattle.area_parts.proofs.Classes.{onward-last, onward-next}
+use Rattle.area_parts.proofs.Classes.{onward_last, onward_next}
 use borrow.Author.Rules.{rules}
 use Rattle.area_parts.proofs.class_goes_on.Statement.{statement}
 use Rattle.area_parts.proofs.class_goes_on.Tie as tie
@@ -6,12 +6,12 @@ use Rattle.area_parts.proofs.class_goes_on.Tie as tie
 returns : tie.Need-returns
 returns c =
     let a = c.before.before.args in
-    onward-last a.t.now a.at a.n a.i c.if1.true
+    onward_last a.t.now a.at a.n a.i c.if1.true
 
 returns-2 : tie.Need-returns-2
 returns-2 c =
     let a = c.before.before.before.args in
-    onward-next a.t.now a.at a.n a.i c.before.if1.false c.same-run.ensures
+    onward_next a.t.now a.at a.n a.i c.before.if1.false c.same-run.ensures
 
-pub class-goes-on-spec : {M : Type 1} → statement M
-class-goes-on-spec = tie.close (tie.spec (λ c. search rules) returns (λ c. search rules) (λ c κs. search rules) returns-2)
+pub class_goes_on_spec : {M : Type 1} → statement M
+class_goes_on_spec = tie.close (tie.spec (λ c. search rules) returns (λ c. search rules) (λ c κs. search rules) returns-2)

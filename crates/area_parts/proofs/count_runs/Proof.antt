@@ -1,6 +1,6 @@
 use mathlib.Core.Logic.{⊎_elim}
 use Prim.Native.Nat.{◌-◌}
-use Rattle.area_parts.proofs.Cover.{Counting, counting-all, counting-on, counting-ends, counting-end}
+use Rattle.area_parts.proofs.Cover.{Counting, counting_all, counting_on, counting_ends, counting_end}
 use borrow.Author.Tests.{not-true, not-false}
 use borrow.Author.Rules.{rules}
 use Rattle.area_parts.proofs.count_runs.Statement.{statement}
@@ -13,22 +13,22 @@ abbrev decreases-loop : tie.decreases-loop
 decreases-loop t at n runs₀ i₀ runs i = n - i
 
 loop-holds : tie.Need-loop-init invariant-loop decreases-loop
-loop-holds c = counting-all c.before.requires.1
+loop-holds c = counting_all c.before.requires.1
 
 loop-again : tie.Need-loop-preserved invariant-loop decreases-loop
 loop-again c =
     let g = c.before in
     let l = g.before in
     ⊎_elim
-    (λ w. rw w.1 (counting-ends l.before.loop.invariant l.loop-test.true g.neighbours.ensures (not-true _ w.0.taken)))
-    (λ w. rw w.1 (counting-on l.before.loop.invariant l.loop-test.true g.neighbours.ensures (not-false _ w.0.left)))
+    (λ w. rw w.1 (counting_ends l.before.loop.invariant l.loop-test.true g.neighbours.ensures (not-true _ w.0.taken)))
+    (λ w. rw w.1 (counting_on l.before.loop.invariant l.loop-test.true g.neighbours.ensures (not-false _ w.0.left)))
     c.if1.branch
 
 returns : tie.Need-returns invariant-loop decreases-loop
-returns c = counting-end c.before.loop.invariant c.loop-test.false
+returns c = counting_end c.before.loop.invariant c.loop-test.false
 
-pub count-runs-spec : {M : Type 1} → statement M
-count-runs-spec =
+pub count_runs_spec : {M : Type 1} → statement M
+count_runs_spec =
     tie.close
     (tie.spec
     invariant-loop

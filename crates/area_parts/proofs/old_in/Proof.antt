@@ -10,5 +10,5 @@ cast-result c = omega (arith, c.shared-slice-known.given c.before.args.i)
 returns : tie.Need-returns
 returns c = (refl, omega (arith, c.shared-slice-known.given c.before.args.i))
 
-pub old-in-spec : {M : Type 1} → statement M
-old-in-spec = tie.close (tie.spec (λ c. search rules) (λ c. search rules) cast-result returns)
+pub old_in_spec : {M : Type 1} → statement M
+old_in_spec = tie.close (tie.spec (λ c. search rules) (λ c. search rules) cast-result returns)

@@ -1,6 +1,6 @@
 use Prim.Native.Nat.{◌-◌}
-use Rattle.area_parts.proofs.Cover.{Ranging, ranging-all, ranging-room, ranging-on, ranging-ends, ranging-end}
-use Rattle.laws.specs.Written.{wrote-length}
+use Rattle.area_parts.proofs.Cover.{Ranging, ranging_all, ranging_room, ranging_on, ranging_ends, ranging_end}
+use Rattle.laws.specs.Written.{wrote_length}
 use borrow.Author.Tests.{not-true, not-false}
 use borrow.Author.Rules.{rules}
 use Rattle.area_parts.proofs.put_ranges.Statement.{statement}
@@ -13,14 +13,14 @@ abbrev decreases-loop : tie.decreases-loop
 decreases-loop t at n area₀ to p₀ first₀ i₀ area p first i = n - i
 
 loop-holds : tie.Need-loop-init invariant-loop decreases-loop
-loop-holds c = ranging-all c.before.before.requires.1
+loop-holds c = ranging_all c.before.before.requires.1
 
 put-three-requires : tie.Need-put-three-requires invariant-loop decreases-loop
 put-three-requires c κs =
     let a = c.before.before.before in
     let g = a.before in
     let l = g.before in
-    ranging-room l.before.loop.invariant l.loop-test.true g.goes_on.ensures (not-true _ a.if1.true)
+    ranging_room l.before.loop.invariant l.loop-test.true g.goes_on.ensures (not-true _ a.if1.true)
 
 loop-again : tie.Need-loop-preserved invariant-loop decreases-loop
 loop-again c =
@@ -29,22 +29,22 @@ loop-again c =
     let a = z.before in
     let g = a.before.before in
     let l = g.before in
-    ranging-ends l.before.loop.invariant l.loop-test.true g.goes_on.ensures (not-true _ a.before.if1.true) a.new_in.ensures.0 z.new-in2.ensures.0 w.put_three.ensures
+    ranging_ends l.before.loop.invariant l.loop-test.true g.goes_on.ensures (not-true _ a.before.if1.true) a.new_in.ensures.0 z.new-in2.ensures.0 w.put_three.ensures
 
 loop-again-2 : tie.Need-loop-preserved-2 invariant-loop decreases-loop
 loop-again-2 c =
     let g = c.before in
     let l = g.before in
-    ranging-on l.before.loop.invariant l.loop-test.true g.goes_on.ensures (not-false _ c.if1.false)
+    ranging_on l.before.loop.invariant l.loop-test.true g.goes_on.ensures (not-false _ c.if1.false)
 
 same_length : tie.Need-same-length invariant-loop decreases-loop
-same_length c = wrote-length (ranging-end c.before.loop.invariant c.loop-test.false)
+same_length c = wrote_length (ranging_end c.before.loop.invariant c.loop-test.false)
 
 returns : tie.Need-returns invariant-loop decreases-loop
-returns c = ranging-end c.before.loop.invariant c.loop-test.false
+returns c = ranging_end c.before.loop.invariant c.loop-test.false
 
-pub put-ranges-spec : {M : Type 1} → statement M
-put-ranges-spec =
+pub put_ranges_spec : {M : Type 1} → statement M
+put_ranges_spec =
     tie.close
     (tie.spec
     invariant-loop

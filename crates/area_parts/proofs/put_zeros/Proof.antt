@@ -1,6 +1,6 @@
 use Prim.Native.Nat.{◌-◌}
-use Rattle.area_parts.proofs.Classes.{Zeroing, zeroing-all, zeroing-one, zeroing-end}
-use Rattle.laws.specs.Written.{wrote-length}
+use Rattle.area_parts.proofs.Classes.{Zeroing, zeroing_all, zeroing_one, zeroing_end}
+use Rattle.laws.specs.Written.{wrote_length}
 use borrow.Author.Rules.{rules}
 use Rattle.area_parts.proofs.put_zeros.Statement.{statement}
 use Rattle.area_parts.proofs.put_zeros.Tie as tie
@@ -12,22 +12,22 @@ abbrev decreases-loop : tie.decreases-loop
 decreases-loop area₀ to n p₀ i₀ area p i = n - i
 
 loop-holds : tie.Need-loop-init invariant-loop decreases-loop
-loop-holds c = zeroing-all
+loop-holds c = zeroing_all
 
 loop-again : tie.Need-loop-preserved invariant-loop decreases-loop
 loop-again c =
     let p = c.before.before in
     let l = p.before.before in
-    zeroing-one l.before.loop.invariant l.loop-test.true p.put.ensures
+    zeroing_one l.before.loop.invariant l.loop-test.true p.put.ensures
 
 same_length : tie.Need-same-length invariant-loop decreases-loop
-same_length c = wrote-length (zeroing-end c.before.loop.invariant c.loop-test.false)
+same_length c = wrote_length (zeroing_end c.before.loop.invariant c.loop-test.false)
 
 returns : tie.Need-returns invariant-loop decreases-loop
-returns c = zeroing-end c.before.loop.invariant c.loop-test.false
+returns c = zeroing_end c.before.loop.invariant c.loop-test.false
 
-pub put-zeros-spec : {M : Type 1} → statement M
-put-zeros-spec =
+pub put_zeros_spec : {M : Type 1} → statement M
+put_zeros_spec =
     tie.close
     (tie.spec
     invariant-loop

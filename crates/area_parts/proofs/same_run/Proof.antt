@@ -13,8 +13,8 @@ add-result c = omega (arith, c.shared-slice-known.given c.before.args.i)
 cast-result-2 : tie.Need-overflow-cast-result-2
 cast-result-2 c = omega (arith, c.shared-slice-known2.given (c.before.before.args.i + 1))
 
-pub same-run-spec : {M : Type 1} → statement M
-same-run-spec =
+pub same_run_spec : {M : Type 1} → statement M
+same_run_spec =
     tie.close
     (tie.spec
     (λ c. search rules)

@@ -1,17 +1,17 @@
 use borrow.Author.Rules.{rules}
-use Rattle.asking.proofs.Answering.{past-list, past-string, listed-inside, listed-lookup, in_list, in-any}
+use Rattle.asking.proofs.Answering.{past_list, past_string, listed_inside, listed_lookup, in_list, in_any}
 use Rattle.asking.proofs.ask_at.Statement.{statement}
 use Rattle.asking.proofs.ask_at.Tie as tie
 
 returns : tie.Need-returns
 returns c =
     let a = c.before.before.before.before.args in
-    (past-list a.list.now a.buffer.now a.string.now a.n a.lookup a.place c.if1.true, tt)
+    (past_list a.list.now a.buffer.now a.string.now a.n a.lookup a.place c.if1.true, tt)
 
 returns-2 : tie.Need-returns-2
 returns-2 c =
     let a = c.before.before.before.before.before.args in
-    (past-string a.list.now a.buffer.now a.string.now a.n a.lookup a.place c.if2.true, tt)
+    (past_string a.list.now a.buffer.now a.string.now a.n a.lookup a.place c.if2.true, tt)
 
 mul-long-at : tie.Need-overflow-mul-long-at
 mul-long-at c = search rules
@@ -35,7 +35,7 @@ part-requires : tie.Need-part-requires
 part-requires c κs =
     let i = c.before.before.before in
     let t = i.before.before.before.before in
-    listed-inside t.args.list.now t.args.buffer.now t.args.lookup i.if1.false c.before.long-at.ensures.0 c.long-at2.ensures.0 t.requires.0
+    listed_inside t.args.list.now t.args.buffer.now t.args.lookup i.if1.false c.before.long-at.ensures.0 c.long-at2.ensures.0 t.requires.0
 
 mul-word-at : tie.Need-overflow-mul-word-at
 mul-word-at c = search rules
@@ -48,7 +48,7 @@ ask-source-requires c κs =
     let p = c.before in
     let i = p.before.before.before.before in
     let t = i.before.before.before.before in
-    (listed-lookup t.args.list.now t.args.buffer.now t.args.lookup i.if1.false p.before.before.long-at.ensures.0 p.before.long-at2.ensures.0 p.part.ensures c.word_at.ensures.0 t.requires.0, p.before.before.before.if2.false, t.requires.1)
+    (listed_lookup t.args.list.now t.args.buffer.now t.args.lookup i.if1.false p.before.before.long-at.ensures.0 p.before.long-at2.ensures.0 p.part.ensures c.word_at.ensures.0 t.requires.0, p.before.before.before.if2.false, t.requires.1)
 
 returns-3 : tie.Need-returns-3
 returns-3 c =
@@ -56,10 +56,10 @@ returns-3 c =
     let i = p.before.before.before.before in
     let t = i.before.before.before.before in
     let a = t.args in
-    (in_list a.list.now a.buffer.now a.lookup i.if1.false p.before.before.long-at.ensures.0 p.before.long-at2.ensures.0 p.part.ensures a.string.now a.n a.place c.before.word_at.ensures.0 c.ask-source.ensures, in-any c.ask-source.result i.if1.false)
+    (in_list a.list.now a.buffer.now a.lookup i.if1.false p.before.before.long-at.ensures.0 p.before.long-at2.ensures.0 p.part.ensures a.string.now a.n a.place c.before.word_at.ensures.0 c.ask-source.ensures, in_any c.ask-source.result i.if1.false)
 
-pub ask-at-spec : {M : Type 1} → statement M
-ask-at-spec =
+pub ask_at_spec : {M : Type 1} → statement M
+ask_at_spec =
     tie.close
     (tie.spec
     returns

@@ -1,5 +1,5 @@
 use borrow.Author.Rules.{rules}
-use Rattle.asking.proofs.Answering.{listed-inside, listed-word}
+use Rattle.asking.proofs.Answering.{listed_inside, listed_word}
 use Rattle.asking.proofs.source_word.Statement.{statement}
 use Rattle.asking.proofs.source_word.Tie as tie
 
@@ -24,7 +24,7 @@ long-at-requires-2 c κs = search rules
 part-requires : tie.Need-part-requires
 part-requires c κs =
     let t = c.before.before.before.before in
-    listed-inside t.args.list.now t.args.buffer.now t.args.lookup t.requires.1 c.before.long-at.ensures.0 c.long-at2.ensures.0 t.requires.0
+    listed_inside t.args.list.now t.args.buffer.now t.args.lookup t.requires.1 c.before.long-at.ensures.0 c.long-at2.ensures.0 t.requires.0
 
 word-at-requires : tie.Need-word-at-requires
 word-at-requires c κs = search rules
@@ -33,10 +33,10 @@ returns : tie.Need-returns
 returns c =
     let p = c.before in
     let t = p.before.before.before.before.before in
-    listed-word t.args.list.now t.args.buffer.now t.args.lookup t.requires.1 p.before.before.long-at.ensures.0 p.before.long-at2.ensures.0 p.part.ensures t.args.at c.word_at.ensures
+    listed_word t.args.list.now t.args.buffer.now t.args.lookup t.requires.1 p.before.before.long-at.ensures.0 p.before.long-at2.ensures.0 p.part.ensures t.args.at c.word_at.ensures
 
-pub source-word-spec : {M : Type 1} → statement M
-source-word-spec =
+pub source_word_spec : {M : Type 1} → statement M
+source_word_spec =
     tie.close
     (tie.spec
     mul-long-at

@@ -1,10 +1,10 @@
 use native.Mathlib.Omega.{arith}
 use borrow.Author.Rules.{rules}
-use Rattle.meaning.specs.Maps.{mapEntries, glyphEntries}
+use Rattle.meaning.specs.Maps.{map_entries, glyph_entries}
 use Rattle.meaning.specs.Cut.{cut}
-use Rattle.meaning.specs.Subset.{writtenIn}
-use Rattle.tried.specs.Front.{front_length, front-area}
-use Rattle.cut_sets.specs.Whole.{glyphContext}
+use Rattle.meaning.specs.Subset.{written_in}
+use Rattle.tried.specs.Front.{front_length, front_area}
+use Rattle.cut_sets.specs.Whole.{glyph_context}
 use Rattle.by_glyph.proofs.contexts.Statement.{statement}
 use Rattle.by_glyph.proofs.contexts.Tie as tie
 
@@ -21,10 +21,10 @@ returns : tie.Need-returns
 returns c =
     let r = c.before.before.before.before.before.before in
     let a = c.before.before.before.before.before.before.before.before.before.before.before.before.before.before.before.before.before.args in
-    front-area a.area.now c.before.before.before.before.before.before.before.before.before.before.least.ensures _ r.cut-contexts.result a.out.now _ (writtenIn a.marks.layout a.out.now (cut (glyphEntries a.marks.form a.glyphs.now) (mapEntries a.lookups.now) (glyphContext a.chained a.src.now))) r.cut-contexts.ensures
+    front_area a.area.now c.before.before.before.before.before.before.before.before.before.before.least.ensures _ r.cut-contexts.result a.out.now _ (written_in a.marks.layout a.out.now (cut (glyph_entries a.marks.form a.glyphs.now) (map_entries a.lookups.now) (glyph_context a.chained a.src.now))) r.cut-contexts.ensures
 
-pub contexts-spec : {M : Type 1} → statement M
-contexts-spec =
+pub contexts_spec : {M : Type 1} → statement M
+contexts_spec =
     tie.close
     (tie.spec
     (λ c κs. search rules)

@@ -1,11 +1,11 @@
 use mathlib.Core.List.{[]}
 use native.Mathlib.Omega.{arith}
 use borrow.Author.Rules.{rules}
-use Rattle.meaning.specs.Maps.{glyphEntries}
+use Rattle.meaning.specs.Maps.{glyph_entries}
 use Rattle.meaning.specs.Cut.{cut}
-use Rattle.meaning.specs.Subset.{writtenIn}
-use Rattle.tried.specs.Front.{front_length, front-area}
-use Rattle.cut_sets.specs.Whole.{ligatureTable}
+use Rattle.meaning.specs.Subset.{written_in}
+use Rattle.tried.specs.Front.{front_length, front_area}
+use Rattle.cut_sets.specs.Whole.{ligature_table}
 use Rattle.by_glyph.proofs.ligatures.Statement.{statement}
 use Rattle.by_glyph.proofs.ligatures.Tie as tie
 
@@ -22,10 +22,10 @@ returns : tie.Need-returns
 returns c =
     let r = c.before.before.before.before.before.before in
     let a = c.before.before.before.before.before.before.before.before.before.before.before.before.before.before.before.before.args in
-    front-area a.area.now c.before.before.before.before.before.before.before.before.before.before.least.ensures _ r.cut-ligatures.result a.out.now _ (writtenIn a.marks.layout a.out.now (cut (glyphEntries a.marks.form a.glyphs.now) [] (ligatureTable a.src.now))) r.cut-ligatures.ensures
+    front_area a.area.now c.before.before.before.before.before.before.before.before.before.before.least.ensures _ r.cut_ligatures_lem.result a.out.now _ (written_in a.marks.layout a.out.now (cut (glyph_entries a.marks.form a.glyphs.now) [] (ligature_table a.src.now))) r.cut_ligatures_lem.ensures
 
-pub ligatures-spec : {M : Type 1} → statement M
-ligatures-spec =
+pub ligatures_spec : {M : Type 1} → statement M
+ligatures_spec =
     tie.close
     (tie.spec
     (λ c κs. search rules)

@@ -2,7 +2,7 @@ use mathlib.Core.Path.{◌∙◌}
 use Prim.Native.Nat.{◌+◌, ◌*◌}
 use native.Mathlib.Omega.{arith}
 use borrow.Author.Rules.{rules}
-use Rattle.cell_maps.proofs.RunLaws.{run_none, run_past, run-has}
+use Rattle.cell_maps.proofs.RunLaws.{run_none, run_past, run_has}
 use Rattle.cell_maps.proofs.run_entry.Statement.{statement}
 use Rattle.cell_maps.proofs.run_entry.Tie as tie
 
@@ -56,10 +56,10 @@ returns-3 : tie.Need-returns-3
 returns-3 c =
     let a = c.before.before.before.before.before.args in
     let near = c.before.if2.false in
-    (run-has a.t.now a.at a.k a.old c.before.before.before.if1.false near, omega (arith, near))
+    (run_has a.t.now a.at a.k a.old c.before.before.before.if1.false near, omega (arith, near))
 
-pub run-entry-spec : {M : Type 1} → statement M
-run-entry-spec =
+pub run_entry_spec : {M : Type 1} → statement M
+run_entry_spec =
     tie.close
     (tie.spec
     (λ c κs. search rules)

@@ -14,5 +14,5 @@ returns c = (refl, omega (arith, c.shared-slice-known.given c.before.before.args
 returns-2 : tie.Need-returns-2
 returns-2 c = (sym (get_or-eq_default c.before.args.t.now 0 c.if1.false), omega arith)
 
-pub cell-spec : {M : Type 1} → statement M
-cell-spec = tie.close (tie.spec (λ c. search rules) (λ c. search rules) cast-result returns returns-2)
+pub cell_spec : {M : Type 1} → statement M
+cell_spec = tie.close (tie.spec (λ c. search rules) (λ c. search rules) cast-result returns returns-2)

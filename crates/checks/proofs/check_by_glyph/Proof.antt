@@ -13,8 +13,8 @@ returns-2 c =
     let e = c.before.before in
     rw c.before.if1.false (rw (e.enough-sets.ensures, e.before.header.ensures.0) at c.check-header2.ensures)
 
-pub check-by-glyph-spec : {M : Type 1} → statement M
-check-by-glyph-spec =
+pub check_by_glyph_spec : {M : Type 1} → statement M
+check_by_glyph_spec =
     tie.close
     (tie.spec
     (λ c κs. search rules)

@@ -1,8 +1,8 @@
 use borrow.Author.Rules.{rules}
 use borrow.Author.Tests.{not-true, not-false}
-use Rattle.faults.specs.Fault.{faultOf, lower}
-use Rattle.meaning.specs.Fault.{lowest, faultThrough, coverageFault}
-use Rattle.check_parts.proofs.Laws.{chained-outside, chained-inside}
+use Rattle.faults.specs.Fault.{fault_of, lower}
+use Rattle.meaning.specs.Fault.{lowest, fault_through, coverage_fault}
+use Rattle.check_parts.proofs.Laws.{chained_outside, chained_inside}
 use mathlib.Core.Path.{sym, ap, ◌∙◌}
 use Prim.Native.Nat.{◌+◌, ◌*◌}
 use borrow.Author.Rules.{rules}
@@ -16,7 +16,7 @@ returns c =
     let w3 = w4.before in
     let w2 = w3.before in
     let w1 = w2.before in
-    sym (ap faultOf (chained-outside w1.before.before.args.src.now w1.word_at.ensures.0 w2.word-at2.ensures.0 w3.word-at3.ensures.0 w4.word-at4.ensures.0 (sym i.inside.ensures ∙ not-true _ c.if1.true)))
+    sym (ap fault_of (chained_outside w1.before.before.args.src.now w1.word_at.ensures.0 w2.word-at2.ensures.0 w3.word-at3.ensures.0 w4.word-at4.ensures.0 (sym i.inside.ensures ∙ not-true _ c.if1.true)))
 
 returns-2 : tie.Need-returns-2
 returns-2 c =
@@ -36,12 +36,12 @@ returns-2 c =
     let m = w2.word-at2.result in
     let ahead = input + 2 + 2 * m in
     let n = w3.word-at3.result in
-    let inner = lower (faultThrough (coverageFault s) s 0 (input + 2) m) (faultThrough (coverageFault s) s 0 (ahead + 2) n) k2.check-through2.ensures k3.check-through3.ensures l.lowest.ensures in
-    lower (faultThrough (coverageFault s) s 0 4 b) (lowest (faultThrough (coverageFault s) s 0 (input + 2) m) (faultThrough (coverageFault s) s 0 (ahead + 2) n)) k1.check-through.ensures inner c.lowest2.ensures
-    ∙ sym (ap faultOf (chained-inside s w1.word_at.ensures.0 w2.word-at2.ensures.0 w3.word-at3.ensures.0 w4.word-at4.ensures.0 (sym i.inside.ensures ∙ not-false _ t.if1.false)))
+    let inner = lower (fault_through (coverage_fault s) s 0 (input + 2) m) (fault_through (coverage_fault s) s 0 (ahead + 2) n) k2.check-through2.ensures k3.check-through3.ensures l.lowest.ensures in
+    lower (fault_through (coverage_fault s) s 0 4 b) (lowest (fault_through (coverage_fault s) s 0 (input + 2) m) (fault_through (coverage_fault s) s 0 (ahead + 2) n)) k1.check-through.ensures inner c.lowest2.ensures
+    ∙ sym (ap fault_of (chained_inside s w1.word_at.ensures.0 w2.word-at2.ensures.0 w3.word-at3.ensures.0 w4.word-at4.ensures.0 (sym i.inside.ensures ∙ not-false _ t.if1.false)))
 
-pub check-chained-covers-spec : {M : Type 1} → statement M
-check-chained-covers-spec =
+pub check_chained_covers_spec : {M : Type 1} → statement M
+check_chained_covers_spec =
     tie.close
     (tie.spec
     (λ c κs. search rules)

@@ -9,7 +9,7 @@ returns c = rw c.before.if1.true c.check-chained-covers.ensures
 returns-2 : tie.Need-returns-2
 returns-2 c = rw c.before.if1.false c.check-plain-covers.ensures
 
-pub check-covers-spec : {M : Type 1} → statement M
-check-covers-spec =
+pub check_covers_spec : {M : Type 1} → statement M
+check_covers_spec =
     tie.close
     (tie.spec (λ c κs. search rules) returns (λ c κs. search rules) returns-2)

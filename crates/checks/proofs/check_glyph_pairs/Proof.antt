@@ -6,5 +6,5 @@ use Rattle.checks.proofs.check_glyph_pairs.Tie as tie
 returns : tie.Need-returns
 returns c = rw c.before.pair-fields.ensures at c.check-header.ensures
 
-pub check-glyph-pairs-spec : {M : Type 1} → statement M
-check-glyph-pairs-spec = tie.close (tie.spec (λ c κs. search rules) (λ c κs. search rules) returns)
+pub check_glyph_pairs_spec : {M : Type 1} → statement M
+check_glyph_pairs_spec = tie.close (tie.spec (λ c κs. search rules) (λ c κs. search rules) returns)

@@ -8,6 +8,6 @@ returns c =
     let e = c.before in
     rw (e.enough-sets.ensures, e.before.header.ensures.0) at c.check-header.ensures
 
-pub check-ligatures-spec : {M : Type 1} → statement M
-check-ligatures-spec =
+pub check_ligatures_spec : {M : Type 1} → statement M
+check_ligatures_spec =
     tie.close (tie.spec (λ c κs. search rules) (λ c κs. search rules) (λ c κs. search rules) returns)

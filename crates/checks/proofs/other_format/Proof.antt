@@ -12,10 +12,10 @@ returns c = rw (refused c.before.inside.ensures c.if1.true)
 returns-2 : tie.Need-returns-2
 returns-2 c =
     let w = c.before in
-    rw (passed w.before.before.inside.ensures w.before.if1.false) (ap not (rw w.word_at.ensures.0 at c.has-format.ensures))
+    rw (passed w.before.before.inside.ensures w.before.if1.false) (ap not (rw w.word_at.ensures.0 at c.has_format_lem.ensures))
 
-pub other-format-spec : {M : Type 1} → statement M
-other-format-spec =
+pub other_format_spec : {M : Type 1} → statement M
+other_format_spec =
     tie.close
     (tie.spec
     (λ c κs. search rules)

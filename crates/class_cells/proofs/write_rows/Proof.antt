@@ -3,16 +3,16 @@ use mathlib.Core.Logic.{⊎_elim}
 use Prim.Native.Nat.{ℕ, ◌-◌, ◌*◌}
 use native.Mathlib.Omega.{arith}
 use lib.ListN.{length}
-use Rattle.numbers.specs.Entries.{entriesIn}
-use Rattle.numbers.proofs.Numbers.{cell-new, cell-gone}
+use Rattle.numbers.specs.Entries.{entries_in}
+use Rattle.numbers.proofs.Numbers.{cell_new, cell_gone}
 use Rattle.class_formats.proofs.Using.{mul_small}
-use Rattle.class_cells.proofs.Writing.{Rows, rows_all, rows_row, rows_inside, row-gone, row_kept, rows-full, rows-turn, rows_end, rows-silent}
+use Rattle.class_cells.proofs.Writing.{Rows, rows_all, rows_row, rows_inside, row_gone, row_kept, rows_full, rows_turn, rows_end, rows_silent}
 use borrow.Author.Rules.{rules}
 use Rattle.class_cells.proofs.write_rows.Statement.{statement}
 use Rattle.class_cells.proofs.write_rows.Tie as tie
 
 abbrev invariant-loop : tie.invariant-loop
-invariant-loop src size places t firsts seconds area₀ pos n row q₀ p₀ c₀ area q p c = Rows (entriesIn t firsts) (entriesIn t seconds) src size places n row area₀ pos area q p c
+invariant-loop src size places t firsts seconds area₀ pos n row q₀ p₀ c₀ area q p c = Rows (entries_in t firsts) (entries_in t seconds) src size places n row area₀ pos area q p c
 
 abbrev decreases-loop : tie.decreases-loop
 decreases-loop src size places t firsts seconds area₀ pos n row q₀ p₀ c₀ area q p c = n - c
@@ -20,7 +20,7 @@ decreases-loop src size places t firsts seconds area₀ pos n row q₀ p₀ c₀
 returns : tie.Need-returns invariant-loop decreases-loop
 returns c =
     let a = c.before.before.before.before.before in
-    rows-silent (entriesIn a.args.t.now a.args.firsts) (entriesIn a.args.t.now a.args.seconds) a.args.src.now a.args.size a.args.places.now c.if1.true a.requires.4
+    rows_silent (entries_in a.args.t.now a.args.firsts) (entries_in a.args.t.now a.args.seconds) a.args.src.now a.args.size a.args.places.now c.if1.true a.requires.4
 
 word-inside-requires : tie.Need-word-inside-requires invariant-loop decreases-loop
 word-inside-requires c κs = omega (arith, c.before.before.before.before.before.requires.0.header)
@@ -57,8 +57,8 @@ returns-2 c =
     let h = f.before.loop-test.true in
     let a = l.before.before.before.before.before.before.before.before in
     ⊎_elim
-    (λ v. rw (v.6, v.7) (rows-full l.loop.invariant h (row_kept l.loop.invariant h (cell-new a.requires.2 f.find.ensures v.1.given.1) v.3.ensures) (rw (v.6, v.7) at c.if2.true)))
-    (λ v. rw (v.2, v.3) (rows-full l.loop.invariant h (row-gone l.loop.invariant h (cell-gone a.requires.2 f.find.ensures v.1.given.1)) (rw (v.2, v.3) at c.if2.true)))
+    (λ v. rw (v.6, v.7) (rows_full l.loop.invariant h (row_kept l.loop.invariant h (cell_new a.requires.2 f.find.ensures v.1.given.1) v.3.ensures) (rw (v.6, v.7) at c.if2.true)))
+    (λ v. rw (v.2, v.3) (rows_full l.loop.invariant h (row_gone l.loop.invariant h (cell_gone a.requires.2 f.find.ensures v.1.given.1)) (rw (v.2, v.3) at c.if2.true)))
     c.before.match.branch
 
 add-p : tie.Need-overflow-add-p invariant-loop decreases-loop
@@ -71,8 +71,8 @@ loop-again c =
     let h = f.before.loop-test.true in
     let a = l.before.before.before.before.before.before.before.before in
     ⊎_elim
-    (λ v. rw (v.6, v.7) (rows-turn l.loop.invariant h (row_kept l.loop.invariant h (cell-new a.requires.2 f.find.ensures v.1.given.1) v.3.ensures) (rw (v.6, v.7) at c.if2.false)))
-    (λ v. rw (v.2, v.3) (rows-turn l.loop.invariant h (row-gone l.loop.invariant h (cell-gone a.requires.2 f.find.ensures v.1.given.1)) (rw (v.2, v.3) at c.if2.false)))
+    (λ v. rw (v.6, v.7) (rows_turn l.loop.invariant h (row_kept l.loop.invariant h (cell_new a.requires.2 f.find.ensures v.1.given.1) v.3.ensures) (rw (v.6, v.7) at c.if2.false)))
+    (λ v. rw (v.2, v.3) (rows_turn l.loop.invariant h (row_gone l.loop.invariant h (cell_gone a.requires.2 f.find.ensures v.1.given.1)) (rw (v.2, v.3) at c.if2.false)))
     c.before.match.branch
 
 same-length-2 : tie.Need-same-length-2 invariant-loop decreases-loop
@@ -81,8 +81,8 @@ same-length-2 c = c.before.loop.invariant.same
 returns-3 : tie.Need-returns-3 invariant-loop decreases-loop
 returns-3 c = rows_end c.before.loop.invariant c.loop-test.false
 
-pub write-rows-spec : {M : Type 1} → statement M
-write-rows-spec =
+pub write_rows_spec : {M : Type 1} → statement M
+write_rows_spec =
     tie.close
     (tie.spec
     invariant-loop

@@ -1,8 +1,8 @@
-use Rattle.tried.specs.Front.{front_length, front-tries}
-use Rattle.meaning.specs.Maps.{mapEntries, glyphEntries}
-use Rattle.meaning.specs.Tables.{classContext}
+use Rattle.tried.specs.Front.{front_length, front_tries}
+use Rattle.meaning.specs.Maps.{map_entries, glyph_entries}
+use Rattle.meaning.specs.Tables.{class_context}
 use Rattle.meaning.specs.Cut.{cut}
-use Rattle.meaning.specs.Subset.{writtenIn}
+use Rattle.meaning.specs.Subset.{written_in}
 use native.Mathlib.Omega.{arith}
 use borrow.Author.Rules.{rules}
 use Rattle.class_contexts.proofs.by_class.Statement.{statement}
@@ -24,11 +24,11 @@ cut-in-requires c κs = let a = c.before.before.before.before.before.before.befo
 returns : tie.Need-returns
 returns c = let r = c.before.before.before.before.before.before in
     let a = c.before.before.before.before.before.before.before.before.before.before.before.before.before.before.before.before.before.before.args in
-    front-tries a.t.now a.area.now r.cut_in.result a.out.now r.cut_in.new.1.1.1.1.1.1.1.0 (writtenIn a.marks.layout a.out.now (cut (glyphEntries a.marks.form a.glyphs.now) (mapEntries a.lookups.now) (classContext a.chained a.src.now)))
+    front_tries a.t.now a.area.now r.cut_in.result a.out.now r.cut_in.new.1.1.1.1.1.1.1.0 (written_in a.marks.layout a.out.now (cut (glyph_entries a.marks.form a.glyphs.now) (map_entries a.lookups.now) (class_context a.chained a.src.now)))
     c.before.before.before.before.before.before.before.before.before.before.before.least.ensures c.before.before.before.before.before.before.before.before.before.before.least2.ensures r.cut_in.ensures
 
-pub by-class-spec : {M : Type 1} → statement M
-by-class-spec =
+pub by_class_spec : {M : Type 1} → statement M
+by_class_spec =
     tie.close
     (tie.spec
     (λ c κs. search rules)

@@ -13,7 +13,7 @@ returns-2 c =
       enough = λ l. absurd (omega (arith, c.before.before.before.if1.false));
     }
 
-pub notes-at-spec : {M : Type 1} → statement M
-notes-at-spec =
+pub notes_at_spec : {M : Type 1} → statement M
+notes_at_spec =
     tie.close
     (tie.spec (λ c. search rules) (λ c. search rules) (λ c κs. search rules) (λ c κs. search rules) (λ c κs. search rules) returns-2)

@@ -9,5 +9,5 @@ returns c = rw c.if1.true (refl, omega arith, omega arith)
 returns-2 : tie.Need-returns-2
 returns-2 c = rw c.if1.false (refl, omega arith, omega arith)
 
-pub first-slot-spec : {M : Type 1} → statement M
-first-slot-spec = tie.close (tie.spec returns returns-2)
+pub first_slot_spec : {M : Type 1} → statement M
+first_slot_spec = tie.close (tie.spec returns returns-2)

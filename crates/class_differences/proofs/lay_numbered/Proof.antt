@@ -1,4 +1,4 @@
-use Rattle.listing.specs.Laid.{laid-short, laid-listed}
+use Rattle.listing.specs.Laid.{laid_short, laid_listed}
 use native.Mathlib.Omega.{arith}
 use borrow.Author.Rules.{rules}
 use Rattle.class_differences.proofs.lay_numbered.Statement.{statement}
@@ -7,7 +7,7 @@ use Rattle.class_differences.proofs.lay_numbered.Tie as tie
 returns : tie.Need-returns
 returns c =
     let l = c.before.before.before.before.before.before.before.before.list-numbered.ensures in
-    (laid-short l.0 c.if1.true, l.1)
+    (laid_short l.0 c.if1.true, l.1)
 
 list-numbered-requires-2 : tie.Need-list-numbered-requires-2
 list-numbered-requires-2 c κs =
@@ -19,10 +19,10 @@ returns-2 : tie.Need-returns-2
 returns-2 c =
     let w = c.before.before.before.before.before.before.before.before in
     let i = w.before.before.before.before.before in
-    (laid-listed i.before.before.before.before.before.before.before.before.list-numbered.ensures.0 i.if1.false w.list-numbered2.ensures.0, w.list-numbered2.ensures.1)
+    (laid_listed i.before.before.before.before.before.before.before.before.list-numbered.ensures.0 i.if1.false w.list-numbered2.ensures.0, w.list-numbered2.ensures.1)
 
-pub lay-numbered-spec : {M : Type 1} → statement M
-lay-numbered-spec =
+pub lay_numbered_spec : {M : Type 1} → statement M
+lay_numbered_spec =
     tie.close
     (tie.spec
     (λ c. search rules)

@@ -1,4 +1,4 @@
-use Rattle.class_differences.proofs.Glyphs.{class-right, class-left, class-both}
+use Rattle.class_differences.proofs.Glyphs.{class_right, class_left, class_both}
 use borrow.Author.Rules.{rules}
 use Rattle.class_differences.proofs.list_glyph.Statement.{statement}
 use Rattle.class_differences.proofs.list_glyph.Tie as tie
@@ -25,7 +25,7 @@ returns c =
     let f = m.before.before in
     let o = f.before.before.before.before.before.before.before.before in
     let a = o.args in
-    let x = class-right a.at.chained a.num.now a.left.now a.right.now a.at.glyph f.cover-index.ensures m.enum-told2.given.1 l.List-right.ensures in
+    let x = class_right a.at.chained a.num.now a.left.now a.right.now a.at.glyph f.cover-index.ensures m.enum-told2.given.1 l.List-right.ensures in
     (x.0, x.1, o.requires.5)
 
 cover-index-requires-2 : tie.Need-cover-index-requires-2
@@ -52,7 +52,7 @@ returns-2 c =
     let e = i.before.before in
     let o = e.before.before.before.before.before.before.before.before in
     let a = o.args in
-    let x = class-left a.at.chained a.num.now a.left.now a.right.now a.at.glyph e.cover-index.ensures i.enum_told.given.1 f.cover-index2.ensures m.enum-told4.given.1 l.put-listed.ensures in
+    let x = class_left a.at.chained a.num.now a.left.now a.right.now a.at.glyph e.cover-index.ensures i.enum_told.given.1 f.cover-index2.ensures m.enum-told4.given.1 l.put-listed.ensures in
     (x.0, x.1, o.requires.5)
 
 set-of-requires : tie.Need-set-of-requires
@@ -85,10 +85,10 @@ returns-3 c =
     let i = c.before.before.before.before.before.before.before.before.before.before.before.before.before.before.before.before.before.before in
     let e = c.before.before.before.before.before.before.before.before.before.before.before.before.before.before.before.before.before.before.before.before in
     let a = c.before.before.before.before.before.before.before.before.before.before.before.before.before.before.before.before.before.before.before.before.before.before.before.before.before.before.before.before.args in
-    (class-both a.at.chained a.num.now a.left.now a.right.now a.at.glyph e.cover-index.ensures i.enum_told.given.1 f.cover-index2.ensures j.enum-told3.given.1 w.before.set-of.ensures.0 w.set-of2.ensures.0 l.0, l.1, l.2)
+    (class_both a.at.chained a.num.now a.left.now a.right.now a.at.glyph e.cover-index.ensures i.enum_told.given.1 f.cover-index2.ensures j.enum-told3.given.1 w.before.set-of.ensures.0 w.set-of2.ensures.0 l.0, l.1, l.2)
 
-pub list-glyph-spec : {M : Type 1} → statement M
-list-glyph-spec =
+pub list_glyph_spec : {M : Type 1} → statement M
+list_glyph_spec =
     tie.close
     (tie.spec
     cover-index-requires

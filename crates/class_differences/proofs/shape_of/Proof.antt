@@ -7,5 +7,5 @@ returns c = rw c.if1.true
 returns-2 : tie.Need-returns-2
 returns-2 c = rw c.if1.false
 
-pub shape-of-spec : {M : Type 1} → statement M
-shape-of-spec = tie.close (tie.spec returns returns-2)
+pub shape_of_spec : {M : Type 1} → statement M
+shape_of_spec = tie.close (tie.spec returns returns-2)

@@ -1,5 +1,5 @@
 use borrow.Author.Rules.{rules}
-use Rattle.class_entries.proofs.Entering.{reads_none, reads-new}
+use Rattle.class_entries.proofs.Entering.{reads_none, reads_new}
 use Rattle.class_entries.proofs.new_class.Statement.{statement}
 use Rattle.class_entries.proofs.new_class.Tie as tie
 
@@ -11,7 +11,7 @@ returns c =
 returns-2 : tie.Need-returns-2
 returns-2 c =
     let a = c.before.before.before.args in
-    reads-new a.t.now a.m c.before.entry.ensures.0 c.if1.false
+    reads_new a.t.now a.m c.before.entry.ensures.0 c.if1.false
 
-pub new-class-spec : {M : Type 1} → statement M
-new-class-spec = tie.close (tie.spec (λ c κs. search rules) returns returns-2)
+pub new_class_spec : {M : Type 1} → statement M
+new_class_spec = tie.close (tie.spec (λ c κs. search rules) returns returns-2)

@@ -1,5 +1,5 @@
 use Rattle.meaning.specs.Words.{is_some}
-use Rattle.numbers.proofs.Numbers.{cell-new, cell-gone}
+use Rattle.numbers.proofs.Numbers.{cell_new, cell_gone}
 use borrow.Author.Rules.{rules}
 use Rattle.class_formats.proofs.kept_row_uses.Statement.{statement}
 use Rattle.class_formats.proofs.kept_row_uses.Tie as tie
@@ -14,11 +14,11 @@ row-uses-requires c κs =
 
 returns : tie.Need-returns
 unfolding is_some
-returns c = rw (cell-new c.before.before.before.before.before.before.requires.2 c.before.before.before.find.ensures c.before.enum_told.given.1) c.row-uses.ensures
+returns c = rw (cell_new c.before.before.before.before.before.before.requires.2 c.before.before.before.find.ensures c.before.enum_told.given.1) c.row-uses.ensures
 
 returns-2 : tie.Need-returns-2
 unfolding is_some
-returns-2 c = rw (cell-gone c.before.before.before.before.before.requires.2 c.before.before.find.ensures c.enum-told2.given.1)
+returns-2 c = rw (cell_gone c.before.before.before.before.before.requires.2 c.before.before.find.ensures c.enum-told2.given.1)
 
-pub kept-row-uses-spec : {M : Type 1} → statement M
-kept-row-uses-spec = tie.close (tie.spec find-requires (λ c. search rules) row-uses-requires (λ c. search rules) returns returns-2)
+pub kept_row_uses_spec : {M : Type 1} → statement M
+kept_row_uses_spec = tie.close (tie.spec find-requires (λ c. search rules) row-uses-requires (λ c. search rules) returns returns-2)

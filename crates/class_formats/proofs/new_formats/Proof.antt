@@ -1,6 +1,6 @@
 use native.Mathlib.Omega.{arith}
-use Rattle.numbers.specs.Entries.{entriesIn}
-use Rattle.class_formats.proofs.Using.{has-sized, formats-new}
+use Rattle.numbers.specs.Entries.{entries_in}
+use Rattle.class_formats.proofs.Using.{has_sized, formats_new}
 use borrow.Author.Rules.{rules}
 use Rattle.class_formats.proofs.new_formats.Statement.{statement}
 use Rattle.class_formats.proofs.new_formats.Tie as tie
@@ -17,7 +17,7 @@ new-format-requires c κs =
     let w = k.before in
     let v = w.before in
     let a = v.before.before.before in
-    (has-sized a.args.src.now v.word-inside.ensures.0 w.word-inside2.ensures.0 k.field-count.ensures.0 c.field-count2.ensures.0 a.requires.has, omega arith, omega (arith, k.field-count.ensures.0), a.requires.first-map, a.requires.second-map)
+    (has_sized a.args.src.now v.word-inside.ensures.0 w.word-inside2.ensures.0 k.field-count.ensures.0 c.field-count2.ensures.0 a.requires.has, omega arith, omega (arith, k.field-count.ensures.0), a.requires.first_map, a.requires.second_map_lem)
 
 new-format-requires-2 : tie.Need-new-format-requires-2
 new-format-requires-2 c κs =
@@ -26,7 +26,7 @@ new-format-requires-2 c κs =
     let w = k.before in
     let v = w.before in
     let a = v.before.before.before in
-    (has-sized a.args.src.now v.word-inside.ensures.0 w.word-inside2.ensures.0 k.field-count.ensures.0 l.field-count2.ensures.0 a.requires.has, omega (arith, k.field-count.ensures.1), omega (arith, l.field-count2.ensures.0), a.requires.first-map, a.requires.second-map)
+    (has_sized a.args.src.now v.word-inside.ensures.0 w.word-inside2.ensures.0 k.field-count.ensures.0 l.field-count2.ensures.0 a.requires.has, omega (arith, k.field-count.ensures.1), omega (arith, l.field-count2.ensures.0), a.requires.first_map, a.requires.second_map_lem)
 
 returns : tie.Need-returns
 returns c =
@@ -37,10 +37,10 @@ returns c =
     let w = k.before in
     let v = w.before in
     let a = v.before.before.before.args in
-    formats-new a.src.now v.word-inside.ensures.0 w.word-inside2.ensures.0 k.field-count.ensures.0 l.field-count2.ensures.0 (entriesIn a.t.now a.firsts) (entriesIn a.t.now a.seconds) n.new-format.ensures m.new-format2.ensures c.stand-in.ensures
+    formats_new a.src.now v.word-inside.ensures.0 w.word-inside2.ensures.0 k.field-count.ensures.0 l.field-count2.ensures.0 (entries_in a.t.now a.firsts) (entries_in a.t.now a.seconds) n.new-format.ensures m.new-format2.ensures c.stand-in.ensures
 
-pub new-formats-spec : {M : Type 1} → statement M
-new-formats-spec =
+pub new_formats_spec : {M : Type 1} → statement M
+new_formats_spec =
     tie.close
     (tie.spec
     word-inside-requires

@@ -1,14 +1,14 @@
 use mathlib.Core.Path.{ap}
 use Prim.Native.Nat.{ℕ, ◌-◌, ◌*◌}
 use native.Mathlib.Omega.{arith}
-use Rattle.numbers.specs.Entries.{entriesIn}
-use Rattle.class_formats.proofs.Using.{UsingRows, mul_small, rows_all, rows_row, rows_inside, rows-found, rows_next, rows_end, unused}
+use Rattle.numbers.specs.Entries.{entries_in}
+use Rattle.class_formats.proofs.Using.{UsingRows, mul_small, rows_all, rows_row, rows_inside, rows_found, rows_next, rows_end, unused}
 use borrow.Author.Rules.{rules}
 use Rattle.class_formats.proofs.uses.Statement.{statement}
 use Rattle.class_formats.proofs.uses.Tie as tie
 
 abbrev invariant-rows : tie.invariant-rows
-invariant-rows src size place t firsts seconds n row p₀ c₀ p c = UsingRows (entriesIn t firsts) (entriesIn t seconds) src size place n row p c
+invariant-rows src size place t firsts seconds n row p₀ c₀ p c = UsingRows (entries_in t firsts) (entries_in t seconds) src size place n row p c
 
 abbrev decreases-rows : tie.decreases-rows
 decreases-rows src size place t firsts seconds n row p₀ c₀ p c = n - c
@@ -34,7 +34,7 @@ kept-row-uses-requires c κs =
     (rows_inside c.before.rows.invariant c.rows-test.true a.requires.0.header, a.requires.1, a.requires.2, a.requires.3)
 
 returns-2 : tie.Need-returns-2 invariant-rows decreases-rows
-returns-2 c = rows-found c.before.before.before.rows.invariant c.before.before.rows-test.true c.before.kept-row-uses.ensures c.if2.true
+returns-2 c = rows_found c.before.before.before.rows.invariant c.before.before.rows-test.true c.before.kept-row-uses.ensures c.if2.true
 
 add-p : tie.Need-overflow-add-p invariant-rows decreases-rows
 add-p c = omega (arith, rows_row c.before.before.before.rows.invariant c.before.before.rows-test.true)
@@ -45,8 +45,8 @@ rows-again c = rows_next c.before.before.before.rows.invariant c.before.before.r
 returns-3 : tie.Need-returns-3 invariant-rows decreases-rows
 returns-3 c = rows_end c.before.rows.invariant c.rows-test.false
 
-pub uses-spec : {M : Type 1} → statement M
-uses-spec =
+pub uses_spec : {M : Type 1} → statement M
+uses_spec =
     tie.close
     (tie.spec
     invariant-rows

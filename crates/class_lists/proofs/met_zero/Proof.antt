@@ -6,5 +6,5 @@ returns-2 : tie.Need-returns-2
 returns-2 c =
     rw c.if1.false
 
-pub met-zero-spec : {M : Type 1} → statement M
-met-zero-spec = tie.close (tie.spec (λ c. search rules) returns-2)
+pub met_zero_spec : {M : Type 1} → statement M
+met_zero_spec = tie.close (tie.spec (λ c. search rules) returns-2)

@@ -1,4 +1,4 @@
-use Rattle.class_lists.proofs.Listing.{Putting, put-none, putting-all, putting-inside, putting-next, putting-end}
+use Rattle.class_lists.proofs.Listing.{Putting, put_none, putting_all, putting_inside, putting_next, putting_end}
 use borrow.Author.Rules.{rules}
 use mathlib.Core.Path.{◌≡◌, refl}
 use Prim.Native.Nat.{◌+◌, ◌-◌}
@@ -12,25 +12,25 @@ abbrev decreases-loop : tie.decreases-loop
 decreases-loop t₀ cell new n class past i₀ t i = n - i
 
 returns : tie.Need-returns invariant-loop decreases-loop
-returns c = put-none c.if1.true
+returns c = put_none c.if1.true
 
 loop-holds : tie.Need-loop-init invariant-loop decreases-loop
-loop-holds c = (refl, putting-all c.if1.false)
+loop-holds c = (refl, putting_all c.if1.false)
 
 slice-write-t : tie.Need-slice-write-t invariant-loop decreases-loop
-slice-write-t c = putting-inside c.before.loop.invariant.1 c.loop-test.true
+slice-write-t c = putting_inside c.before.loop.invariant.1 c.loop-test.true
 
 loop-again : tie.Need-loop-preserved invariant-loop decreases-loop
-loop-again c = (c.before.loop.invariant.0, putting-next c.before.loop.invariant.1 c.loop-test.true c.before.before.before.requires.2)
+loop-again c = (c.before.loop.invariant.0, putting_next c.before.loop.invariant.1 c.loop-test.true c.before.before.before.requires.2)
 
 same_length : tie.Need-same-length invariant-loop decreases-loop
 same_length c = c.before.loop.invariant.1.kept.size
 
 returns-2 : tie.Need-returns-2 invariant-loop decreases-loop
-returns-2 c = rw c.before.loop.invariant.0 (putting-end c.before.loop.invariant.1 c.loop-test.false)
+returns-2 c = rw c.before.loop.invariant.0 (putting_end c.before.loop.invariant.1 c.loop-test.false)
 
-pub put-run-spec : {M : Type 1} → statement M
-put-run-spec =
+pub put_run_spec : {M : Type 1} → statement M
+put_run_spec =
     tie.close
     (tie.spec
     invariant-loop

@@ -1,12 +1,12 @@
-use Rattle.ranked_maps.specs.Present.{top-even, top-odd}
+use Rattle.ranked_maps.specs.Present.{top_even, top_odd}
 use Rattle.class_maps.proofs.top.Statement.{statement}
 use Rattle.class_maps.proofs.top.Tie as tie
 
 returns : tie.Need-returns
-returns c = top-even c.before.before.args.m c.if1.true
+returns c = top_even c.before.before.args.m c.if1.true
 
 returns-2 : tie.Need-returns-2
-returns-2 c = top-odd c.before.before.args.m c.if1.false
+returns-2 c = top_odd c.before.before.args.m c.if1.false
 
-pub top-spec : {M : Type 1} → statement M
-top-spec = tie.close (tie.spec returns returns-2)
+pub top_spec : {M : Type 1} → statement M
+top_spec = tie.close (tie.spec returns returns-2)

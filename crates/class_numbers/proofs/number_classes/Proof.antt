@@ -1,6 +1,6 @@
 use native.Mathlib.Omega.{arith}
 use Rattle.class_stretches.specs.Tables.{table_at}
-use Rattle.class_strays.proofs.Walking.{lowest-both, numbered-both}
+use Rattle.class_strays.proofs.Walking.{lowest_both, numbered_both}
 use borrow.Author.Rules.{rules}
 use Rattle.class_numbers.proofs.number_classes.Statement.{statement}
 use Rattle.class_numbers.proofs.number_classes.Tie as tie
@@ -12,7 +12,7 @@ mark-strays-requires c κs =
     let o = l.before.before.before.before.before in
     let p = o.requires in
     let a = o.args in
-    (p.0, p.1, omega (arith, p.2, l.put_lowest.ensures.elsewhere.size, r.put-lowest2.ensures.elsewhere.size), lowest-both (table_at a.left.now a.at) (table_at a.right.now a.to) l.put_lowest.ensures r.put-lowest2.ensures)
+    (p.0, p.1, omega (arith, p.2, l.put_lowest.ensures.elsewhere.size, r.put-lowest2.ensures.elsewhere.size), lowest_both (table_at a.left.now a.at) (table_at a.right.now a.to) l.put_lowest.ensures r.put-lowest2.ensures)
 
 returns : tie.Need-returns
 returns c =
@@ -20,10 +20,10 @@ returns c =
     let r = s.before.before.before.before in
     let l = r.before.before.before.before in
     let a = l.before.before.before.before.before.args in
-    numbered-both (table_at a.left.now a.at) (table_at a.right.now a.to) l.put_lowest.ensures r.put-lowest2.ensures s.mark-strays.ensures
+    numbered_both (table_at a.left.now a.at) (table_at a.right.now a.to) l.put_lowest.ensures r.put-lowest2.ensures s.mark-strays.ensures
 
-pub number-classes-spec : {M : Type 1} → statement M
-number-classes-spec =
+pub number_classes_spec : {M : Type 1} → statement M
+number_classes_spec =
     tie.close
     (tie.spec
     (λ c κs. search rules)

@@ -5,5 +5,5 @@ use Rattle.class_ranks.proofs.mark_zero.Tie as tie
 returns : tie.Need-returns
 returns c = rw c.if1.true
 
-pub mark-zero-spec : {M : Type 1} → statement M
-mark-zero-spec = tie.close (tie.spec (λ c. search rules) (λ c. search rules) (λ c. search rules) returns (λ c. search rules))
+pub mark_zero_spec : {M : Type 1} → statement M
+mark_zero_spec = tie.close (tie.spec (λ c. search rules) (λ c. search rules) (λ c. search rules) returns (λ c. search rules))

@@ -1,7 +1,7 @@
 use Prim.Native.Nat.{◌+◌, ◌-◌}
 use mathlib.Core.Logic.{⊎_elim}
 use native.Mathlib.Omega.{arith}
-use Rattle.ranked_maps.proofs.Marking.{Ranking, ranking-all, ranking-inside, ranking-one, ranking-none, ranking-end}
+use Rattle.ranked_maps.proofs.Marking.{Ranking, ranking_all, ranking_inside, ranking_one, ranking_none, ranking_end}
 use borrow.Author.Rules.{rules}
 use Rattle.class_ranks.proofs.rank.Statement.{statement}
 use Rattle.class_ranks.proofs.rank.Tie as tie
@@ -16,16 +16,16 @@ add-end : tie.Need-overflow-add-end invariant-loop decreases-loop
 add-end c = omega (arith, c.before.requires.few)
 
 loop-holds : tie.Need-loop-init invariant-loop decreases-loop
-loop-holds c = ranking-all c.before.requires
+loop-holds c = ranking_all c.before.requires
 
 add-cell : tie.Need-overflow-add-cell invariant-loop decreases-loop
-add-cell c = let i = c.before.before.loop.invariant in omega (arith, ranking-inside i c.before.loop-test.true, i.elsewhere.size, c.before.before.before.before.well-formed)
+add-cell c = let i = c.before.before.loop.invariant in omega (arith, ranking_inside i c.before.loop-test.true, i.elsewhere.size, c.before.before.before.before.well-formed)
 
 mul-if1 : tie.Need-overflow-mul-if1 invariant-loop decreases-loop
-mul-if1 c = let i = c.before.before.loop.invariant in omega (arith, ranking-inside i c.before.loop-test.true, i.elsewhere.size, c.before.before.before.before.well-formed)
+mul-if1 c = let i = c.before.before.loop.invariant in omega (arith, ranking_inside i c.before.loop-test.true, i.elsewhere.size, c.before.before.before.before.well-formed)
 
 slice-read-if1 : tie.Need-slice-read-if1 invariant-loop decreases-loop
-slice-read-if1 c = ranking-inside c.before.before.before.loop.invariant c.before.before.loop-test.true
+slice-read-if1 c = ranking_inside c.before.before.before.loop.invariant c.before.before.loop-test.true
 
 cast-if1 : tie.Need-overflow-cast-if1 invariant-loop decreases-loop
 cast-if1 c = let l = c.before.before.before in omega (arith, c.slice-known.given (l.before.before.args.m.at + l.loop.class))
@@ -40,10 +40,10 @@ cast_t : tie.Need-overflow-cast-t invariant-loop decreases-loop
 cast_t c = let i = c.before.before.before.before.loop.invariant in omega (arith, c.before.before.before.loop-test.true, i.direct.few, i.near)
 
 mul-t-2 : tie.Need-overflow-mul-t-2 invariant-loop decreases-loop
-mul-t-2 c = let i = c.before.before.before.before.loop.invariant in omega (arith, ranking-inside i c.before.before.before.loop-test.true, i.elsewhere.size, c.before.before.before.before.before.before.well-formed)
+mul-t-2 c = let i = c.before.before.before.before.loop.invariant in omega (arith, ranking_inside i c.before.before.before.loop-test.true, i.elsewhere.size, c.before.before.before.before.before.before.well-formed)
 
 slice-write-t : tie.Need-slice-write-t invariant-loop decreases-loop
-slice-write-t c = ranking-inside c.before.before.before.before.loop.invariant c.before.before.before.loop-test.true
+slice-write-t c = ranking_inside c.before.before.before.before.loop.invariant c.before.before.before.loop-test.true
 
 add-count : tie.Need-overflow-add-count invariant-loop decreases-loop
 add-count c = let i = c.before.before.before.before.loop.invariant in omega (arith, c.before.before.before.loop-test.true, i.direct.few, i.near)
@@ -52,18 +52,18 @@ loop-again : tie.Need-loop-preserved invariant-loop decreases-loop
 loop-again c =
     let l = c.before.before.before in
     ⊎_elim
-    (λ w. rw (w.1, w.2) (ranking-one l.before.loop.invariant l.loop-test.true w.0.taken))
-    (λ w. rw (w.1, w.2) (ranking-none l.before.loop.invariant l.loop-test.true w.0.left))
+    (λ w. rw (w.1, w.2) (ranking_one l.before.loop.invariant l.loop-test.true w.0.taken))
+    (λ w. rw (w.1, w.2) (ranking_none l.before.loop.invariant l.loop-test.true w.0.left))
     c.if1.branch
 
 same_length : tie.Need-same-length invariant-loop decreases-loop
 same_length c = c.before.loop.invariant.elsewhere.size
 
 returns : tie.Need-returns invariant-loop decreases-loop
-returns c = ranking-end c.before.loop.invariant c.loop-test.false
+returns c = ranking_end c.before.loop.invariant c.loop-test.false
 
-pub rank-spec : {M : Type 1} → statement M
-rank-spec =
+pub rank_spec : {M : Type 1} → statement M
+rank_spec =
     tie.close
     (tie.spec
     invariant-loop

@@ -1,10 +1,10 @@
 use borrow.Author.Rules.{rules}
-use Rattle.class_spots.proofs.Settling.{settled-null, settled-there}
+use Rattle.class_spots.proofs.Settling.{settled_null, settled_there}
 use Rattle.class_slots.proofs.offset_of.Statement.{statement}
 use Rattle.class_slots.proofs.offset_of.Tie as tie
 
 returns : tie.Need-returns
-returns c = settled-null c.before.args.p c.if1.true
+returns c = settled_null c.before.args.p c.if1.true
 
 sub-result : tie.Need-overflow-sub-result
 sub-result c = search rules
@@ -16,7 +16,7 @@ add-result : tie.Need-overflow-add-result
 add-result c = search rules
 
 returns-2 : tie.Need-returns-2
-returns-2 c = settled-there c.before.args.p c.if1.false
+returns-2 c = settled_there c.before.args.p c.if1.false
 
-pub offset-of-spec : {M : Type 1} → statement M
-offset-of-spec = tie.close (tie.spec returns sub-result mul-result add-result returns-2)
+pub offset_of_spec : {M : Type 1} → statement M
+offset_of_spec = tie.close (tie.spec returns sub-result mul-result add-result returns-2)

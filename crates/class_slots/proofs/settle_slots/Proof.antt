@@ -3,7 +3,7 @@ use Prim.Native.Nat.{◌-◌}
 use lib.ListN.{length}
 use lib.Seq.{length-sets}
 use borrow.Author.Rules.{rules}
-use Rattle.class_spots.proofs.Settling.{Settling, settling-all, settling-turn, settling-end}
+use Rattle.class_spots.proofs.Settling.{Settling, settling_all, settling_turn, settling_end}
 use Rattle.class_slots.proofs.settle_slots.Statement.{statement}
 use Rattle.class_slots.proofs.settle_slots.Tie as tie
 
@@ -14,7 +14,7 @@ abbrev decreases-loop : tie.decreases-loop
 decreases-loop area₀ at n p i₀ area i = n - i
 
 loop-holds : tie.Need-loop-init invariant-loop decreases-loop
-loop-holds c = settling-all
+loop-holds c = settling_all
 
 mul-slot : tie.Need-overflow-mul-slot invariant-loop decreases-loop
 mul-slot c = search rules
@@ -43,16 +43,16 @@ loop-again c =
     let o = p.before.before in
     let w = o.before in
     let l = w.before.before in
-    settling-turn l.before.loop.invariant l.loop-test.true refl w.word-inside.ensures.0 o.offset-of.ensures p.put.ensures
+    settling_turn l.before.loop.invariant l.loop-test.true refl w.word-inside.ensures.0 o.offset-of.ensures p.put.ensures
 
 same_length : tie.Need-same-length invariant-loop decreases-loop
-same_length c = ap length (settling-end c.before.loop.invariant c.loop-test.false) ∙ simp length-sets
+same_length c = ap length (settling_end c.before.loop.invariant c.loop-test.false) ∙ simp length-sets
 
 returns : tie.Need-returns invariant-loop decreases-loop
-returns c = settling-end c.before.loop.invariant c.loop-test.false
+returns c = settling_end c.before.loop.invariant c.loop-test.false
 
-pub settle-slots-spec : {M : Type 1} → statement M
-settle-slots-spec =
+pub settle_slots_spec : {M : Type 1} → statement M
+settle_slots_spec =
     tie.close
     (tie.spec
     invariant-loop

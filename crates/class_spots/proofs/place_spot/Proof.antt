@@ -1,6 +1,6 @@
 use native.Mathlib.Omega.{arith}
 use borrow.Author.Rules.{rules}
-use Rattle.class_spots.proofs.Placing.{spot-least, spot-far, spot-near}
+use Rattle.class_spots.proofs.Placing.{spot_least, spot_far, spot_near}
 use Rattle.class_spots.proofs.place_spot.Statement.{statement}
 use Rattle.class_spots.proofs.place_spot.Tie as tie
 
@@ -20,10 +20,10 @@ same-length-2 : tie.Need-same-length-2
 same-length-2 c = search rules
 
 returns : tie.Need-returns
-returns c = spot-far c.before.before.before.before.before.before.before.before.before.before.before.requires c.before.before.before.before.before.before.settle.ensures c.before.before.if1.true c.over.ensures
+returns c = spot_far c.before.before.before.before.before.before.before.before.before.before.before.requires c.before.before.before.before.before.before.settle.ensures c.before.before.if1.true c.over.ensures
 
 sub-put : tie.Need-overflow-sub-put
-sub-put c = omega (arith, spot-least c.before.before.before.before.before.before.before.before.before.before.before.before.requires c.before.before.before.before.before.before.before.settle.ensures c.before.before.before.if1.false)
+sub-put c = omega (arith, spot_least c.before.before.before.before.before.before.before.before.before.before.before.before.requires c.before.before.before.before.before.before.before.settle.ensures c.before.before.before.if1.false)
 
 add-put : tie.Need-overflow-add-put
 add-put c = search rules
@@ -38,10 +38,10 @@ same-length-4 : tie.Need-same-length-4
 same-length-4 c = search rules
 
 returns-2 : tie.Need-returns-2
-returns-2 c = spot-near c.before.before.before.before.before.before.before.before.before.before.before.before.before.before.before.requires c.before.before.before.before.before.before.before.before.before.before.settle.ensures c.before.before.before.before.before.before.if1.false c.before.before.put.ensures
+returns-2 c = spot_near c.before.before.before.before.before.before.before.before.before.before.before.before.before.before.before.requires c.before.before.before.before.before.before.before.before.before.before.settle.ensures c.before.before.before.before.before.before.if1.false c.before.before.put.ensures
 
-pub place-spot-spec : {M : Type 1} → statement M
-place-spot-spec =
+pub place_spot_spec : {M : Type 1} → statement M
+place_spot_spec =
     tie.close
     (tie.spec
     settle-requires

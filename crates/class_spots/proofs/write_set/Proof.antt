@@ -1,13 +1,13 @@
 use borrow.Author.Rules.{rules}
-use Rattle.kept_rules.specs.Left.{mapsIn}
-use Rattle.class_spots.specs.Sets.{leaves-null, leaves-there}
+use Rattle.kept_rules.specs.Left.{maps_in}
+use Rattle.class_spots.specs.Sets.{leaves_null, leaves_there}
 use Rattle.class_spots.proofs.write_set.Statement.{statement}
 use Rattle.class_spots.proofs.write_set.Tie as tie
 
 returns : tie.Need-returns
 returns c =
     let a = c.before.before.before.before.before.args in
-    (leaves-null a.chained (mapsIn a.t.now a.maps) a.src.now c.if1.true, c.before.before.before.before.before.requires.4)
+    (leaves_null a.chained (maps_in a.t.now a.maps) a.src.now c.if1.true, c.before.before.before.before.before.requires.4)
 
 write-rules-requires : tie.Need-write-rules-requires
 write-rules-requires c κs =
@@ -25,7 +25,7 @@ returns-2 c =
     let i = c.before.before.before.before.before.before.before in
     let a = i.before.before.before.before.before.args in
     let w = c.before.before.before.before.write-rules.ensures in
-    (leaves-there a.chained (mapsIn a.t.now a.maps) a.src.now i.if1.false w.0, w.1)
+    (leaves_there a.chained (maps_in a.t.now a.maps) a.src.now i.if1.false w.0, w.1)
 
-pub write-set-spec : {M : Type 1} → statement M
-write-set-spec = tie.close (tie.spec returns write-rules-requires same_length same-length-2 returns-2)
+pub write_set_spec : {M : Type 1} → statement M
+write_set_spec = tie.close (tie.spec returns write-rules-requires same_length same-length-2 returns-2)

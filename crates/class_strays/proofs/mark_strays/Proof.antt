@@ -1,6 +1,6 @@
 use Prim.Native.Nat.{◌-◌}
 use native.Mathlib.Omega.{arith}
-use Rattle.class_strays.proofs.Walking.{found-holds, Straying, straying-none, straying-far, straying-low, straying-turn, straying-end}
+use Rattle.class_strays.proofs.Walking.{found_holds, Straying, straying_none, straying_far, straying_low, straying_turn, straying_end}
 use borrow.Author.Rules.{rules}
 use Rattle.class_strays.proofs.mark_strays.Statement.{statement}
 use Rattle.class_strays.proofs.mark_strays.Tie as tie
@@ -14,7 +14,7 @@ decreases-loop left at right to t₀ base l₀ r₀ g₀ t l r g = 65536 - g
 loop-holds : tie.Need-loop-init invariant-loop decreases-loop
 loop-holds c =
     let p = c.before.before.before.before.before.requires in
-    straying-none p.2 p.3 (found-holds c.before.stretch-from.ensures).0 (found-holds c.stretch-from2.ensures).0
+    straying_none p.2 p.3 (found_holds c.before.stretch-from.ensures).0 (found_holds c.stretch-from2.ensures).0
 
 onward-requires : tie.Need-onward-requires invariant-loop decreases-loop
 onward-requires c κs = (c.before.before.before.before.before.before.before.requires.0, c.before.loop.invariant.lefts, c.loop-test.true)
@@ -34,7 +34,7 @@ add-g c =
     let r = e.before.before in
     let l = r.before in
     let t = l.before in
-    omega (arith, straying-low t.before.loop.invariant t.loop-test.true l.onward.ensures r.onward2.ensures e.compare-lowest.ensures c.lower.ensures)
+    omega (arith, straying_low t.before.loop.invariant t.loop-test.true l.onward.ensures r.onward2.ensures e.compare-lowest.ensures c.lower.ensures)
 
 loop-less : tie.Need-loop-smaller invariant-loop decreases-loop
 loop-less c =
@@ -42,7 +42,7 @@ loop-less c =
     let r = e.before.before in
     let l = r.before in
     let t = l.before in
-    omega (arith, t.loop-test.true, straying-far t.before.loop.invariant t.loop-test.true l.onward.ensures r.onward2.ensures e.compare-lowest.ensures c.lower.ensures)
+    omega (arith, t.loop-test.true, straying_far t.before.loop.invariant t.loop-test.true l.onward.ensures r.onward2.ensures e.compare-lowest.ensures c.lower.ensures)
 
 loop-again : tie.Need-loop-preserved invariant-loop decreases-loop
 loop-again c =
@@ -50,16 +50,16 @@ loop-again c =
     let r = e.before.before in
     let l = r.before in
     let t = l.before in
-    straying-turn t.before.loop.invariant t.loop-test.true l.onward.ensures r.onward2.ensures e.compare-lowest.ensures c.lower.ensures
+    straying_turn t.before.loop.invariant t.loop-test.true l.onward.ensures r.onward2.ensures e.compare-lowest.ensures c.lower.ensures
 
 same_length : tie.Need-same-length invariant-loop decreases-loop
 same_length c = c.before.loop.invariant.elsewhere.size
 
 returns : tie.Need-returns invariant-loop decreases-loop
-returns c = straying-end c.before.loop.invariant c.loop-test.false
+returns c = straying_end c.before.loop.invariant c.loop-test.false
 
-pub mark-strays-spec : {M : Type 1} → statement M
-mark-strays-spec =
+pub mark_strays_spec : {M : Type 1} → statement M
+mark_strays_spec =
     tie.close
     (tie.spec
     invariant-loop

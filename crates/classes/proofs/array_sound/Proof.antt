@@ -1,5 +1,5 @@
 use borrow.Author.Tests.{not-true, not-false}
-use Rattle.classes.proofs.Checking.{array-short, array-cut, array-ends}
+use Rattle.classes.proofs.Checking.{array_short, array_cut, array_ends}
 use mathlib.Core.Path.{sym, ◌∙◌}
 use borrow.Author.Rules.{rules}
 use Rattle.classes.proofs.array_sound.Statement.{statement}
@@ -9,7 +9,7 @@ returns : tie.Need-returns
 returns c =
     let i = c.before in
     let a = i.before.before.args in
-    array-short a.src.now a.at (sym i.inside.ensures ∙ not-true _ c.if1.true)
+    array_short a.src.now a.at (sym i.inside.ensures ∙ not-true _ c.if1.true)
 
 returns-2 : tie.Need-returns-2
 returns-2 c =
@@ -17,7 +17,7 @@ returns-2 c =
     let w = j.before in
     let i = w.before.before in
     let a = i.before.before.args in
-    array-cut a.src.now a.at (sym i.inside.ensures ∙ not-false _ w.before.if1.false) w.word_at.ensures.0 (sym j.inside2.ensures ∙ not-true _ c.if2.true)
+    array_cut a.src.now a.at (sym i.inside.ensures ∙ not-false _ w.before.if1.false) w.word_at.ensures.0 (sym j.inside2.ensures ∙ not-true _ c.if2.true)
 
 returns-3 : tie.Need-returns-3
 returns-3 c =
@@ -25,10 +25,10 @@ returns-3 c =
     let w = j.before in
     let i = w.before.before in
     let a = i.before.before.args in
-    array-ends a.src.now a.at (sym i.inside.ensures ∙ not-false _ w.before.if1.false) w.word_at.ensures.0 (sym j.inside2.ensures ∙ not-false _ c.before.if2.false) c.word-at2.ensures.0
+    array_ends a.src.now a.at (sym i.inside.ensures ∙ not-false _ w.before.if1.false) w.word_at.ensures.0 (sym j.inside2.ensures ∙ not-false _ c.before.if2.false) c.word-at2.ensures.0
 
-pub array-sound-spec : {M : Type 1} → statement M
-array-sound-spec =
+pub array_sound_spec : {M : Type 1} → statement M
+array_sound_spec =
     tie.close
     (tie.spec
     (λ c κs. search rules)

@@ -1,4 +1,4 @@
-use Rattle.covered_between.proofs.Counting.{cover-sound, cover-faulty, table-sound, table-faulty, first-null, first-faulty-cover, first-faulty-table, first-judged, first-none}
+use Rattle.covered_between.proofs.Counting.{cover_sound, cover_faulty, table_sound, table_faulty, first_null, first_faulty_cover, first_faulty_table, first_judged, first_none}
 use native.Mathlib.Omega.{arith}
 use borrow.Author.Rules.{rules}
 use Rattle.classes_below.proofs.first_below.Statement.{statement}
@@ -8,14 +8,14 @@ returns : tie.Need-returns
 returns c =
     let w = c.before in
     let a = w.before.before.args in
-    first-null a.src.now a.n w.subtable-place.ensures.0 c.if1.true
+    first_null a.src.now a.n w.subtable-place.ensures.0 c.if1.true
 
 returns-2 : tie.Need-returns-2
 returns-2 c =
     let k = c.before.before in
     let w = k.before.before in
     let a = w.before.before.args in
-    first-faulty-cover a.src.now a.n w.subtable-place.ensures.0 k.before.if1.false (cover-faulty a.src.now w.subtable-place.result k.check.ensures c.enum-told2.given.1)
+    first_faulty_cover a.src.now a.n w.subtable-place.ensures.0 k.before.if1.false (cover_faulty a.src.now w.subtable-place.result k.check.ensures c.enum-told2.given.1)
 
 returns-3 : tie.Need-returns-3
 returns-3 c =
@@ -24,7 +24,7 @@ returns-3 c =
     let k = m.before.before in
     let w = k.before.before in
     let a = w.before.before.args in
-    first-faulty-table a.src.now a.n w.subtable-place.ensures.0 k.before.if1.false (cover-sound a.src.now w.subtable-place.result k.check.ensures m.enum_told.given.1) t.before.subtable-place2.ensures.0 (table-faulty a.src.now t.before.subtable-place2.result t.check2.ensures c.enum-told4.given.1)
+    first_faulty_table a.src.now a.n w.subtable-place.ensures.0 k.before.if1.false (cover_sound a.src.now w.subtable-place.result k.check.ensures m.enum_told.given.1) t.before.subtable-place2.ensures.0 (table_faulty a.src.now t.before.subtable-place2.result t.check2.ensures c.enum-told4.given.1)
 
 count-requires : tie.Need-count-requires
 count-requires c κs =
@@ -32,7 +32,7 @@ count-requires c κs =
     let k = m.before.before in
     let w = k.before.before in
     let a = w.before.before.args in
-    cover-sound a.src.now w.subtable-place.result k.check.ensures m.enum_told.given.1
+    cover_sound a.src.now w.subtable-place.result k.check.ensures m.enum_told.given.1
 
 returns-4 : tie.Need-returns-4
 returns-4 c =
@@ -42,7 +42,7 @@ returns-4 c =
     let k = m.before.before in
     let w = k.before.before in
     let a = w.before.before.args in
-    first-none a.src.now a.n w.subtable-place.ensures.0 k.before.if1.false (cover-sound a.src.now w.subtable-place.result k.check.ensures m.enum_told.given.1) t.before.subtable-place2.ensures.0 (table-sound a.src.now t.before.subtable-place2.result t.check2.ensures u.enum-told3.given.1) c.before.if2.true c.count.ensures.number
+    first_none a.src.now a.n w.subtable-place.ensures.0 k.before.if1.false (cover_sound a.src.now w.subtable-place.result k.check.ensures m.enum_told.given.1) t.before.subtable-place2.ensures.0 (table_sound a.src.now t.before.subtable-place2.result t.check2.ensures u.enum-told3.given.1) c.before.if2.true c.count.ensures.number
 
 covered-below-requires : tie.Need-covered-below-requires
 covered-below-requires c κs =
@@ -52,7 +52,7 @@ covered-below-requires c κs =
     let k = m.before.before in
     let w = k.before.before in
     let a = w.before.before.args in
-    (cover-sound a.src.now w.subtable-place.result k.check.ensures m.enum_told.given.1, w.subtable-place.ensures.1, table-sound a.src.now t.before.subtable-place2.result t.check2.ensures u.enum-told3.given.1, t.before.subtable-place2.ensures.1, omega arith)
+    (cover_sound a.src.now w.subtable-place.result k.check.ensures m.enum_told.given.1, w.subtable-place.ensures.1, table_sound a.src.now t.before.subtable-place2.result t.check2.ensures u.enum-told3.given.1, t.before.subtable-place2.ensures.1, omega arith)
 
 returns-5 : tie.Need-returns-5
 returns-5 c =
@@ -62,10 +62,10 @@ returns-5 c =
     let k = m.before.before in
     let w = k.before.before in
     let a = w.before.before.args in
-    first-judged a.src.now a.n w.subtable-place.ensures.0 k.before.if1.false (cover-sound a.src.now w.subtable-place.result k.check.ensures m.enum_told.given.1) t.before.subtable-place2.ensures.0 (table-sound a.src.now t.before.subtable-place2.result t.check2.ensures u.enum-told3.given.1) c.covered-below.ensures
+    first_judged a.src.now a.n w.subtable-place.ensures.0 k.before.if1.false (cover_sound a.src.now w.subtable-place.result k.check.ensures m.enum_told.given.1) t.before.subtable-place2.ensures.0 (table_sound a.src.now t.before.subtable-place2.result t.check2.ensures u.enum-told3.given.1) c.covered_below.ensures
 
-pub first-below-spec : {M : Type 1} → statement M
-first-below-spec =
+pub first_below_spec : {M : Type 1} → statement M
+first_below_spec =
     tie.close
     (tie.spec
     (λ c κs. search rules)

@@ -1,4 +1,4 @@
-use Rattle.covered_between.proofs.Counting.{table-sound, table-faulty, second-faulty, second_none, second-judged}
+use Rattle.covered_between.proofs.Counting.{table_sound, table_faulty, second_faulty, second_none, second_judged}
 use native.Mathlib.Omega.{arith}
 use borrow.Author.Rules.{rules}
 use Rattle.classes_below.proofs.second_below.Statement.{statement}
@@ -9,7 +9,7 @@ returns c =
     let k = c.before.before in
     let w = k.before in
     let a = w.before.before.args in
-    second-faulty a.src.now a.n w.subtable-place.ensures.0 (table-faulty a.src.now w.subtable-place.result k.check.ensures c.enum-told2.given.1)
+    second_faulty a.src.now a.n w.subtable-place.ensures.0 (table_faulty a.src.now w.subtable-place.result k.check.ensures c.enum-told2.given.1)
 
 returns-2 : tie.Need-returns-2
 returns-2 c =
@@ -17,7 +17,7 @@ returns-2 c =
     let k = u.before.before in
     let w = k.before in
     let a = w.before.before.args in
-    second_none a.src.now a.n w.subtable-place.ensures.0 (table-sound a.src.now w.subtable-place.result k.check.ensures u.enum_told.given.1) c.if1.true
+    second_none a.src.now a.n w.subtable-place.ensures.0 (table_sound a.src.now w.subtable-place.result k.check.ensures u.enum_told.given.1) c.if1.true
 
 listed-below-requires : tie.Need-listed-below-requires
 listed-below-requires c κs =
@@ -25,7 +25,7 @@ listed-below-requires c κs =
     let k = u.before.before in
     let w = k.before in
     let a = w.before.before.args in
-    (table-sound a.src.now w.subtable-place.result k.check.ensures u.enum_told.given.1, w.subtable-place.ensures.1, omega arith)
+    (table_sound a.src.now w.subtable-place.result k.check.ensures u.enum_told.given.1, w.subtable-place.ensures.1, omega arith)
 
 returns-3 : tie.Need-returns-3
 returns-3 c =
@@ -33,10 +33,10 @@ returns-3 c =
     let k = u.before.before in
     let w = k.before in
     let a = w.before.before.args in
-    second-judged a.src.now a.n w.subtable-place.ensures.0 (table-sound a.src.now w.subtable-place.result k.check.ensures u.enum_told.given.1) (omega arith) c.Listed-Below.ensures
+    second_judged a.src.now a.n w.subtable-place.ensures.0 (table_sound a.src.now w.subtable-place.result k.check.ensures u.enum_told.given.1) (omega arith) c.Listed-Below.ensures
 
-pub second-below-spec : {M : Type 1} → statement M
-second-below-spec =
+pub second_below_spec : {M : Type 1} → statement M
+second_below_spec =
     tie.close
     (tie.spec
     (λ c κs. search rules)

@@ -1,5 +1,5 @@
 use native.Mathlib.Omega.{arith}
-use Rattle.compare.proofs.Answering.{answer-refused, answer-sound, answer-short, answer-listed}
+use Rattle.compare.proofs.Answering.{answer_refused, answer_sound, answer_short, answer_listed}
 use borrow.Author.Rules.{rules}
 use Rattle.compare.proofs.compare_in.Statement.{statement}
 use Rattle.compare.proofs.compare_in.Tie as tie
@@ -10,7 +10,7 @@ returns c =
     let r = t.before.before.before.before.before.before in
     let l = r.before in
     let a = l.before.args in
-    answer-refused a.kind a.left.now a.right.now a.out.now t.refusal.result t.refusal.ensures
+    answer_refused a.kind a.left.now a.right.now a.out.now t.refusal.result t.refusal.ensures
     (λ i. omega (arith, l.shared-slice-known.given i)) (λ i. omega (arith, r.shared-slice-known2.given i)) c.before.answer.given.1
 
 lay-requires : tie.Need-lay-requires
@@ -18,7 +18,7 @@ lay-requires c κs =
     let e = c.before.before.before.before.before in
     let t = e.before.before in
     let a = t.before.before.before.before.before.before.before.before.args in
-    answer-sound a.kind a.left.now a.right.now a.out.now t.refusal.result t.refusal.ensures e.enum_told.given.1
+    answer_sound a.kind a.left.now a.right.now a.out.now t.refusal.result t.refusal.ensures e.enum_told.given.1
 
 returns-2 : tie.Need-returns-2
 returns-2 c =
@@ -26,7 +26,7 @@ returns-2 c =
     let e = l.before.before.before.before.before.before in
     let t = e.before.before in
     let a = t.before.before.before.before.before.before.before.before.args in
-    answer-short a.kind a.left.now a.right.now a.out.now t.refusal.result t.refusal.ensures e.enum_told.given.1 l.lay.ensures c.before.before.out.given c.if1.true
+    answer_short a.kind a.left.now a.right.now a.out.now t.refusal.result t.refusal.ensures e.enum_told.given.1 l.lay.ensures c.before.before.out.given c.if1.true
 
 returns-3 : tie.Need-returns-3
 returns-3 c =
@@ -34,10 +34,10 @@ returns-3 c =
     let e = l.before.before.before.before.before.before in
     let t = e.before.before in
     let a = t.before.before.before.before.before.before.before.before.args in
-    answer-listed a.kind a.left.now a.right.now a.out.now t.refusal.result t.refusal.ensures e.enum_told.given.1 l.lay.ensures c.before.before.out.given c.if1.false
+    answer_listed a.kind a.left.now a.right.now a.out.now t.refusal.result t.refusal.ensures e.enum_told.given.1 l.lay.ensures c.before.before.out.given c.if1.false
 
-pub compare-in-spec : {M : Type 1} → statement M
-compare-in-spec =
+pub compare_in_spec : {M : Type 1} → statement M
+compare_in_spec =
     tie.close
     (tie.spec
     (λ c κs. search rules)

@@ -1,4 +1,4 @@
-use Rattle.compare.proofs.Answering.{code-says}
+use Rattle.compare.proofs.Answering.{code_says}
 use borrow.Author.Rules.{rules}
 use Rattle.compare.proofs.gillcurtain_compare.Statement.{statement}
 use Rattle.compare.proofs.gillcurtain_compare.Tie as tie
@@ -6,7 +6,7 @@ use Rattle.compare.proofs.gillcurtain_compare.Tie as tie
 returns : tie.Need-returns
 returns c =
     let s = c.before.before.before in
-    code-says s.compare.result s.compare.ensures c.one_number.ensures
+    code_says s.compare.result s.compare.ensures c.one_number.ensures
 
-pub gillcurtain-compare-spec : {M : Type 1} → statement M
-gillcurtain-compare-spec = tie.close (tie.spec (λ c κs. search rules) (λ c κs. search rules) (λ c. search rules) returns)
+pub gillcurtain_compare_spec : {M : Type 1} → statement M
+gillcurtain_compare_spec = tie.close (tie.spec (λ c κs. search rules) (λ c κs. search rules) (λ c. search rules) returns)

@@ -1,5 +1,5 @@
 use Rattle.faults.specs.Reached.{refused, passed}
-use Rattle.compare_file.proofs.Files.{too_short, too_long, no-tag, no-left, all-but-right}
+use Rattle.compare_file.proofs.Files.{too_short, too_long, no_tag, no_left, all_but_right}
 use borrow.Author.Rules.{rules}
 use Rattle.compare_file.proofs.good_file.Statement.{statement}
 use Rattle.compare_file.proofs.good_file.Tie as tie
@@ -16,14 +16,14 @@ returns-3 : tie.Need-returns-3
 returns-3 c =
     let b = c.before.before in
     let a = b.before in
-    no-tag a.before.before.args.file.now a.if1.false b.if2.false c.before.long-at.ensures.0 c.if3.true
+    no_tag a.before.before.args.file.now a.if1.false b.if2.false c.before.long-at.ensures.0 c.if3.true
 
 returns-4 : tie.Need-returns-4
 returns-4 c =
     let t = c.before.before in
     let b = t.before.before in
     let a = b.before in
-    no-left a.before.before.args.file.now a.if1.false b.if2.false t.before.long-at.ensures.0 t.if3.false (refused c.before.ends_by.ensures c.if4.true)
+    no_left a.before.before.args.file.now a.if1.false b.if2.false t.before.long-at.ensures.0 t.if3.false (refused c.before.ends_by.ensures c.if4.true)
 
 returns-5 : tie.Need-returns-5
 returns-5 c =
@@ -31,10 +31,10 @@ returns-5 c =
     let t = d.before.before in
     let b = t.before.before in
     let a = b.before in
-    all-but-right a.before.before.args.file.now a.if1.false b.if2.false t.before.long-at.ensures.0 t.if3.false (passed d.before.ends_by.ensures d.if4.false) c.ends-by2.ensures
+    all_but_right a.before.before.args.file.now a.if1.false b.if2.false t.before.long-at.ensures.0 t.if3.false (passed d.before.ends_by.ensures d.if4.false) c.ends-by2.ensures
 
-pub good-file-spec : {M : Type 1} → statement M
-good-file-spec =
+pub good_file_spec : {M : Type 1} → statement M
+good_file_spec =
     tie.close
     (tie.spec
     returns

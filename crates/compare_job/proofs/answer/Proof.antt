@@ -19,8 +19,8 @@ returns c =
     let start = got.before.before.before in
     answered start.args.file.now ran.compare-parts.result got.lent.ensures ran.compare-parts.ensures back.list2.given start.requires put.put-outcome.ensures
 
-pub answer-spec : {M : Type 1} → statement M
-answer-spec =
+pub answer_spec : {M : Type 1} → statement M
+answer_spec =
     tie.close
     (tie.spec
     (λ c κs. search rules)

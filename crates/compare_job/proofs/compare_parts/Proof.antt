@@ -2,13 +2,13 @@ use mathlib.Core.Path.{◌≡◌}
 use mathlib.Core.Bool.{true}
 use borrow.Author.Rules.{rules}
 use Rattle.faults.specs.Reached.{refused, passed}
-use Rattle.compare_file.specs.CompareFile.{goodFile}
+use Rattle.compare_file.specs.CompareFile.{good_file}
 use Rattle.compare_job.proofs.Answering.{faulty, compared}
 use Rattle.compare_job.proofs.compare_parts.Statement.{statement}
 use Rattle.compare_job.proofs.compare_parts.Tie as tie
 
 -- past the test the file is good
-good : (c : tie.Else1) → goodFile c.before.before.before.before.args.file.now ≡ true
+good : (c : tie.Else1) → good_file c.before.before.before.before.args.file.now ≡ true
 good c = passed c.before.good-file.ensures c.if1.false
 
 returns : tie.Need-returns
@@ -37,8 +37,8 @@ returns-2 c =
     let a = e.before.before.before.before.args in
     compared a.file.now a.list.now (good e) r.compare.result kind.kind-of.ensures left.left-of.ensures right.right_of.ensures r.compare.ensures n.number_of_lem.ensures c.length-of.ensures
 
-pub compare-parts-spec : {M : Type 1} → statement M
-compare-parts-spec =
+pub compare_parts_spec : {M : Type 1} → statement M
+compare_parts_spec =
     tie.close
     (tie.spec
     (λ c κs. search rules)

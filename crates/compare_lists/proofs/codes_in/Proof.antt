@@ -9,5 +9,5 @@ returns c = (omega arith, λ h. absurd (omega arith))
 returns-2 : tie.Need-returns-2
 returns-2 c = (omega arith, λ h. refl)
 
-pub codes-in-spec : {M : Type 1} → statement M
-codes-in-spec = tie.close (tie.spec returns returns-2)
+pub codes_in_spec : {M : Type 1} → statement M
+codes_in_spec = tie.close (tie.spec returns returns-2)

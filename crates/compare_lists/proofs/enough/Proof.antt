@@ -13,5 +13,5 @@ returns-2 c = record { codes = λ e. absurd (true≢false (sym e)); rest = λ e.
 returns-3 : tie.Need-returns-3
 returns-3 c = record { codes = λ e. absurd (true≢false (sym e)); rest = λ e. absurd (true≢false (sym e)) }
 
-pub enough-spec : {M : Type 1} → statement M
-enough-spec = tie.close (tie.spec returns returns-2 returns-3 (λ c. search rules))
+pub enough_spec : {M : Type 1} → statement M
+enough_spec = tie.close (tie.spec returns returns-2 returns-3 (λ c. search rules))

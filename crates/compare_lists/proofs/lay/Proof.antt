@@ -44,8 +44,8 @@ lay-rules-requires c κs =
       record { codes = length-take-le m.codes-in.result o.args.num.now m.codes-in.ensures.0 ∙ m.codes-in.ensures.1 (n.ensures.codes t); rows = s.rows; comes = s.comes; linked = s.linked },
     )
 
-pub lay-spec : {M : Type 1} → statement M
-lay-spec =
+pub lay_spec : {M : Type 1} → statement M
+lay_spec =
     tie.close
     (tie.spec
     (λ c κs. search rules)

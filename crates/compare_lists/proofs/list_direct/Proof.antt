@@ -2,7 +2,7 @@ use mathlib.Core.Path.{◌≡◌, sym, ◌∙◌}
 use Prim.Native.Nat.{◌<◌}
 use native.Mathlib.Omega.{arith}
 use Rattle.meaning.specs.Words.{word}
-use Rattle.compare_lists.proofs.Listing.{sound-as, listed-as, kind-range, one_format, differ-contexts, three-contexts, three-left}
+use Rattle.compare_lists.proofs.Listing.{sound_as, listed_as, kind_range, one_format, differ_contexts, three_contexts, three_left}
 use borrow.Author.Rules.{rules}
 use Rattle.compare_lists.proofs.list_direct.Statement.{statement}
 use Rattle.compare_lists.proofs.list_direct.Tie as tie
@@ -14,13 +14,13 @@ list-pairs-requires c κs =
     let l = o.args.left.now in
     let r = o.args.right.now in
     let k : 2 < o.args.kind = omega arith in
-    (sound-as i.if1.true l r o.requires.1, one_format o.args.kind (word l 0) k o.requires.1.format, sound-as i.if1.true l r o.requires.2, one_format o.args.kind (word r 0) k o.requires.2.format, omega arith)
+    (sound_as i.if1.true l r o.requires.1, one_format o.args.kind (word l 0) k o.requires.1.format, sound_as i.if1.true l r o.requires.2, one_format o.args.kind (word r 0) k o.requires.2.format, omega arith)
 
 returns : tie.Need-returns
 returns c =
     let i = c.before.before.before.before in
     let a = i.before.before.before.before.args in
-    listed-as i.if1.true a.left.now a.right.now 0x100_0000_0000 (omega arith) c.before.before.list-pairs.ensures
+    listed_as i.if1.true a.left.now a.right.now 0x100_0000_0000 (omega arith) c.before.before.list-pairs.ensures
 
 list-formats-requires : tie.Need-list-formats-requires
 list-formats-requires c κs =
@@ -30,8 +30,8 @@ list-formats-requires c κs =
     let o = f.before.before.before.before.before in
     let a = o.args in
     let n : word a.left.now 0 ≡ word a.right.now 0 → ⊥ = λ e. i.if2.true (f.word_at.ensures.0 ∙ e ∙ sym h.word-at2.ensures.0) in (
-      (kind-range a.kind o.requires.0).0,
-      differ-contexts a.kind (word a.left.now 0) (word a.right.now 0) o.requires.1.format o.requires.2.format n,
+      (kind_range a.kind o.requires.0).0,
+      differ_contexts a.kind (word a.left.now 0) (word a.right.now 0) o.requires.1.format o.requires.2.format n,
       o.requires.1.format,
       o.requires.2.format,
       n,
@@ -47,11 +47,11 @@ list-covers-requires c κs =
     let l = word o.args.left.now 0 in
     let r = word o.args.right.now 0 in
     let e : l ≡ r = sym f.word_at.ensures.0 ∙ i.if2.false ∙ h.word-at2.ensures.0 in
-    let t = three-left o.args.kind l r o.requires.3 f.before.if1.false e in
-    (o.requires.1, o.requires.2, (kind-range o.args.kind o.requires.0).0, three-contexts o.args.kind l o.requires.1.format t, t, sym e ∙ t)
+    let t = three_left o.args.kind l r o.requires.3 f.before.if1.false e in
+    (o.requires.1, o.requires.2, (kind_range o.args.kind o.requires.0).0, three_contexts o.args.kind l o.requires.1.format t, t, sym e ∙ t)
 
-pub list-direct-spec : {M : Type 1} → statement M
-list-direct-spec =
+pub list_direct_spec : {M : Type 1} → statement M
+list_direct_spec =
     tie.close
     (tie.spec
     list-pairs-requires

@@ -13,5 +13,5 @@ returns-2 c =
     let w = c.before in
     rw (passed w.before.before.inside.ensures w.before.if1.false) (ap not (rw w.word_at.ensures.0 at c.compared-format.ensures))
 
-pub other-format-spec : {M : Type 1} → statement M
-other-format-spec = tie.close (tie.spec (λ c κs. search rules) returns (λ c κs. search rules) (λ c κs. search rules) returns-2)
+pub other_format_spec : {M : Type 1} → statement M
+other_format_spec = tie.close (tie.spec (λ c κs. search rules) returns (λ c κs. search rules) (λ c κs. search rules) returns-2)

@@ -5,5 +5,5 @@ use Rattle.context_classes.proofs.prepare.Tie as tie
 returns : tie.Need-returns
 returns c = cc
 
-pub prepare-spec : {M : Type 1} → statement M
-prepare-spec = tie.close (tie.spec (λ c κs. search rules) (λ c κs. search rules) (λ c κs. search rules) returns)
+pub prepare_spec : {M : Type 1} → statement M
+prepare_spec = tie.close (tie.spec (λ c κs. search rules) (λ c κs. search rules) (λ c κs. search rules) returns)

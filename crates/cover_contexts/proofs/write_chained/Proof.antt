@@ -1,4 +1,4 @@
-use Rattle.cover_contexts.proofs.Context.{counted-written, back-asks, back-gone, input-asks, input-gone, ahead-asks, ahead-settles}
+use Rattle.cover_contexts.proofs.Context.{counted_written, back_asks, back_gone, input_asks, input_gone, ahead_asks, ahead_settles}
 use mathlib.Core.Path.{refl}
 use native.Mathlib.Omega.{arith}
 use borrow.Author.Rules.{rules}
@@ -18,7 +18,7 @@ write-counted-row-requires c κs =
     let u = c.before.before.before.before.before in
     let w = u.before.before.before.before in
     let a = w.before.before.before.before.before.before.before.before.requires in
-    back-asks a.1 a.0 (counted-written a.1 a.0 w.write-counted-records.ensures) u.put.ensures.1
+    back_asks a.1 a.0 (counted_written a.1 a.0 w.write-counted-records.ensures) u.put.ensures.1
 
 returns : tie.Need-returns
 returns c =
@@ -26,7 +26,7 @@ returns c =
     let u = d.before.before.before.before.before.before in
     let w = u.before.before.before.before in
     let a = w.before.before.before.before.before.before.before.before.requires in
-    back-gone a.1 a.0 (counted-written a.1 a.0 w.write-counted-records.ensures) u.put.ensures.1 d.write-counted-row.ensures c.if1.true
+    back_gone a.1 a.0 (counted_written a.1 a.0 w.write-counted-records.ensures) u.put.ensures.1 d.write-counted-row.ensures c.if1.true
 
 write-counted-row-requires-2 : tie.Need-write-counted-row-requires-2
 write-counted-row-requires-2 c κs =
@@ -35,7 +35,7 @@ write-counted-row-requires-2 c κs =
     let u = d.before.before.before.before.before.before in
     let w = u.before.before.before.before in
     let a = w.before.before.before.before.before.before.before.before.requires in
-    input-asks a.1 a.0 (counted-written a.1 a.0 w.write-counted-records.ensures) u.put.ensures.1 d.write-counted-row.ensures i.if1.false
+    input_asks a.1 a.0 (counted_written a.1 a.0 w.write-counted-records.ensures) u.put.ensures.1 d.write-counted-row.ensures i.if1.false
 
 returns-2 : tie.Need-returns-2
 returns-2 c =
@@ -45,7 +45,7 @@ returns-2 c =
     let u = d.before.before.before.before.before.before in
     let w = u.before.before.before.before in
     let a = w.before.before.before.before.before.before.before.before.requires in
-    input-gone a.1 a.0 (counted-written a.1 a.0 w.write-counted-records.ensures) u.put.ensures.1 d.write-counted-row.ensures i.if1.false f.write-counted-row2.ensures c.if2.true
+    input_gone a.1 a.0 (counted_written a.1 a.0 w.write-counted-records.ensures) u.put.ensures.1 d.write-counted-row.ensures i.if1.false f.write-counted-row2.ensures c.if2.true
 
 write-counted-row-requires-3 : tie.Need-write-counted-row-requires-3
 write-counted-row-requires-3 c κs =
@@ -56,7 +56,7 @@ write-counted-row-requires-3 c κs =
     let u = d.before.before.before.before.before.before in
     let w = u.before.before.before.before in
     let a = w.before.before.before.before.before.before.before.before.requires in
-    ahead-asks a.1 a.0 (counted-written a.1 a.0 w.write-counted-records.ensures) u.put.ensures.1 d.write-counted-row.ensures i.if1.false f.write-counted-row2.ensures j.if2.false
+    ahead_asks a.1 a.0 (counted_written a.1 a.0 w.write-counted-records.ensures) u.put.ensures.1 d.write-counted-row.ensures i.if1.false f.write-counted-row2.ensures j.if2.false
 
 returns-3 : tie.Need-returns-3
 returns-3 c =
@@ -67,13 +67,13 @@ returns-3 c =
     let u = d.before.before.before.before.before.before in
     let w = u.before.before.before.before in
     let a = w.before.before.before.before.before.before.before.before.requires in
-    ahead-settles a.1 a.0 (counted-written a.1 a.0 w.write-counted-records.ensures) u.put.ensures.1 d.write-counted-row.ensures i.if1.false f.write-counted-row2.ensures j.before.before.before.before.if2.false j.write-counted-row3.ensures
+    ahead_settles a.1 a.0 (counted_written a.1 a.0 w.write-counted-records.ensures) u.put.ensures.1 d.write-counted-row.ensures i.if1.false f.write-counted-row2.ensures j.before.before.before.before.if2.false j.write-counted-row3.ensures
 
 same-length-8 : tie.Need-same-length-8
 same-length-8 c = (returns-3 c).same
 
-pub write-chained-spec : {M : Type 1} → statement M
-write-chained-spec =
+pub write_chained_spec : {M : Type 1} → statement M
+write_chained_spec =
     tie.close
     (tie.spec
     sub-write-counted-records

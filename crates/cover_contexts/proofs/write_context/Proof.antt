@@ -14,8 +14,8 @@ write-plain-requires c κs = (rw c.before.before.before.if1.false at c.before.be
 returns-2 : tie.Need-returns-2
 returns-2 c = rw c.before.before.before.before.before.before.before.before.before.before.if1.false c.before.before.before.before.before.before.write-plain.ensures
 
-pub write-context-spec : {M : Type 1} → statement M
-write-context-spec =
+pub write_context_spec : {M : Type 1} → statement M
+write_context_spec =
     tie.close
     (tie.spec
     write-chained-requires

@@ -1,4 +1,4 @@
-use Rattle.cover_contexts.proofs.Context.{plain-asks, plain-settles}
+use Rattle.cover_contexts.proofs.Context.{plain_asks, plain_settles}
 use mathlib.Core.Path.{refl}
 use native.Mathlib.Omega.{arith}
 use borrow.Author.Rules.{rules}
@@ -13,15 +13,15 @@ put-three-requires c κs =
 write-row-requires : tie.Need-write-row-requires
 write-row-requires c κs =
     let a = c.before.before.before.before.before.before.before.before.before.before.before.before.before.before.before.before.before.requires in
-    plain-asks a.1 a.0 c.before.before.before.before.before.before.before.before.before.write-records.ensures c.before.before.before.before.before.put_three.ensures.1
+    plain_asks a.1 a.0 c.before.before.before.before.before.before.before.before.before.write-records.ensures c.before.before.before.before.before.put_three.ensures.1
 
 returns : tie.Need-returns
 returns c =
     let a = c.before.before.before.before.before.before.before.before.before.before.before.before.before.before.before.before.before.before.before.before.before.before.before.before.requires in
-    plain-settles a.1 a.0 c.before.before.before.before.before.before.before.before.before.before.before.before.before.before.before.before.write-records.ensures c.before.before.before.before.before.before.before.before.before.before.before.before.put_three.ensures.1 c.before.before.before.before.before.before.write-row.ensures
+    plain_settles a.1 a.0 c.before.before.before.before.before.before.before.before.before.before.before.before.before.before.before.before.write-records.ensures c.before.before.before.before.before.before.before.before.before.before.before.before.put_three.ensures.1 c.before.before.before.before.before.before.write_row.ensures
 
-pub write-plain-spec : {M : Type 1} → statement M
-write-plain-spec =
+pub write_plain_spec : {M : Type 1} → statement M
+write_plain_spec =
     tie.close
     (tie.spec
     (λ c κs. search rules)

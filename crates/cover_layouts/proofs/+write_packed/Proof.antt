@@ -1,5 +1,5 @@
 use borrow.Author.Rules.{rules}
-use Rattle.cover_layouts.proofs.Cut.{begins-new, made-packed}
+use Rattle.cover_layouts.proofs.Cut.{begins_new, made_packed}
 use Prim.Native.Nat.{ℕ, ◌<◌}
 use native.Mathlib.Omega.{arith}
 use Prim.Native.Nat.{ℕ, ◌<◌}
@@ -13,56 +13,56 @@ use Rattle.known_blocks.proofs.begin.Reads as begin-reads
 use Rattle.cover_layouts.proofs.+write_packed.{statement}
 use Rattle.cover_layouts.proofs.+write_packed.Tie.{close}
 
-abbrev μ-write-packed : Measures 4 write-packed-kinds.ps ℕ
-μ-write-packed κs a = a.1.1.1.1.1.1.0
+abbrev μ_write_packed : Measures 4 write-packed-kinds.ps ℕ
+μ_write_packed κs a = a.1.1.1.1.1.1.0
 
-abbrev write-packed-at : ℕ → In 4 write-packed-kinds.ps
-write-packed-at t =
-    and 4 write-packed-kinds.ps (is 4 write-packed-kinds.ps μ-write-packed t) write-packed.Pre
+abbrev write_packed_at : ℕ → In 4 write-packed-kinds.ps
+write_packed_at t =
+    and 4 write-packed-kinds.ps (is 4 write-packed-kinds.ps μ_write_packed t) write-packed.Pre
 
-abbrev write-packed-below : ℕ → In 4 write-packed-kinds.ps
-write-packed-below t =
+abbrev write_packed_below : ℕ → In 4 write-packed-kinds.ps
+write_packed_below t =
     and
     4
     write-packed-kinds.ps
-    (falls 4 write-packed-kinds.ps ◌<◌ μ-write-packed t)
+    (falls 4 write-packed-kinds.ps ◌<◌ μ_write_packed t)
     write-packed.Pre
 
-write-packed-write-packed-requires : (t : ℕ) → write-packed-lts.Need-write-packed-requires (write-packed-below t, write-packed.Post, begin-reads.Asked, begin-reads.Learnt, write-context-reads.Asked, write-context-reads.Learnt) (write-packed-at t) write-packed.Post
-write-packed-write-packed-requires t c κs =
+write_packed_write_packed_requires : (t : ℕ) → write-packed-lts.Need-write-packed-requires (write_packed_below t, write-packed.Post, begin-reads.Asked, begin-reads.Learnt, write-context-reads.Asked, write-context-reads.Learnt) (write_packed_at t) write-packed.Post
+write_packed_write_packed_requires t c κs =
     let p = c.before.before.before.before.before.before.before.requires in
     (omega (arith, p.0), p.1)
 
-write-packed-begin-requires : (t : ℕ) → write-packed-lts.Need-begin-requires (write-packed-below t, write-packed.Post, begin-reads.Asked, begin-reads.Learnt, write-context-reads.Asked, write-context-reads.Learnt) (write-packed-at t) write-packed.Post
-write-packed-begin-requires t c κs = search rules
+write_packed_begin_requires : (t : ℕ) → write-packed-lts.Need-begin-requires (write_packed_below t, write-packed.Post, begin-reads.Asked, begin-reads.Learnt, write-context-reads.Asked, write-context-reads.Learnt) (write_packed_at t) write-packed.Post
+write_packed_begin_requires t c κs = search rules
 
-write-packed-write-context-requires : (t : ℕ) → write-packed-lts.Need-write-context-requires (write-packed-below t, write-packed.Post, begin-reads.Asked, begin-reads.Learnt, write-context-reads.Asked, write-context-reads.Learnt) (write-packed-at t) write-packed.Post
-write-packed-write-context-requires t c κs =
-    (c.before.before.before.before.before.before.before.before.before.before.before.requires.1, begins-new c.before.before.before.before.begin.ensures (λ h. omega arith))
+write_packed_write_context_requires : (t : ℕ) → write-packed-lts.Need-write-context-requires (write_packed_below t, write-packed.Post, begin-reads.Asked, begin-reads.Learnt, write-context-reads.Asked, write-context-reads.Learnt) (write_packed_at t) write-packed.Post
+write_packed_write_context_requires t c κs =
+    (c.before.before.before.before.before.before.before.before.before.before.before.requires.1, begins_new c.before.before.before.before.begin.ensures (λ h. omega arith))
 
-write-packed-returns-2 : (t : ℕ) → write-packed-lts.Need-returns-2 (write-packed-below t, write-packed.Post, begin-reads.Asked, begin-reads.Learnt, write-context-reads.Asked, write-context-reads.Learnt) (write-packed-at t) write-packed.Post
-write-packed-returns-2 t c = made-packed c.before.before.before.before.before.before.before.before.before.before.begin.ensures (omega arith) c.before.before.before.before.before.write-context.ensures
+write_packed_returns_2 : (t : ℕ) → write-packed-lts.Need-returns-2 (write_packed_below t, write-packed.Post, begin-reads.Asked, begin-reads.Learnt, write-context-reads.Asked, write-context-reads.Learnt) (write_packed_at t) write-packed.Post
+write_packed_returns_2 t c = made_packed c.before.before.before.before.before.before.before.before.before.before.begin.ensures (omega arith) c.before.before.before.before.before.write-context.ensures
 
 pub +write-packed-spec : {M : Type 1} → statement M
-+write-packed-spec = close μ-write-packed λ t. write-packed-lts.spec (
-  write-packed-below t,
++write-packed-spec = close μ_write_packed λ t. write-packed-lts.spec (
+  write_packed_below t,
   write-packed.Post,
   begin-reads.Asked,
   begin-reads.Learnt,
   write-context-reads.Asked,
   write-context-reads.Learnt,
 )
-    (write-packed-at t)
+    (write_packed_at t)
     write-packed.Post
     (λ c. search rules)
-    (write-packed-write-packed-requires t)
+    (write_packed_write_packed_requires t)
     (λ c. search rules)
     (λ c. search rules)
     (λ c. search rules)
     (λ c. search rules)
-    (write-packed-begin-requires t)
+    (write_packed_begin_requires t)
     (λ c. search rules)
-    (write-packed-write-context-requires t)
+    (write_packed_write_context_requires t)
     (λ c. search rules)
     (λ c. search rules)
-    (write-packed-returns-2 t)
+    (write_packed_returns_2 t)

@@ -14,6 +14,6 @@ plain-parts-requires c κs = rw c.if1.false at c.before.before.requires
 returns-2 : tie.Need-returns-2
 returns-2 c = rw c.before.if1.false c.plain-parts.ensures
 
-pub cover-parts-spec : {M : Type 1} → statement M
-cover-parts-spec =
+pub cover_parts_spec : {M : Type 1} → statement M
+cover_parts_spec =
     tie.close (tie.spec chained-parts-requires returns plain-parts-requires returns-2)

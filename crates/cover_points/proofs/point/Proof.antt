@@ -1,4 +1,4 @@
-use Rattle.cover_parts.proofs.Rows.{point-far, point-past, point_at}
+use Rattle.cover_parts.proofs.Rows.{point_far, point_past, point_at}
 use native.Mathlib.Omega.{arith}
 use borrow.Author.Rules.{rules}
 use Rattle.cover_points.proofs.point.Statement.{statement}
@@ -10,10 +10,10 @@ settle-requires c κs =
     (a.few, a.behind, a.order, a.low, a.word)
 
 returns : tie.Need-returns
-returns c = point-far c.before.before.before.before.before.before.before.before.before.before.before.requires c.before.before.before.before.before.before.settle.ensures c.before.before.if1.true c.over.ensures
+returns c = point_far c.before.before.before.before.before.before.before.before.before.before.before.requires c.before.before.before.before.before.before.settle.ensures c.before.before.if1.true c.over.ensures
 
 returns-2 : tie.Need-returns-2
-returns-2 c = point-past c.before.before.before.before.before.before.before.before.before.before.before.before.before.requires c.before.before.before.before.before.before.before.before.settle.ensures c.before.before.before.before.if1.false c.before.before.if2.true c.over2.ensures
+returns-2 c = point_past c.before.before.before.before.before.before.before.before.before.before.before.before.before.requires c.before.before.before.before.before.before.before.before.settle.ensures c.before.before.before.before.if1.false c.before.before.if2.true c.over2.ensures
 
 put-requires : tie.Need-put-requires
 put-requires c κs = omega (arith, c.before.before.before.before.before.before.before.before.before.before.before.before.requires.inside)
@@ -21,8 +21,8 @@ put-requires c κs = omega (arith, c.before.before.before.before.before.before.b
 returns-3 : tie.Need-returns-3
 returns-3 c = point_at c.before.before.before.before.before.before.before.before.before.before.before.before.before.before.before.requires c.before.before.before.before.before.before.before.before.before.before.settle.ensures c.before.before.before.before.before.before.if1.false c.before.before.before.before.if2.false c.before.before.put.ensures.1
 
-pub point-spec : {M : Type 1} → statement M
-point-spec =
+pub point_spec : {M : Type 1} → statement M
+point_spec =
     tie.close
     (tie.spec
     settle-requires

@@ -11,5 +11,5 @@ returns-2 c = simp (le-leb _ _ c.before.if1.false, lt-leb _ _ c.if2.true)
 returns-3 : tie.Need-returns-3
 returns-3 c = simp (le-leb _ _ c.before.if1.false, le-leb _ _ c.if2.false)
 
-pub range-fits-spec : {M : Type 1} → statement M
-range-fits-spec = tie.close (tie.spec returns returns-2 returns-3)
+pub range_fits_spec : {M : Type 1} → statement M
+range_fits_spec = tie.close (tie.spec returns returns-2 returns-3)

@@ -3,7 +3,7 @@ use Prim.Native.Nat.{◌-◌, ◌≤◌}
 use native.Mathlib.Omega.{arith}
 use borrow.Author.Rules.{rules}
 use borrow.Author.Tests.{not-true, not-false}
-use Rattle.coverage.proofs.Checking.{Checking, fits-order, checking-all, checking-turn, checking-faulty, checking-end}
+use Rattle.coverage.proofs.Checking.{Checking, fits_order, checking_all, checking_turn, checking_faulty, checking_end}
 use Rattle.coverage.proofs.ranges_sound.Statement.{statement}
 use Rattle.coverage.proofs.ranges_sound.Tie as tie
 
@@ -15,17 +15,17 @@ decreases-loop src at n low₀ before₀ i₀ low before i = n - i
 
 -- the range that was read starts from low on, and at most at its end
 order : (c : tie.Else1 invariant-loop decreases-loop) → (c.before.before.before.before.before.before.loop.low ≤ c.before.before.before.before.word_at.result) × (c.before.before.before.before.word_at.result ≤ c.before.before.before.word-at2.result)
-order c = fits-order _ _ _ _ (sym c.before.range-fits.ensures ∙ not-false _ c.if1.false)
+order c = fits_order _ _ _ _ (sym c.before.range-fits.ensures ∙ not-false _ c.if1.false)
 
 loop-holds : tie.Need-loop-init invariant-loop decreases-loop
-loop-holds c = checking-all
+loop-holds c = checking_all
 
 returns : tie.Need-returns invariant-loop decreases-loop
 returns c =
     let x = c.before.before in
     let z = x.before in
     let a = z.before in
-    checking-faulty a.before.before.loop.invariant a.before.loop-test.true a.word_at.ensures.0 z.word-at2.ensures.0 x.word-at3.ensures.0 c.before.range-fits.ensures (not-true _ c.if1.true)
+    checking_faulty a.before.before.loop.invariant a.before.loop-test.true a.word_at.ensures.0 z.word-at2.ensures.0 x.word-at3.ensures.0 c.before.range-fits.ensures (not-true _ c.if1.true)
 
 sub-before : tie.Need-overflow-sub-before invariant-loop decreases-loop
 sub-before c = omega (arith, order c)
@@ -38,13 +38,13 @@ loop-again c =
     let x = c.before.before in
     let z = x.before in
     let a = z.before in
-    checking-turn a.before.before.loop.invariant a.before.loop-test.true a.word_at.ensures.0 z.word-at2.ensures.0 x.word-at3.ensures.0 c.before.range-fits.ensures z.word-at2.ensures.1 (not-false _ c.if1.false)
+    checking_turn a.before.before.loop.invariant a.before.loop-test.true a.word_at.ensures.0 z.word-at2.ensures.0 x.word-at3.ensures.0 c.before.range-fits.ensures z.word-at2.ensures.1 (not-false _ c.if1.false)
 
 returns-2 : tie.Need-returns-2 invariant-loop decreases-loop
-returns-2 c = checking-end c.before.loop.invariant c.loop-test.false
+returns-2 c = checking_end c.before.loop.invariant c.loop-test.false
 
-pub ranges-sound-spec : {M : Type 1} → statement M
-ranges-sound-spec =
+pub ranges_sound_spec : {M : Type 1} → statement M
+ranges_sound_spec =
     tie.close
     (tie.spec
     invariant-loop

@@ -1,4 +1,4 @@
-use Rattle.covered_classes.proofs.Covering.{class-none, class-other, class-own}
+use Rattle.covered_classes.proofs.Covering.{class_none, class_other, class_own}
 use Prim.Native.Nat.{◌+◌}
 use native.Mathlib.Omega.{arith}
 use borrow.Author.Rules.{rules}
@@ -8,7 +8,7 @@ use Rattle.covered_classes.proofs.class_at.Tie as tie
 returns : tie.Need-returns
 returns c =
     let a = c.before.args in
-    class-none a.t.now a.list a.n a.k a.new c.if1.true
+    class_none a.t.now a.list a.n a.k a.new c.if1.true
 
 cast-cell : tie.Need-overflow-cast-cell
 cast-cell c =
@@ -18,14 +18,14 @@ cast-cell c =
 returns-2 : tie.Need-returns-2
 returns-2 c =
     let a = c.before.before.before.args in
-    class-other a.t.now a.list a.n a.k a.new c.before.before.if1.false c.if2.true
+    class_other a.t.now a.list a.n a.k a.new c.before.before.if1.false c.if2.true
 
 returns-3 : tie.Need-returns-3
 returns-3 c =
     let a = c.before.before.before.args in
-    class-own a.t.now a.list a.n a.k a.new c.before.before.if1.false c.if2.false
+    class_own a.t.now a.list a.n a.k a.new c.before.before.if1.false c.if2.false
 
-pub class-at-spec : {M : Type 1} → statement M
-class-at-spec =
+pub class_at_spec : {M : Type 1} → statement M
+class_at_spec =
     tie.close
     (tie.spec returns (λ c. search rules) (λ c. search rules) (λ c. search rules) cast-cell returns-2 returns-3)

@@ -1,4 +1,4 @@
-use Rattle.covered_classes.proofs.Covering.{Passing, passing-all, passing-next, passing-stop, passing-end}
+use Rattle.covered_classes.proofs.Covering.{Passing, passing_all, passing_next, passing_stop, passing_end}
 use borrow.Author.Rules.{rules}
 use Prim.Native.Nat.{◌+◌, ◌-◌}
 use native.Mathlib.Omega.{arith}
@@ -12,22 +12,22 @@ abbrev decreases-loop : tie.decreases-loop
 decreases-loop t list n from new k₀ k = n - k
 
 loop-holds : tie.Need-loop-init invariant-loop decreases-loop
-loop-holds c = passing-all c.requires.1
+loop-holds c = passing_all c.requires.1
 
 cast-if1 : tie.Need-overflow-cast-if1 invariant-loop decreases-loop
 cast-if1 c = let l = c.before.before in omega (arith, c.shared-slice-known.given (l.before.args.list + l.loop.k))
 
 returns : tie.Need-returns invariant-loop decreases-loop
-returns c = passing-stop c.before.before.before.loop.invariant c.before.before.loop-test.true c.if1.true
+returns c = passing_stop c.before.before.before.loop.invariant c.before.before.loop-test.true c.if1.true
 
 loop-again : tie.Need-loop-preserved invariant-loop decreases-loop
-loop-again c = passing-next c.before.before.before.loop.invariant c.before.before.loop-test.true c.if1.false
+loop-again c = passing_next c.before.before.before.loop.invariant c.before.before.loop-test.true c.if1.false
 
 returns-2 : tie.Need-returns-2 invariant-loop decreases-loop
-returns-2 c = passing-end c.before.loop.invariant c.loop-test.false
+returns-2 c = passing_end c.before.loop.invariant c.loop-test.false
 
-pub pass-below-spec : {M : Type 1} → statement M
-pass-below-spec =
+pub pass_below_spec : {M : Type 1} → statement M
+pass_below_spec =
     tie.close
     (tie.spec
     invariant-loop

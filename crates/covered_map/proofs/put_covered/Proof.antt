@@ -1,5 +1,5 @@
 use Rattle.meaning.specs.Parts.{coverage}
-use Rattle.covered_map.proofs.Naming.{Naming, naming-all, naming-turn, naming-end}
+use Rattle.covered_map.proofs.Naming.{Naming, naming_all, naming_turn, naming_end}
 use borrow.Author.Rules.{rules}
 use mathlib.Core.Path.{refl}
 use Prim.Native.Nat.{◌+◌, ◌-◌}
@@ -14,7 +14,7 @@ abbrev decreases-loop : tie.decreases-loop
 decreases-loop src cover t at n area₀ p₀ i₀ area p i = n - i
 
 loop-holds : tie.Need-loop-init invariant-loop decreases-loop
-loop-holds c = naming-all
+loop-holds c = naming_all
 
 cast-note : tie.Need-overflow-cast-note invariant-loop decreases-loop
 cast-note c =
@@ -32,16 +32,16 @@ put-two-requires c κs =
 
 loop-again : tie.Need-loop-preserved invariant-loop decreases-loop
 loop-again c =
-    naming-turn c.before.before.before.before.before.before.before.loop.invariant c.before.before.before.before.before.before.loop-test.true refl c.before.before.before.before.glyph-at.ensures.glyph c.before.before.put_two.ensures
+    naming_turn c.before.before.before.before.before.before.before.loop.invariant c.before.before.before.before.before.before.loop-test.true refl c.before.before.before.before.glyph_at.ensures.glyph c.before.before.put_two.ensures
 
 same_length : tie.Need-same-length invariant-loop decreases-loop
 same_length c = c.before.loop.invariant.size
 
 returns : tie.Need-returns invariant-loop decreases-loop
-returns c = naming-end c.before.loop.invariant c.loop-test.false
+returns c = naming_end c.before.loop.invariant c.loop-test.false
 
-pub put-covered-spec : {M : Type 1} → statement M
-put-covered-spec =
+pub put_covered_spec : {M : Type 1} → statement M
+put_covered_spec =
     tie.close
     (tie.spec
     invariant-loop

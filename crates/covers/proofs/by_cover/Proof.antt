@@ -1,8 +1,8 @@
-use Rattle.tried.specs.Front.{front_length, front-tries}
-use Rattle.meaning.specs.Maps.{mapEntries, glyphEntries}
-use Rattle.meaning.specs.Tables.{coverContext}
+use Rattle.tried.specs.Front.{front_length, front_tries}
+use Rattle.meaning.specs.Maps.{map_entries, glyph_entries}
+use Rattle.meaning.specs.Tables.{cover_context}
 use Rattle.meaning.specs.Cut.{cut}
-use Rattle.meaning.specs.Subset.{writtenIn}
+use Rattle.meaning.specs.Subset.{written_in}
 use native.Mathlib.Omega.{arith}
 use borrow.Author.Rules.{rules}
 use Rattle.covers.proofs.by_cover.Statement.{statement}
@@ -26,11 +26,11 @@ returns : tie.Need-returns
 returns c =
     let r = c.before.before.before.before.before.before in
     let a = c.before.before.before.before.before.before.before.before.before.before.before.before.before.before.before.before.before.before.args in
-    front-tries a.t.now a.area.now r.cut_in.result a.out.now r.cut_in.new.1.1.1.1.1.1.1.0 (writtenIn a.marks.layout a.out.now (cut (glyphEntries a.marks.form a.glyphs.now) (mapEntries a.lookups.now) (coverContext a.chained a.src.now)))
+    front_tries a.t.now a.area.now r.cut_in.result a.out.now r.cut_in.new.1.1.1.1.1.1.1.0 (written_in a.marks.layout a.out.now (cut (glyph_entries a.marks.form a.glyphs.now) (map_entries a.lookups.now) (cover_context a.chained a.src.now)))
     c.before.before.before.before.before.before.before.before.before.before.before.least.ensures c.before.before.before.before.before.before.before.before.before.before.least2.ensures r.cut_in.ensures
 
-pub by-cover-spec : {M : Type 1} → statement M
-by-cover-spec =
+pub by_cover_spec : {M : Type 1} → statement M
+by_cover_spec =
     tie.close
     (tie.spec
     (λ c κs. search rules)

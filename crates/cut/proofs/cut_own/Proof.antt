@@ -3,11 +3,11 @@ use Prim.Native.Nat.{ℕ, ◌-◌}
 use mathlib.Core.Path.{◌≡◌, ap, ◌∙◌}
 use mathlib.Core.List.{List}
 use borrow.Author.Rules.{rules}
-use Rattle.meaning.specs.Maps.{mapEntries, glyphEntries}
+use Rattle.meaning.specs.Maps.{map_entries, glyph_entries}
 use Rattle.meaning.specs.Tables.{table}
 use Rattle.meaning.specs.Cut.{cut}
-use Rattle.meaning.specs.Subset.{writtenIn}
-use Rattle.cut.proofs.Sizes.{small-became, small-untouched, large-became, not_short}
+use Rattle.meaning.specs.Subset.{written_in}
+use Rattle.cut.proofs.Sizes.{small_became, small_untouched, large_became, not_short}
 use Rattle.cut.proofs.cut_own.Statement.{statement}
 use Rattle.cut.proofs.cut_own.Tie as tie
 
@@ -22,12 +22,12 @@ returns c =
     let k = c.before.before.before.before.before in
     let l = k.before.before.before in
     let a = l.before.before.before.before.before.before.args in
-    small-became k.in_size.ensures c.before.laid.given.1 ∙ ap (λ (o : List ℕ). writtenIn a.marks.layout o (cut (glyphEntries a.marks.form a.glyphs.now) (mapEntries a.lookups.now) (table a.marks.kind a.src.now))) l.loop.invariant
+    small_became k.in_size.ensures c.before.laid.given.1 ∙ ap (λ (o : List ℕ). written_in a.marks.layout o (cut (glyph_entries a.marks.form a.glyphs.now) (map_entries a.lookups.now) (table a.marks.kind a.src.now))) l.loop.invariant
 
 loop-again : tie.Need-loop-preserved invariant-loop decreases-loop
 loop-again c =
     let k = c.before.before.before in
-    small-untouched k.in_size.ensures c.match.keys2 ∙ k.before.before.before.loop.invariant
+    small_untouched k.in_size.ensures c.match.keys2 ∙ k.before.before.before.loop.invariant
 
 returns-2 : tie.Need-returns-2 invariant-loop decreases-loop
 returns-2 c = absurd (not_short c.before.before.before.in-most.ensures c.match2.keys2)
@@ -37,10 +37,10 @@ returns-3 c =
     let k = c.before.before.before.before.before in
     let l = k.before.before.before in
     let a = l.before.before.before.before.before.before.args in
-    large-became k.in-most.ensures c.before.laid2.given.1 ∙ ap (λ (o : List ℕ). writtenIn a.marks.layout o (cut (glyphEntries a.marks.form a.glyphs.now) (mapEntries a.lookups.now) (table a.marks.kind a.src.now))) l.loop.invariant
+    large_became k.in-most.ensures c.before.laid2.given.1 ∙ ap (λ (o : List ℕ). written_in a.marks.layout o (cut (glyph_entries a.marks.form a.glyphs.now) (map_entries a.lookups.now) (table a.marks.kind a.src.now))) l.loop.invariant
 
-pub cut-own-spec : {M : Type 1} → statement M
-cut-own-spec =
+pub cut_own_spec : {M : Type 1} → statement M
+cut_own_spec =
     tie.close
     (tie.spec
     invariant-loop

@@ -10,8 +10,8 @@ in-class-pairs-requires c κs = (c.before.before.before.before.before.before.bef
 in-all-but-class-pairs-requires : tie.Need-in-all-but-class-pairs-requires
 in-all-but-class-pairs-requires c κs = (c.before.before.before.before.before.before.before.requires, sym c.before.before.pairs-by-class.ensures ∙ c.before.if1.false)
 
-pub in-most-spec : {M : Type 1} → statement M
-in-most-spec =
+pub in_most_spec : {M : Type 1} → statement M
+in_most_spec =
     tie.close
     (tie.spec
     (λ c κs. search rules)

@@ -2,8 +2,8 @@
 use native.Mathlib.Omega.{arith}
 use lib.ListN.{length}
 use borrow.Author.Rules.{rules}
-use Rattle.meaning.specs.Maps.{mapEntries, glyphEntries}
-use Rattle.cut_kinds.proofs.Says.{asks-1, asks-2, asks-3, tries-1, tries-2, tries-3}
+use Rattle.meaning.specs.Maps.{map_entries, glyph_entries}
+use Rattle.cut_kinds.proofs.Says.{asks_1, asks_2, asks_3, tries_1, tries_2, tries_3}
 use Rattle.cut_kinds.proofs.context_in.Statement.{statement}
 use Rattle.cut_kinds.proofs.context_in.Tie as tie
 
@@ -11,43 +11,43 @@ contexts-requires : tie.Need-contexts-requires
 contexts-requires c κs =
     let w = c.before.before.before.before in
     let a = w.before.before.before.before.before.before.before in
-    asks-1 a.args.chained a.args.src.now w.word_at.ensures.0 a.requires (omega arith)
+    asks_1 a.args.chained a.args.src.now w.word_at.ensures.0 a.requires (omega arith)
 
 by-class-requires : tie.Need-by-class-requires
 by-class-requires c κs =
     let w = c.before.before.before.before in
     let a = w.before.before.before.before.before.before.before in
-    asks-2 a.args.chained a.args.src.now w.word_at.ensures.0 a.requires (omega arith)
+    asks_2 a.args.chained a.args.src.now w.word_at.ensures.0 a.requires (omega arith)
 
 by-cover-requires : tie.Need-by-cover-requires
 by-cover-requires c κs =
     let w = c.before.before.before.before in
     let a = w.before.before.before.before.before.before.before in
-    asks-3 a.args.chained a.args.src.now w.word_at.ensures.0 a.requires (omega arith) (omega arith)
+    asks_3 a.args.chained a.args.src.now w.word_at.ensures.0 a.requires (omega arith) (omega arith)
 
 returns : tie.Need-returns
 returns c =
     let k = c.before.before.before.before.before.before in
     let w = k.before.before.before.before.before in
     let a = w.before.before.before.before.before.before.before.args in
-    tries-1 a.chained a.src.now w.word_at.ensures.0 a.marks.layout (glyphEntries a.marks.form a.glyphs.now) (mapEntries a.lookups.now) (length a.t.now) (length a.area.now) k.contexts.result a.out.now k.contexts.new.1.1.1.1.1.1.1.0 (omega arith) k.contexts.ensures
+    tries_1 a.chained a.src.now w.word_at.ensures.0 a.marks.layout (glyph_entries a.marks.form a.glyphs.now) (map_entries a.lookups.now) (length a.t.now) (length a.area.now) k.contexts.result a.out.now k.contexts.new.1.1.1.1.1.1.1.0 (omega arith) k.contexts.ensures
 
 returns-2 : tie.Need-returns-2
 returns-2 c =
     let k = c.before.before.before.before.before.before in
     let w = k.before.before.before.before.before in
     let a = w.before.before.before.before.before.before.before.args in
-    tries-2 a.chained a.src.now w.word_at.ensures.0 a.marks.layout (glyphEntries a.marks.form a.glyphs.now) (mapEntries a.lookups.now) (length a.t.now) (length a.area.now) k.by-class.result a.out.now k.by-class.new.1.1.1.1.1.1.1.0 (omega arith) k.by-class.ensures
+    tries_2 a.chained a.src.now w.word_at.ensures.0 a.marks.layout (glyph_entries a.marks.form a.glyphs.now) (map_entries a.lookups.now) (length a.t.now) (length a.area.now) k.by_class.result a.out.now k.by_class.new.1.1.1.1.1.1.1.0 (omega arith) k.by_class.ensures
 
 returns-3 : tie.Need-returns-3
 returns-3 c =
     let k = c.before.before.before.before.before.before in
     let w = k.before.before.before.before.before in
     let a = w.before.before.before.before.before.before.before.args in
-    tries-3 a.chained a.src.now w.word_at.ensures.0 a.marks.layout (glyphEntries a.marks.form a.glyphs.now) (mapEntries a.lookups.now) (length a.t.now) (length a.area.now) k.by-cover.result a.out.now k.by-cover.new.1.1.1.1.1.1.1.0 (omega arith) (omega arith) k.by-cover.ensures
+    tries_3 a.chained a.src.now w.word_at.ensures.0 a.marks.layout (glyph_entries a.marks.form a.glyphs.now) (map_entries a.lookups.now) (length a.t.now) (length a.area.now) k.by_cover.result a.out.now k.by_cover.new.1.1.1.1.1.1.1.0 (omega arith) (omega arith) k.by_cover.ensures
 
-pub context-in-spec : {M : Type 1} → statement M
-context-in-spec =
+pub context_in_spec : {M : Type 1} → statement M
+context_in_spec =
     tie.close
     (tie.spec
     (λ c κs. search rules)

@@ -1,7 +1,7 @@
 use Rattle.area.specs.Part.{notes}
-use Rattle.numbers.specs.Entries.{entriesIn}
+use Rattle.numbers.specs.Entries.{entries_in}
 use Rattle.pair_places.specs.Formats.{below}
-use Rattle.field_uses.proofs.Using.{place-fits, format-sum}
+use Rattle.field_uses.proofs.Using.{place_fits, format_sum}
 use borrow.Author.Rules.{rules}
 use Rattle.field_uses.proofs.new_format.Statement.{statement}
 use Rattle.field_uses.proofs.new_format.Tie as tie
@@ -9,22 +9,22 @@ use Rattle.field_uses.proofs.new_format.Tie as tie
 bit-kept-requires : tie.Need-bit-kept-requires
 bit-kept-requires c κs =
     let a = c.before.before.before in
-    (a.requires.0, place-fits a.args.start a.args.f 1 a.args.size c.field-place.ensures.0 (below a.args.f).0 a.requires.2 a.requires.3, a.requires.4)
+    (a.requires.0, place_fits a.args.start a.args.f 1 a.args.size c.field-place.ensures.0 (below a.args.f).0 a.requires.2 a.requires.3, a.requires.4)
 
 bit-kept-requires-2 : tie.Need-bit-kept-requires-2
 bit-kept-requires-2 c κs =
     let a = c.before.before.before.before.before in
-    (a.requires.0, place-fits a.args.start a.args.f 2 a.args.size c.field-place2.ensures.0 (below a.args.f).1.0 a.requires.2 a.requires.3, a.requires.4)
+    (a.requires.0, place_fits a.args.start a.args.f 2 a.args.size c.field-place2.ensures.0 (below a.args.f).1.0 a.requires.2 a.requires.3, a.requires.4)
 
 bit-kept-requires-3 : tie.Need-bit-kept-requires-3
 bit-kept-requires-3 c κs =
     let a = c.before.before.before.before.before.before.before in
-    (a.requires.0, place-fits a.args.start a.args.f 4 a.args.size c.field-place3.ensures.0 (below a.args.f).1.1.0 a.requires.2 a.requires.3, a.requires.4)
+    (a.requires.0, place_fits a.args.start a.args.f 4 a.args.size c.field-place3.ensures.0 (below a.args.f).1.1.0 a.requires.2 a.requires.3, a.requires.4)
 
 bit-kept-requires-4 : tie.Need-bit-kept-requires-4
 bit-kept-requires-4 c κs =
     let a = c.before.before.before.before.before.before.before.before.before in
-    (a.requires.0, place-fits a.args.start a.args.f 8 a.args.size c.field-place4.ensures.0 (below a.args.f).1.1.1.0 a.requires.2 a.requires.3, a.requires.4)
+    (a.requires.0, place_fits a.args.start a.args.f 8 a.args.size c.field-place4.ensures.0 (below a.args.f).1.1.1.0 a.requires.2 a.requires.3, a.requires.4)
 
 returns : tie.Need-returns
 returns c =
@@ -32,12 +32,12 @@ returns c =
     let y = x.before.before in
     let z = y.before.before in
     let a = z.before.before.before.before.args in
-    format-sum (entriesIn a.t.now a.glyphs) a.src.now a.size a.start a.f (notes a.t.now a.at a.n)
+    format_sum (entries_in a.t.now a.glyphs) a.src.now a.size a.start a.f (notes a.t.now a.at a.n)
     z.before.field-place.ensures.0 y.before.field-place2.ensures.0 x.before.field-place3.ensures.0 c.before.field-place4.ensures.0
     z.bit_kept.ensures.0 y.bit-kept2.ensures.0 x.bit-kept3.ensures.0 c.bit-kept4.ensures.0
 
-pub new-format-spec : {M : Type 1} → statement M
-new-format-spec =
+pub new_format_spec : {M : Type 1} → statement M
+new_format_spec =
     tie.close
     (tie.spec
     (λ c κs. search rules)

@@ -1,14 +1,14 @@
 use mathlib.Core.Path.{refl}
 use Prim.Native.Nat.{◌+◌, ◌-◌}
 use native.Mathlib.Omega.{arith}
-use Rattle.numbers.specs.Entries.{entriesIn}
-use Rattle.field_uses.proofs.Using.{Using, using-all, using-found, using-next, using-end, unused, names-inside}
+use Rattle.numbers.specs.Entries.{entries_in}
+use Rattle.field_uses.proofs.Using.{Using, using_all, using_found, using_next, using_end, unused, names_inside}
 use borrow.Author.Rules.{rules}
 use Rattle.field_uses.proofs.uses.Statement.{statement}
 use Rattle.field_uses.proofs.uses.Tie as tie
 
 abbrev invariant-notes : tie.invariant-notes
-invariant-notes src size place t at n glyphs i₀ i = Using (entriesIn t glyphs) src size place t at n i
+invariant-notes src size place t at n glyphs i₀ i = Using (entries_in t glyphs) src size place t at n i
 
 abbrev decreases-notes : tie.decreases-notes
 decreases-notes src size place t at n glyphs i₀ i = n - i
@@ -17,7 +17,7 @@ returns : tie.Need-returns invariant-notes decreases-notes
 returns c = unused _ _ _ _ c.if1.true
 
 notes-holds : tie.Need-notes-init invariant-notes decreases-notes
-notes-holds c = using-all
+notes-holds c = using_all
 
 cast-word-inside : tie.Need-overflow-cast-word-inside invariant-notes decreases-notes
 cast-word-inside c = omega (arith, c.shared-slice-known3.given (c.before.before.before.before.before.before.args.at + c.before.before.notes.i))
@@ -34,19 +34,19 @@ word-inside-requires c κs = omega (arith, c.before.before.before.before.before.
 set-uses-requires : tie.Need-set-uses-requires invariant-notes decreases-notes
 set-uses-requires c κs =
     let a = c.before.before.before.before.before.before.before in
-    (names-inside a.requires.0 c.before.before.notes-test.true c.word-inside.ensures.0, a.requires.1, a.requires.2)
+    (names_inside a.requires.0 c.before.before.notes-test.true c.word-inside.ensures.0, a.requires.1, a.requires.2)
 
 returns-2 : tie.Need-returns-2 invariant-notes decreases-notes
-returns-2 c = using-found c.before.before.before.before.before.notes.invariant c.before.before.before.before.notes-test.true refl c.before.before.word-inside.ensures.0 c.before.set-uses.ensures c.if2.true
+returns-2 c = using_found c.before.before.before.before.before.notes.invariant c.before.before.before.before.notes-test.true refl c.before.before.word-inside.ensures.0 c.before.set-uses.ensures c.if2.true
 
 notes-again : tie.Need-notes-preserved invariant-notes decreases-notes
-notes-again c = using-next c.before.before.before.before.before.notes.invariant c.before.before.before.before.notes-test.true refl c.before.before.word-inside.ensures.0 c.before.set-uses.ensures c.if2.false
+notes-again c = using_next c.before.before.before.before.before.notes.invariant c.before.before.before.before.notes-test.true refl c.before.before.word-inside.ensures.0 c.before.set-uses.ensures c.if2.false
 
 returns-3 : tie.Need-returns-3 invariant-notes decreases-notes
-returns-3 c = using-end c.before.notes.invariant c.notes-test.false
+returns-3 c = using_end c.before.notes.invariant c.notes-test.false
 
-pub uses-spec : {M : Type 1} → statement M
-uses-spec =
+pub uses_spec : {M : Type 1} → statement M
+uses_spec =
     tie.close
     (tie.spec
     invariant-notes

@@ -1,5 +1,5 @@
 use borrow.Author.Rules.{rules}
-use Rattle.file_parts.proofs.Trailers.{ends-says}
+use Rattle.file_parts.proofs.Trailers.{ends_says}
 use Rattle.file_parts.proofs.ends_by.Statement.{statement}
 use Rattle.file_parts.proofs.ends_by.Tie as tie
 
@@ -7,10 +7,10 @@ returns : tie.Need-returns
 returns c =
     let w = c.before in
     let a = w.before.before.args in
-    ends-says a.file.now a.at w.long-at.ensures c.long-at2.ensures a.end
+    ends_says a.file.now a.at w.long-at.ensures c.long-at2.ensures a.end
 
-pub ends-by-spec : {M : Type 1} → statement M
-ends-by-spec =
+pub ends_by_spec : {M : Type 1} → statement M
+ends_by_spec =
     tie.close
     (tie.spec
     (λ c κs. search rules)

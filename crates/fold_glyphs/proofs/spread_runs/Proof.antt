@@ -4,7 +4,7 @@ use Prim.Native.Nat.{◌-◌, ◌/◌, ◌≤◌}
 use native.Mathlib.Omega.{arith}
 use lib.ListN.{length}
 use Rattle.cell_maps.specs.Runs.{Spread}
-use Rattle.cell_maps.proofs.RunLaws.{runs-no-room, spread_none, spread-next, spread_end}
+use Rattle.cell_maps.proofs.RunLaws.{runs_no_room, spread_none, spread_next, spread_end}
 use Rattle.fold_glyphs.proofs.spread_runs.Statement.{statement}
 use Rattle.fold_glyphs.proofs.spread_runs.Tie as tie
 
@@ -15,19 +15,19 @@ abbrev decreases-loop : tie.decreases-loop
 decreases-loop list t₀ at m k₀ t k = length list / 6 - k
 
 returns : tie.Need-returns invariant-loop decreases-loop
-returns c = runs-no-room c.if1.true
+returns c = runs_no_room c.if1.true
 
 loop-holds : tie.Need-loop-init invariant-loop decreases-loop
 loop-holds c = (omega arith, spread_none refl c.before.before.clear.ensures.0)
 
 loop-again : tie.Need-loop-preserved invariant-loop decreases-loop
-loop-again c = (omega arith, spread-next c.before.before.before.before.before.loop.invariant.1 c.before.before.spread-run.ensures)
+loop-again c = (omega arith, spread_next c.before.before.before.before.before.loop.invariant.1 c.before.before.spread-run.ensures)
 
 returns-2 : tie.Need-returns-2 invariant-loop decreases-loop
 returns-2 c = spread_end c.before.before.before.before.clear.ensures.1 c.before.loop.invariant.1 (omega arith)
 
-pub spread-runs-spec : {M : Type 1} → statement M
-spread-runs-spec =
+pub spread_runs_spec : {M : Type 1} → statement M
+spread_runs_spec =
     tie.close
     (tie.spec
     invariant-loop

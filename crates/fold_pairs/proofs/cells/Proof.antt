@@ -13,8 +13,8 @@ returns-2 c = let p = c.before.before.before in (p.power.ensures.two, p.power.en
 returns-3 : tie.Need-returns-3
 returns-3 c = (c.before.power2.ensures.two, c.before.power2.ensures.few (omega arith))
 
-pub cells-spec : {M : Type 1} → statement M
-cells-spec =
+pub cells_spec : {M : Type 1} → statement M
+cells_spec =
     tie.close
     (tie.spec
     (λ c κs. search rules)

@@ -1,7 +1,7 @@
 -- `fold_pairs::clear` meets its contract: all cells hold 0, but the first. Assumes nothing.
 use Prim.Native.Nat.{◌-◌}
 use borrow.Author.Rules.{rules}
-use Rattle.fold_pairs.proofs.Laws.{Clearing, clearing-all, clearing-next, clearing-end}
+use Rattle.fold_pairs.proofs.Laws.{Clearing, clearing_all, clearing_next, clearing_end}
 use Rattle.fold_pairs.proofs.clear.Statement.{statement}
 use Rattle.fold_pairs.proofs.clear.Tie as tie
 
@@ -12,13 +12,13 @@ abbrev decreases-loop : tie.decreases-loop
 decreases-loop t₀ m i₀ end t i = end - i
 
 loop-holds : tie.Need-loop-init invariant-loop decreases-loop
-loop-holds c = clearing-all c.before.requires
+loop-holds c = clearing_all c.before.requires
 
 loop-again : tie.Need-loop-preserved invariant-loop decreases-loop
-loop-again c = clearing-next c.before.loop.invariant c.loop-test.true
+loop-again c = clearing_next c.before.loop.invariant c.loop-test.true
 
 returns : tie.Need-returns invariant-loop decreases-loop
-returns c = clearing-end c.before.loop.invariant c.loop-test.false
+returns c = clearing_end c.before.loop.invariant c.loop-test.false
 
 pub clear_spec : {M : Type 1} → statement M
 clear_spec =

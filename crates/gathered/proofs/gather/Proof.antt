@@ -1,7 +1,7 @@
 use borrow.Author.Rules.{rules}
-use Rattle.set_numbers.proofs.Slots.{rest, rest-null, rest-there, rest_all, rest_end}
-use Rattle.gathered.specs.Gathered.{numbersAt}
-use Rattle.gathered.proofs.Gathering.{Gathering, gathering-none, gathering-null, gathering-there, gathering-end, gathered-null, gather-all}
+use Rattle.set_numbers.proofs.Slots.{rest, rest_null, rest_there, rest_all, rest_end}
+use Rattle.gathered.specs.Gathered.{numbers_at}
+use Rattle.gathered.proofs.Gathering.{Gathering, gathering_none, gathering_null, gathering_there, gathering_end, gathered_null, gather_all}
 use mathlib.Core.Path.{sym, ◌∙◌}
 use Prim.Native.Nat.{◌-◌}
 use native.Mathlib.Omega.{arith}
@@ -10,7 +10,7 @@ use Rattle.gathered.proofs.gather.Statement.{statement}
 use Rattle.gathered.proofs.gather.Tie as tie
 
 abbrev invariant-slots : tie.invariant-slots
-invariant-slots src set num nums₀ from n m₀ i₀ nums m i = Gathering num (numbersAt num src set.side set.at) from n nums₀ (rest src set.side set.at n i) nums m i
+invariant-slots src set num nums₀ from n m₀ i₀ nums m i = Gathering num (numbers_at num src set.side set.at) from n nums₀ (rest src set.side set.at n i) nums m i
 
 abbrev decreases-slots : tie.decreases-slots
 decreases-slots src set num nums₀ from n m₀ i₀ nums m i = n - i
@@ -18,7 +18,7 @@ decreases-slots src set num nums₀ from n m₀ i₀ nums m i = n - i
 returns : tie.Need-returns invariant-slots decreases-slots
 returns c =
     let o = c.before.before.before.before.before.args in
-    gathered-null o.num.now o.src.now o.set.side o.set.at o.from c.if1.true
+    gathered_null o.num.now o.src.now o.set.side o.set.at o.from c.if1.true
 
 word-at-requires : tie.Need-word-at-requires invariant-slots decreases-slots
 word-at-requires c κs = search rules
@@ -26,7 +26,7 @@ word-at-requires c κs = search rules
 slots-holds : tie.Need-slots-init invariant-slots decreases-slots
 slots-holds c =
     let o = c.before.before.before.before.before.before.args in
-    gathering-none (gather-all o.num.now o.src.now o.set.side o.set.at c.word_at.result (rest_all o.src.now o.set.side o.set.at c.before.if1.false c.word_at.ensures.0))
+    gathering_none (gather_all o.num.now o.src.now o.set.side o.set.at c.word_at.result (rest_all o.src.now o.set.side o.set.at c.before.if1.false c.word_at.ensures.0))
 
 add-word-at : tie.Need-overflow-add-word-at invariant-slots decreases-slots
 add-word-at c = search rules
@@ -51,7 +51,7 @@ slots-again c =
     let o = c.before.before.before.before.before.before.before.before.before.before.before.args in
     let l = c.before.before.before.before.slots in
     let h = c.before.before.before.slots-test.true in
-    gathering-null l.invariant h (rest-null o.src.now o.set.side o.set.at c.before.before.before.before.before.word_at.result l.i h (sym c.before.word-at2.ensures.0 ∙ c.if2.true))
+    gathering_null l.invariant h (rest_null o.src.now o.set.side o.set.at c.before.before.before.before.before.word_at.result l.i h (sym c.before.word-at2.ensures.0 ∙ c.if2.true))
 
 add-cell : tie.Need-overflow-add-cell invariant-slots decreases-slots
 add-cell c = search rules
@@ -86,8 +86,8 @@ slots-again-2 c =
     let l = c.before.before.before.before.before.before.before.before.before.before.before.slots in
     let h = c.before.before.before.before.before.before.before.before.before.before.slots-test.true in
     let w = c.before.before.before.before.before.before.before.before.word-at2 in
-    let e = rest-there o.args.src.now o.args.set.side o.args.set.at c.before.before.before.before.before.before.before.before.before.before.before.before.word_at.result l.i h (λ z. c.before.before.before.before.before.before.before.if2.false (w.ensures.0 ∙ z)) in
-    gathering-there l.invariant h (rw (← w.ensures.0) at e) c.before.before.before.before.cell.ensures.0 (omega (arith, o.requires.cells, c.before.before.before.before.before.before.before.before.before.before.before.before.word_at.ensures.1)) c.before.before.put-cell.ensures
+    let e = rest_there o.args.src.now o.args.set.side o.args.set.at c.before.before.before.before.before.before.before.before.before.before.before.before.word_at.result l.i h (λ z. c.before.before.before.before.before.before.before.if2.false (w.ensures.0 ∙ z)) in
+    gathering_there l.invariant h (rw (← w.ensures.0) at e) c.before.before.before.before.cell.ensures.0 (omega (arith, o.requires.cells, c.before.before.before.before.before.before.before.before.before.before.before.before.word_at.ensures.1)) c.before.before.put-cell.ensures
 
 same_length : tie.Need-same-length invariant-slots decreases-slots
 same_length c = c.before.slots.invariant.size
@@ -95,10 +95,10 @@ same_length c = c.before.slots.invariant.size
 returns-2 : tie.Need-returns-2 invariant-slots decreases-slots
 returns-2 c =
     let o = c.before.before.before.before.before.before.before.before.args in
-    gathering-end c.before.slots.invariant c.before.before.word_at.ensures.1 (rest_end o.src.now o.set.side o.set.at c.before.before.word_at.result c.before.slots.i c.slots-test.false)
+    gathering_end c.before.slots.invariant c.before.before.word_at.ensures.1 (rest_end o.src.now o.set.side o.set.at c.before.before.word_at.result c.before.slots.i c.slots-test.false)
 
-pub gather-spec : {M : Type 1} → statement M
-gather-spec =
+pub gather_spec : {M : Type 1} → statement M
+gather_spec =
     tie.close
     (tie.spec
     invariant-slots

@@ -1,7 +1,7 @@
 use Rattle.listing.specs.Laid.{laid_said}
-use Rattle.first_glyphs.specs.First.{bytes-known}
-use Rattle.set_differences.specs.Said.{scratch-fit}
-use Rattle.glyph_differences.specs.Whole.{slot-table, whole-list}
+use Rattle.first_glyphs.specs.First.{bytes_known}
+use Rattle.set_differences.specs.Said.{scratch_fit}
+use Rattle.glyph_differences.specs.Whole.{slot_table, whole_list}
 use mathlib.Core.Path.{◌≡◌, ◌∙◌}
 use native.Mathlib.Omega.{arith}
 use lib.ListN.{length}
@@ -22,9 +22,9 @@ lay-numbered-requires c κs =
     let heads : length n.number-all.new.1.1.1.1.1.1.0 ≡ length o.args.heads.now = h.heads.given in
     let e : Scratch (length n.number-all.new.1.1.1.1.1.0) (length o.args.nums.now) (length n.number-all.new.1.1.1.1.1.1.0) (length o.args.links.now) =
     record { codes = h.before.before.num.given ∙ k.codes; rows = k.rows; comes = omega (arith, k.comes); linked = k.linked } in (
-      slot-table s (bytes-known s (λ i. omega (arith, r.before.shared-slice-known.given i))) o.args.kind o.requires.0,
-      slot-table t (bytes-known t (λ i. omega (arith, r.shared-slice-known2.given i))) o.args.kind o.requires.1,
-      scratch-fit e n.number-all.ensures,
+      slot_table s (bytes_known s (λ i. omega (arith, r.before.shared-slice-known.given i))) o.args.kind o.requires.0,
+      slot_table t (bytes_known t (λ i. omega (arith, r.shared-slice-known2.given i))) o.args.kind o.requires.1,
+      scratch_fit e n.number-all.ensures,
     )
 
 returns : tie.Need-returns
@@ -35,12 +35,12 @@ returns c =
     let o = r.before.before in
     let s = o.args.left.now in
     let t = o.args.right.now in
-    let b = bytes-known s (λ i. omega (arith, r.before.shared-slice-known.given i)) in
-    let d = bytes-known t (λ i. omega (arith, r.shared-slice-known2.given i)) in
-    (laid_said l.lay-numbered.ensures.0 (whole-list o.args.kind s t o.args.links.now n.number-all.new.1.1.1.1.1.0 o.requires.0 b o.requires.1 d n.number-all.ensures), l.lay-numbered.ensures.1)
+    let b = bytes_known s (λ i. omega (arith, r.before.shared-slice-known.given i)) in
+    let d = bytes_known t (λ i. omega (arith, r.shared-slice-known2.given i)) in
+    (laid_said l.lay-numbered.ensures.0 (whole_list o.args.kind s t o.args.links.now n.number-all.new.1.1.1.1.1.0 o.requires.0 b o.requires.1 d n.number-all.ensures), l.lay-numbered.ensures.1)
 
-pub lay-rules-spec : {M : Type 1} → statement M
-lay-rules-spec =
+pub lay_rules_spec : {M : Type 1} → statement M
+lay_rules_spec =
     tie.close
     (tie.spec
     (λ c κs. search rules)

@@ -1,4 +1,4 @@
-use Rattle.glyph_differences.proofs.Glyphs.{slot-few, slot-right, slot-left, slot-both}
+use Rattle.glyph_differences.proofs.Glyphs.{slot_few, slot_right, slot_left, slot_both}
 use native.Mathlib.Omega.{arith}
 use borrow.Author.Rules.{rules}
 use Rattle.glyph_differences.proofs.list_glyph.Statement.{statement}
@@ -25,7 +25,7 @@ returns c =
     let m = l.before.before in
     let f = m.before.before in
     let o = f.before.before.before.before.before.before.before.before in
-    let x = slot-right o.args.num.now o.requires.0 o.requires.1 o.args.at.glyph f.cover-index.ensures m.enum_told.given.1 l.List-right.ensures in
+    let x = slot_right o.args.num.now o.requires.0 o.requires.1 o.args.at.glyph f.cover-index.ensures m.enum_told.given.1 l.List-right.ensures in
     (x.0, x.1, o.requires.5)
 
 cover-index-requires-2 : tie.Need-cover-index-requires-2
@@ -51,7 +51,7 @@ returns-2 c =
     let i = f.before.before in
     let e = i.before.before in
     let o = e.before.before.before.before.before.before.before.before in
-    let x = slot-left o.args.num.now o.requires.0 o.requires.1 o.args.at.glyph e.cover-index.ensures i.i.given.1 f.cover-index2.ensures m.enum-told2.given.1 l.put-listed.ensures in
+    let x = slot_left o.args.num.now o.requires.0 o.requires.1 o.args.at.glyph e.cover-index.ensures i.i.given.1 f.cover-index2.ensures m.enum-told2.given.1 l.put-listed.ensures in
     (x.0, x.1, o.requires.5)
 
 mul-word-at : tie.Need-overflow-mul-word-at
@@ -59,14 +59,14 @@ mul-word-at c =
     let i = c.before.before.before.before.before in
     let e = i.before.before in
     let o = e.before.before.before.before.before.before.before.before in
-    omega (arith, slot-few o.requires.0 o.args.at.glyph e.cover-index.ensures i.i.given.1)
+    omega (arith, slot_few o.requires.0 o.args.at.glyph e.cover-index.ensures i.i.given.1)
 
 add-word-at : tie.Need-overflow-add-word-at
 add-word-at c =
     let i = c.before.before.before.before.before in
     let e = i.before.before in
     let o = e.before.before.before.before.before.before.before.before in
-    omega (arith, slot-few o.requires.0 o.args.at.glyph e.cover-index.ensures i.i.given.1)
+    omega (arith, slot_few o.requires.0 o.args.at.glyph e.cover-index.ensures i.i.given.1)
 
 word-at-requires : tie.Need-word-at-requires
 word-at-requires c κs = search rules
@@ -76,14 +76,14 @@ mul-word-at-2 c =
     let j = c.before.before in
     let f = j.before.before in
     let o = f.before.before.before.before.before.before.before.before.before.before.before.before in
-    omega (arith, slot-few o.requires.1 o.args.at.glyph f.cover-index2.ensures j.j.given.1)
+    omega (arith, slot_few o.requires.1 o.args.at.glyph f.cover-index2.ensures j.j.given.1)
 
 add-word-at-2 : tie.Need-overflow-add-word-at-2
 add-word-at-2 c =
     let j = c.before.before in
     let f = j.before.before in
     let o = f.before.before.before.before.before.before.before.before.before.before.before.before in
-    omega (arith, slot-few o.requires.1 o.args.at.glyph f.cover-index2.ensures j.j.given.1)
+    omega (arith, slot_few o.requires.1 o.args.at.glyph f.cover-index2.ensures j.j.given.1)
 
 word-at-requires-2 : tie.Need-word-at-requires-2
 word-at-requires-2 c κs = search rules
@@ -112,10 +112,10 @@ returns-3 c =
     let i = c.before.before.before.before.before.before.before.before.before.before.before.before.before.before.before.before.before.before.before.before in
     let e = c.before.before.before.before.before.before.before.before.before.before.before.before.before.before.before.before.before.before.before.before.before.before in
     let o = c.before.before.before.before.before.before.before.before.before.before.before.before.before.before.before.before.before.before.before.before.before.before.before.before.before.before.before.before.before.before in
-    (slot-both o.args.num.now o.requires.0 o.requires.1 o.args.at.glyph e.cover-index.ensures i.i.given.1 f.cover-index2.ensures j.j.given.1 w.before.word_at.ensures.0 w.word-at2.ensures.0 l.0, l.1, l.2)
+    (slot_both o.args.num.now o.requires.0 o.requires.1 o.args.at.glyph e.cover-index.ensures i.i.given.1 f.cover-index2.ensures j.j.given.1 w.before.word_at.ensures.0 w.word-at2.ensures.0 l.0, l.1, l.2)
 
-pub list-glyph-spec : {M : Type 1} → statement M
-list-glyph-spec =
+pub list_glyph_spec : {M : Type 1} → statement M
+list_glyph_spec =
     tie.close
     (tie.spec
     cover-index-requires

@@ -1,9 +1,9 @@
 use lib.Dec.{eqb}
-use Rattle.differences.specs.Entries.{ruleEntries}
-use Rattle.listing.specs.Listed.{listed-length}
-use Rattle.first_glyphs.specs.First.{atGlyph}
-use Rattle.set_differences.proofs.Going.{Going, going-none, going-fit, going-turn, going_end}
-use Rattle.glyph_differences.specs.Slots.{numbersBy}
+use Rattle.differences.specs.Entries.{rule_entries}
+use Rattle.listing.specs.Listed.{listed_length}
+use Rattle.first_glyphs.specs.First.{at_glyph}
+use Rattle.set_differences.proofs.Going.{Going, going_none, going_fit, going_turn, going_end}
+use Rattle.glyph_differences.specs.Slots.{numbers_by}
 use Prim.Native.Nat.{◌-◌}
 use native.Mathlib.Omega.{arith}
 use borrow.Author.Rules.{rules}
@@ -11,44 +11,44 @@ use Rattle.glyph_differences.proofs.list_numbered.Statement.{statement}
 use Rattle.glyph_differences.proofs.list_numbered.Tie as tie
 
 abbrev invariant-loop : tie.invariant-loop
-invariant-loop left right num nums₀ heads₀ links₀ out₀ at₀ g₀ nums heads links out at g = Going (atGlyph (ruleEntries eqb) (numbersBy num left 0) (numbersBy num right 1)) num left right out₀ nums₀ heads₀ links₀ out nums heads links at g
+invariant-loop left right num nums₀ heads₀ links₀ out₀ at₀ g₀ nums heads links out at g = Going (at_glyph (rule_entries eqb) (numbers_by num left 0) (numbers_by num right 1)) num left right out₀ nums₀ heads₀ links₀ out nums heads links at g
 
 abbrev decreases-loop : tie.decreases-loop
 decreases-loop left right num nums₀ heads₀ links₀ out₀ at₀ g₀ nums heads links out at g = 65536 - g
 
 loop-holds : tie.Need-loop-init invariant-loop decreases-loop
-loop-holds c = going-none c.before.before.remember.ensures
+loop-holds c = going_none c.before.before.remember.ensures
 
 list-glyph-requires : tie.Need-list-glyph-requires invariant-loop decreases-loop
 list-glyph-requires c κs =
     let t = c.before.before.before.before in
     let l = t.before in
     let o = l.before.before.before.before.before.before.before.before.before.before.before.before in
-    (o.requires.0, o.requires.1, t.loop-test.true, omega (arith, l.loop.invariant.through.near, t.loop-test.true), going-fit l.loop.invariant o.requires.2 (omega arith), l.loop.invariant.remembered)
+    (o.requires.0, o.requires.1, t.loop-test.true, omega (arith, l.loop.invariant.through.near, t.loop-test.true), going_fit l.loop.invariant o.requires.2 (omega arith), l.loop.invariant.remembered)
 
 loop-again : tie.Need-loop-preserved invariant-loop decreases-loop
 loop-again c =
     let g = c.before.before.before.before.before.before.before.before in
     let t = g.before.before.before.before.before in
-    going-turn t.before.loop.invariant t.loop-test.true g.list-glyph.ensures (omega arith) (omega arith) (omega arith)
+    going_turn t.before.loop.invariant t.loop-test.true g.list-glyph.ensures (omega arith) (omega arith) (omega arith)
 
 same_length : tie.Need-same-length invariant-loop decreases-loop
-same_length c = omega (arith, c.before.loop.invariant.nums-size)
+same_length c = omega (arith, c.before.loop.invariant.nums_size)
 
 same-length-2 : tie.Need-same-length-2 invariant-loop decreases-loop
-same-length-2 c = c.before.loop.invariant.heads-size
+same-length-2 c = c.before.loop.invariant.heads_size
 
 same-length-3 : tie.Need-same-length-3 invariant-loop decreases-loop
-same-length-3 c = c.before.loop.invariant.links-size
+same-length-3 c = c.before.loop.invariant.links_size
 
 same-length-4 : tie.Need-same-length-4 invariant-loop decreases-loop
-same-length-4 c = listed-length (going_end c.before.loop.invariant c.loop-test.false).0
+same-length-4 c = listed_length (going_end c.before.loop.invariant c.loop-test.false).0
 
 returns : tie.Need-returns invariant-loop decreases-loop
 returns c = going_end c.before.loop.invariant c.loop-test.false
 
-pub list-numbered-spec : {M : Type 1} → statement M
-list-numbered-spec =
+pub list_numbered_spec : {M : Type 1} → statement M
+list_numbered_spec =
     tie.close
     (tie.spec
     invariant-loop

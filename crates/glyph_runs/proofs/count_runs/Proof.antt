@@ -1,4 +1,4 @@
-use Rattle.glyph_runs.proofs.Reading.{count-pairs}
+use Rattle.glyph_runs.proofs.Reading.{count_pairs}
 use mathlib.Core.Path.{◌≡◌}
 use Rattle.glyph_runs.proofs.count_runs.Statement.{statement}
 use Rattle.glyph_runs.proofs.count_runs.Tie as tie
@@ -9,7 +9,7 @@ returns c =
     rw e
 
 returns-2 : tie.Need-returns-2
-returns-2 c = count-pairs c.before.requires c.if1.false
+returns-2 c = count_pairs c.before.requires c.if1.false
 
-pub count-runs-spec : {M : Type 1} → statement M
-count-runs-spec = tie.close (tie.spec returns returns-2)
+pub count_runs_spec : {M : Type 1} → statement M
+count_runs_spec = tie.close (tie.spec returns returns-2)

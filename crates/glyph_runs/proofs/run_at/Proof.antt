@@ -1,5 +1,5 @@
 use Rattle.glyph_runs.specs.Found.{run_inside}
-use Rattle.glyph_runs.proofs.Reading.{is-run, size-six, size-one}
+use Rattle.glyph_runs.proofs.Reading.{is_run, size_six, size_one}
 use mathlib.Core.Path.{sym, ◌∙◌}
 use Prim.Native.Nat.{◌*◌}
 use native.Mathlib.Omega.{arith}
@@ -41,17 +41,17 @@ word-inside-requires-3 c κs =
 returns : tie.Need-returns
 returns c =
     let p = c.before.before.before.before.before in
-    is-run p.requires.0 p.requires.1 c.before.before.before.word-inside.ensures.0 c.before.before.word-inside2.ensures.0
-    (c.word-inside3.ensures.0 ∙ sym (size-six p.args.glyphs.now (p.args.form * p.args.i) c.before.if1.true))
+    is_run p.requires.0 p.requires.1 c.before.before.before.word-inside.ensures.0 c.before.before.word-inside2.ensures.0
+    (c.word-inside3.ensures.0 ∙ sym (size_six p.args.glyphs.now (p.args.form * p.args.i) c.before.if1.true))
 
 returns-2 : tie.Need-returns-2
 returns-2 c =
     let p = c.before.before.before.before in
-    is-run p.requires.0 p.requires.1 c.before.before.word-inside.ensures.0 c.before.word-inside2.ensures.0
-    (sym (size-one p.args.glyphs.now (p.args.form * p.args.i) c.if1.false))
+    is_run p.requires.0 p.requires.1 c.before.before.word-inside.ensures.0 c.before.word-inside2.ensures.0
+    (sym (size_one p.args.glyphs.now (p.args.form * p.args.i) c.if1.false))
 
-pub run-at-spec : {M : Type 1} → statement M
-run-at-spec =
+pub run_at_spec : {M : Type 1} → statement M
+run_at_spec =
     tie.close
     (tie.spec
     mul_at

@@ -2,7 +2,7 @@
 use Prim.Native.Nat.{◌-◌}
 use borrow.Author.Rules.{rules}
 use borrow.Author.Tests.{not-true, not-false}
-use Rattle.gsubgpos.proofs.Within.{InSets, InRules, sets-start, sets_end, rules-start, rules-next, rules-past, sets-next}
+use Rattle.gsubgpos.proofs.Within.{InSets, InRules, sets_start, sets_end, rules_start, rules_next, rules_past, sets_next}
 use Rattle.gsubgpos.proofs.sets_within.Statement.{statement}
 use Rattle.gsubgpos.proofs.sets_within.Tie as tie
 
@@ -19,13 +19,13 @@ abbrev decreases-sets : tie.decreases-sets
 decreases-sets chained src slot n marks₀ within₀ i₀ marks within i = n - i
 
 sets-holds : tie.Need-sets-init invariant-loop decreases-loop invariant-sets decreases-sets
-sets-holds c = sets-start c.before.before.requires.2
+sets-holds c = sets_start c.before.before.requires.2
 
 loop-holds : tie.Need-loop-init invariant-loop decreases-loop invariant-sets decreases-sets
 loop-holds c =
     let w = c.before in
     let t = w.before in
-    rules-start t.before.sets.invariant t.sets-test.true w.word_at.ensures c.rules-in.ensures
+    rules_start t.before.sets.invariant t.sets-test.true w.word_at.ensures c.rules_in.ensures
 
 reached-within-requires : tie.Need-reached-within-requires invariant-loop decreases-loop invariant-sets decreases-sets
 reached-within-requires c κs =
@@ -36,10 +36,10 @@ loop-again : tie.Need-loop-preserved invariant-loop decreases-loop invariant-set
 loop-again c =
     let r = c.before.before.before in
     let t = r.before.before in
-    rules-next t.before.loop.invariant t.loop-test.true r.reached-within.ensures (not-false _ c.if1.false) (search rules)
+    rules_next t.before.loop.invariant t.loop-test.true r.reached-within.ensures (not-false _ c.if1.false) (search rules)
 
 sets-again : tie.Need-sets-preserved invariant-loop decreases-loop invariant-sets decreases-sets
-sets-again c = sets-next c.before.loop.invariant c.loop-test.false c.before.before.before.before.before.sets.invariant.long
+sets-again c = sets_next c.before.loop.invariant c.loop-test.false c.before.before.before.before.before.sets.invariant.long
 
 same_length : tie.Need-same-length invariant-loop decreases-loop invariant-sets decreases-sets
 same_length c = c.before.sets.invariant.long
@@ -54,10 +54,10 @@ returns-2 : tie.Need-returns-2 invariant-loop decreases-loop invariant-sets decr
 returns-2 c =
     let r = c.before.before.before in
     let t = r.before.before in
-    rules-past t.before.loop.invariant t.loop-test.true r.reached-within.ensures.0 (not-true _ c.if1.true)
+    rules_past t.before.loop.invariant t.loop-test.true r.reached-within.ensures.0 (not-true _ c.if1.true)
 
-pub sets-within-spec : {M : Type 1} → statement M
-sets-within-spec =
+pub sets_within_spec : {M : Type 1} → statement M
+sets_within_spec =
     tie.close
     (tie.spec
     invariant-loop

@@ -24,8 +24,8 @@ returns-3 c =
     let h = passed i.before.rule-within.ensures i.if2.false in
     (sym h, marked_more a.args.at a.requires.1 h p.put-bit.ensures)
 
-pub within-once-spec : {M : Type 1} → statement M
-within-once-spec =
+pub within_once_spec : {M : Type 1} → statement M
+within_once_spec =
     tie.close
     (tie.spec
     (λ c κs. search rules)

@@ -2,7 +2,7 @@ use borrow.Author.Rules.{rules}
 use Prim.Native.Nat.{◌+◌, ◌-◌, ◌*◌, ◌<◌}
 use native.Mathlib.Omega.{arith}
 use lib.ListN.{length}
-use Rattle.halving.proofs.Searching.{Searching, searching-all, searching-up, searching-down, searching-end}
+use Rattle.halving.proofs.Searching.{Searching, searching_all, searching_up, searching_down, searching_end}
 use Rattle.halving.proofs.reach.Statement.{statement}
 use Rattle.halving.proofs.reach.Tie as tie
 
@@ -13,7 +13,7 @@ abbrev decreases-loop : tie.decreases-loop
 decreases-loop s at step n from near value lo₀ hi₀ lo hi = hi - lo
 
 loop-holds : tie.Need-loop-init invariant-loop decreases-loop
-loop-holds c = searching-all c.before.requires.1
+loop-holds c = searching_all c.before.requires.1
 
 -- the word that is looked at lies inside
 probed : (c : tie.After-probe invariant-loop decreases-loop) → c.before.before.before.before.args.at + c.before.before.before.before.args.step * c.probe.result + 1 < length c.before.before.before.before.args.s.now
@@ -35,19 +35,19 @@ loop-again c =
     let w = c.before in
     let m = w.before in
     let l = m.before.before in
-    searching-up l.loop.invariant m.probe.ensures w.word-inside.ensures.0 l.before.before.requires.0 c.if1.true
+    searching_up l.loop.invariant m.probe.ensures w.word-inside.ensures.0 l.before.before.requires.0 c.if1.true
 
 loop-again-2 : tie.Need-loop-preserved-2 invariant-loop decreases-loop
 loop-again-2 c =
     let w = c.before in
     let m = w.before in
-    searching-down m.before.before.loop.invariant m.probe.ensures w.word-inside.ensures.0 c.if1.false
+    searching_down m.before.before.loop.invariant m.probe.ensures w.word-inside.ensures.0 c.if1.false
 
 returns : tie.Need-returns invariant-loop decreases-loop
-returns c = searching-end c.before.loop.invariant c.loop-test.false
+returns c = searching_end c.before.loop.invariant c.loop-test.false
 
-pub reach-spec : {M : Type 1} → statement M
-reach-spec =
+pub reach_spec : {M : Type 1} → statement M
+reach_spec =
     tie.close
     (tie.spec
     invariant-loop

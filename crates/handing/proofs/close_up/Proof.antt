@@ -1,5 +1,5 @@
 use native.Mathlib.Omega.{arith}
-use Rattle.handing.proofs.Moved.{closed_none, closed-gap}
+use Rattle.handing.proofs.Moved.{closed_none, closed_gap}
 use borrow.Author.Rules.{rules}
 use Rattle.handing.proofs.close_up.Statement.{statement}
 use Rattle.handing.proofs.close_up.Tie as tie
@@ -14,10 +14,10 @@ returns-2 c =
     let m = c.before.before in
     let l = m.before.before.before.before in
     let a = l.before.before.before.before in
-    closed-gap a.requires.0 a.requires.1 a.requires.2 (omega (arith, a.requires)) l.lessen.ensures m.move_down.ensures
+    closed_gap a.requires.0 a.requires.1 a.requires.2 (omega (arith, a.requires)) l.lessen.ensures m.move_down.ensures
 
-pub close-up-spec : {M : Type 1} → statement M
-close-up-spec =
+pub close_up_spec : {M : Type 1} → statement M
+close_up_spec =
     tie.close
     (tie.spec
     (λ c. search rules)

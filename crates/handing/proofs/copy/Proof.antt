@@ -1,7 +1,7 @@
 use mathlib.Core.Path.{refl, ap, ◌∙◌}
 use Prim.Native.Nat.{◌-◌}
 use lib.ListN.{length}
-use Rattle.handing.proofs.Moved.{Copying, copying-all, copying-turn, copying-end}
+use Rattle.handing.proofs.Moved.{Copying, copying_all, copying_turn, copying_end}
 use borrow.Author.Rules.{rules}
 use lib.Seq.{length-sets}
 use Rattle.handing.proofs.copy.Statement.{statement}
@@ -14,18 +14,18 @@ abbrev decreases-loop : tie.decreases-loop
 decreases-loop area from n out₀ to i₀ out i = n - i
 
 loop-holds : tie.Need-loop-init invariant-loop decreases-loop
-loop-holds c = copying-all
+loop-holds c = copying_all
 
 loop-again : tie.Need-loop-preserved invariant-loop decreases-loop
 loop-again c =
     let l = c.before in
-    copying-turn l.before.loop.invariant l.loop-test.true refl refl
+    copying_turn l.before.loop.invariant l.loop-test.true refl refl
 
 same_length : tie.Need-same-length invariant-loop decreases-loop
-same_length c = ap length (copying-end c.before.loop.invariant c.loop-test.false) ∙ simp length-sets
+same_length c = ap length (copying_end c.before.loop.invariant c.loop-test.false) ∙ simp length-sets
 
 returns : tie.Need-returns invariant-loop decreases-loop
-returns c = copying-end c.before.loop.invariant c.loop-test.false
+returns c = copying_end c.before.loop.invariant c.loop-test.false
 
 pub copy_spec : {M : Type 1} → statement M
 copy_spec =

@@ -2,9 +2,9 @@ use mathlib.Core.Path.{ap, ◌∙◌}
 use Prim.Native.Nat.{◌-◌}
 use native.Mathlib.Omega.{arith}
 use lib.ListN.{length}
-use Rattle.handing.proofs.Moved.{hand-refused, hand-room, hand-kept}
-use Rattle.room.specs.Laid.{isKept}
-use Rattle.room.proofs.Refused.{not-kept}
+use Rattle.handing.proofs.Moved.{hand_refused, hand_room, hand_kept}
+use Rattle.room.specs.Laid.{is_kept}
+use Rattle.room.proofs.Refused.{not_kept}
 use Rattle.area.specs.Part.{part}
 use lib.Seq.{length-sets}
 use borrow.Author.Rules.{rules}
@@ -15,13 +15,13 @@ returns : tie.Need-returns
 returns c =
     let r = c.before in
     let a = r.before.before.before.args in
-    hand-refused a.area.now a.head a.first (a.end - a.first) a.fits a.out.now r.room.ensures (not-kept r.room.result c.match.keys2)
+    hand_refused a.area.now a.head a.first (a.end - a.first) a.fits a.out.now r.room.ensures (not_kept r.room.result c.match.keys2)
 
 copy-requires : tie.Need-copy-requires
 copy-requires c κs =
     let r = c.before.before.before in
     let a = r.before.before.before in
-    let room = hand-room a.args.area.now a.args.head a.args.first (a.args.end - a.args.first) a.args.fits a.args.out.now r.room.ensures (ap isKept c.before.enum_told.given.1) in
+    let room = hand_room a.args.area.now a.args.head a.args.first (a.args.end - a.args.first) a.args.fits a.args.out.now r.room.ensures (ap is_kept c.before.enum_told.given.1) in
     (omega (arith, a.requires), omega (arith, room))
 
 copy-requires-2 : tie.Need-copy-requires-2
@@ -29,7 +29,7 @@ copy-requires-2 c κs =
     let t = c.before.before.before.before.before in
     let r = t.before.before in
     let a = r.before.before.before in
-    let room = hand-room a.args.area.now a.args.head a.args.first (a.args.end - a.args.first) a.args.fits a.args.out.now r.room.ensures (ap isKept t.enum_told.given.1) in
+    let room = hand_room a.args.area.now a.args.head a.args.first (a.args.end - a.args.first) a.args.fits a.args.out.now r.room.ensures (ap is_kept t.enum_told.given.1) in
     let same = length-sets a.args.out.now 0 (part a.args.area.now 0 a.args.head) in
     (omega (arith, a.requires), omega (arith, room, ap length c.before.before.before.copy.ensures ∙ same))
 
@@ -40,10 +40,10 @@ returns-2 c =
     let t = v.before.before in
     let r = t.before.before in
     let a = r.before.before.before.args in
-    hand-kept a.area.now a.head a.first (a.end - a.first) a.fits a.out.now r.room.ensures (ap isKept t.enum_told.given.1) v.copy.ensures w.copy2.ensures
+    hand_kept a.area.now a.head a.first (a.end - a.first) a.fits a.out.now r.room.ensures (ap is_kept t.enum_told.given.1) v.copy.ensures w.copy2.ensures
 
-pub hand-over-spec : {M : Type 1} → statement M
-hand-over-spec =
+pub hand_over_spec : {M : Type 1} → statement M
+hand_over_spec =
     tie.close
     (tie.spec
     (λ c. search rules)

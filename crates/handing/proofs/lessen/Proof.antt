@@ -1,7 +1,7 @@
 use mathlib.Core.Path.{refl, ap, ◌∙◌}
 use Prim.Native.Nat.{◌-◌}
 use lib.ListN.{length}
-use Rattle.handing.proofs.Moved.{Lessening, lessening-all, lessening-turn, lessening-end}
+use Rattle.handing.proofs.Moved.{Lessening, lessening_all, lessening_turn, lessening_end}
 use borrow.Author.Rules.{rules}
 use lib.Seq.{length-sets}
 use Rattle.handing.proofs.lessen.Statement.{statement}
@@ -14,23 +14,23 @@ abbrev decreases-loop : tie.decreases-loop
 decreases-loop area₀ at n d i₀ area i = n - i
 
 loop-holds : tie.Need-loop-init invariant-loop decreases-loop
-loop-holds c = lessening-all
+loop-holds c = lessening_all
 
 loop-again : tie.Need-loop-preserved invariant-loop decreases-loop
 loop-again c =
     let p = c.before.before in
     let w = p.before.before in
     let l = w.before.before in
-    lessening-turn l.before.loop.invariant l.loop-test.true refl w.word-inside.ensures.0 p.put.ensures.1
+    lessening_turn l.before.loop.invariant l.loop-test.true refl w.word-inside.ensures.0 p.put.ensures.1
 
 same_length : tie.Need-same-length invariant-loop decreases-loop
-same_length c = ap length (lessening-end c.before.loop.invariant c.loop-test.false) ∙ simp length-sets
+same_length c = ap length (lessening_end c.before.loop.invariant c.loop-test.false) ∙ simp length-sets
 
 returns : tie.Need-returns invariant-loop decreases-loop
-returns c = lessening-end c.before.loop.invariant c.loop-test.false
+returns c = lessening_end c.before.loop.invariant c.loop-test.false
 
-pub lessen-spec : {M : Type 1} → statement M
-lessen-spec =
+pub lessen_spec : {M : Type 1} → statement M
+lessen_spec =
     tie.close
     (tie.spec
     invariant-loop

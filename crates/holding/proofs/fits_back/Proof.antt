@@ -1,6 +1,6 @@
 use Prim.Native.Nat.{◌-◌}
 use borrow.Author.Rules.{rules}
-use Rattle.holding.proofs.Holding.{Away, away-all, away-short, away-not, away-turn, away-end}
+use Rattle.holding.proofs.Holding.{Away, away_all, away_short, away_not, away_turn, away_end}
 use Rattle.holding.proofs.fits_back.Statement.{statement}
 use Rattle.holding.proofs.fits_back.Tie as tie
 
@@ -11,10 +11,10 @@ abbrev decreases-loop : tie.decreases-loop
 decreases-loop src q string n place i₀ i = q.len - i
 
 loop-holds : tie.Need-loop-init invariant-loop decreases-loop
-loop-holds c = away-all
+loop-holds c = away_all
 
 returns : tie.Need-returns invariant-loop decreases-loop
-returns c = away-short c.before.before.before.loop.invariant c.before.if1.true c.if2.true
+returns c = away_short c.before.before.before.loop.invariant c.before.if1.true c.if2.true
 
 mul-word-at : tie.Need-overflow-mul-word-at invariant-loop decreases-loop
 mul-word-at c = search rules
@@ -47,7 +47,7 @@ returns-2 c =
     let h = c.before in
     let w = h.before.before in
     let l = w.before.before.before.before.before in
-    away-not l.loop.invariant w.before.before.before.if1.true w.before.before.if2.false l.before.before.before.requires.1 w.word_at.ensures.0 h.before.word-at2.ensures.0 h.holds.ensures c.if3.true
+    away_not l.loop.invariant w.before.before.before.if1.true w.before.before.if2.false l.before.before.before.requires.1 w.word_at.ensures.0 h.before.word-at2.ensures.0 h.holds.ensures c.if3.true
 
 add-i : tie.Need-overflow-add-i invariant-loop decreases-loop
 add-i c = search rules
@@ -60,13 +60,13 @@ loop-again c =
     let h = c.before in
     let w = h.before.before in
     let l = w.before.before.before.before.before in
-    away-turn l.loop.invariant w.before.before.before.if1.true w.before.before.if2.false l.before.before.before.requires.1 w.word_at.ensures.0 h.before.word-at2.ensures.0 h.holds.ensures c.if3.false
+    away_turn l.loop.invariant w.before.before.before.if1.true w.before.before.if2.false l.before.before.before.requires.1 w.word_at.ensures.0 h.before.word-at2.ensures.0 h.holds.ensures c.if3.false
 
 returns-3 : tie.Need-returns-3 invariant-loop decreases-loop
-returns-3 c = away-end c.before.before.loop.invariant c.if1.false
+returns-3 c = away_end c.before.before.loop.invariant c.if1.false
 
-pub fits-back-spec : {M : Type 1} → statement M
-fits-back-spec =
+pub fits_back_spec : {M : Type 1} → statement M
+fits_back_spec =
     tie.close
     (tie.spec
     invariant-loop

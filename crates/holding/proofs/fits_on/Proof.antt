@@ -1,6 +1,6 @@
 use Prim.Native.Nat.{◌-◌}
 use borrow.Author.Rules.{rules}
-use Rattle.holding.proofs.Holding.{Onward, onward-all, onward-short, onward-not, onward-turn, onward-end}
+use Rattle.holding.proofs.Holding.{Onward, onward_all, onward_short, onward_not, onward_turn, onward_end}
 use Rattle.holding.proofs.fits_on.Statement.{statement}
 use Rattle.holding.proofs.fits_on.Tie as tie
 
@@ -11,13 +11,13 @@ abbrev decreases-loop : tie.decreases-loop
 decreases-loop src q string n place i₀ i = q.len - i
 
 loop-holds : tie.Need-loop-init invariant-loop decreases-loop
-loop-holds c = onward-all
+loop-holds c = onward_all
 
 add-if2 : tie.Need-overflow-add-if2 invariant-loop decreases-loop
 add-if2 c = search rules
 
 returns : tie.Need-returns invariant-loop decreases-loop
-returns c = onward-short c.before.before.before.loop.invariant c.before.if1.true c.if2.true
+returns c = onward_short c.before.before.before.loop.invariant c.before.if1.true c.if2.true
 
 mul-word-at : tie.Need-overflow-mul-word-at invariant-loop decreases-loop
 mul-word-at c = search rules
@@ -47,7 +47,7 @@ returns-2 c =
     let h = c.before in
     let w = h.before.before in
     let l = w.before.before.before.before.before in
-    onward-not l.loop.invariant w.before.before.before.if1.true w.before.before.if2.false w.word_at.ensures.0 h.before.word-at2.ensures.0 h.holds.ensures c.if3.true
+    onward_not l.loop.invariant w.before.before.before.if1.true w.before.before.if2.false w.word_at.ensures.0 h.before.word-at2.ensures.0 h.holds.ensures c.if3.true
 
 add-i : tie.Need-overflow-add-i invariant-loop decreases-loop
 add-i c = search rules
@@ -60,13 +60,13 @@ loop-again c =
     let h = c.before in
     let w = h.before.before in
     let l = w.before.before.before.before.before in
-    onward-turn l.loop.invariant w.before.before.before.if1.true w.before.before.if2.false w.word_at.ensures.0 h.before.word-at2.ensures.0 h.holds.ensures c.if3.false
+    onward_turn l.loop.invariant w.before.before.before.if1.true w.before.before.if2.false w.word_at.ensures.0 h.before.word-at2.ensures.0 h.holds.ensures c.if3.false
 
 returns-3 : tie.Need-returns-3 invariant-loop decreases-loop
-returns-3 c = onward-end c.before.before.loop.invariant c.if1.false
+returns-3 c = onward_end c.before.before.loop.invariant c.if1.false
 
-pub fits-on-spec : {M : Type 1} → statement M
-fits-on-spec =
+pub fits_on_spec : {M : Type 1} → statement M
+fits_on_spec =
     tie.close
     (tie.spec
     invariant-loop

@@ -4,7 +4,7 @@ use mathlib.Core.Path.{◌≡◌, ◌∙◌}
 use native.Mathlib.Omega.{arith}
 use lib.ListN.{length}
 use borrow.Author.Rules.{rules}
-use Rattle.input.proofs.Reading.{room-left}
+use Rattle.input.proofs.Reading.{room_left}
 use Rattle.input.proofs.read_input.Statement.{statement}
 use Rattle.input.proofs.read_input.Tie as tie
 
@@ -20,7 +20,7 @@ room c =
     let back = c.before.before.before.before.before in
     let read = back.before in
     let l = read.before.before.before in
-    room-left l.loop.n l.loop.file read.read-once.new.0 read.read-once.result l.loop.invariant.0 back.file.given.0 read.read-once.ensures c.before.before.more.given.1
+    room_left l.loop.n l.loop.file read.read-once.new.0 read.read-once.result l.loop.invariant.0 back.file.given.0 read.read-once.ensures c.before.before.more.given.1
 
 add-n : tie.Need-overflow-add-n invariant-loop decreases-loop
 add-n c = omega (arith, room c)
@@ -30,8 +30,8 @@ loop-again c =
     let same = c.before.before.before.before.before.file.given.1 in
     (omega (arith, room c, same), same ∙ c.before.before.before.before.before.before.before.before.before.loop.invariant.1)
 
-pub read-input-spec : {M : Type 1} → statement M
-read-input-spec =
+pub read_input_spec : {M : Type 1} → statement M
+read_input_spec =
     tie.close
     (tie.spec
     invariant-loop

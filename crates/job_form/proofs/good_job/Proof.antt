@@ -1,7 +1,7 @@
 -- `job_form::good_job` meets its contract: the tests in order, each made where those before it are passed. Assumes nothing.
 use Rattle.faults.specs.Reached.{refused, passed}
 use borrow.Author.Rules.{rules}
-use Rattle.job_parts.proofs.Parts.{too_short, too_long, no-tag, no_table, no-glyphs, all-but-lookups}
+use Rattle.job_parts.proofs.Parts.{too_short, too_long, no_tag, no_table, no_glyphs, all_but_lookups}
 use Rattle.job_form.proofs.good_job.Statement.{statement}
 use Rattle.job_form.proofs.good_job.Tie as tie
 
@@ -17,7 +17,7 @@ returns-3 : tie.Need-returns-3
 returns-3 c =
     let b = c.before.before in
     let a = b.before in
-    no-tag a.before.before.args.file.now a.if1.false b.if2.false (refused c.before.is-tagged.ensures c.if3.true)
+    no_tag a.before.before.args.file.now a.if1.false b.if2.false (refused c.before.is-tagged.ensures c.if3.true)
 
 returns-4 : tie.Need-returns-4
 returns-4 c =
@@ -32,7 +32,7 @@ returns-5 c =
     let t = d.before.before in
     let b = t.before.before in
     let a = b.before in
-    no-glyphs a.before.before.args.file.now a.if1.false b.if2.false (passed t.before.is-tagged.ensures t.if3.false) (passed d.before.is-before.ensures d.if4.false)
+    no_glyphs a.before.before.args.file.now a.if1.false b.if2.false (passed t.before.is-tagged.ensures t.if3.false) (passed d.before.is-before.ensures d.if4.false)
     (refused c.before.is-before2.ensures c.if5.true)
 
 returns-6 : tie.Need-returns-6
@@ -42,8 +42,8 @@ returns-6 c =
     let t = d.before.before in
     let b = t.before.before in
     let a = b.before in
-    all-but-lookups a.before.before.args.file.now a.if1.false b.if2.false (passed t.before.is-tagged.ensures t.if3.false) (passed d.before.is-before.ensures d.if4.false)
+    all_but_lookups a.before.before.args.file.now a.if1.false b.if2.false (passed t.before.is-tagged.ensures t.if3.false) (passed d.before.is-before.ensures d.if4.false)
     (passed e.before.is-before2.ensures e.if5.false) c.is-before3.ensures
 
-pub good-job-spec : {M : Type 1} → statement M
-good-job-spec = tie.close (tie.spec returns returns-2 (λ c κs. search rules) returns-3 (λ c. search rules) (λ c. search rules) (λ c κs. search rules) returns-4 (λ c. search rules) (λ c κs. search rules) returns-5 (λ c. search rules) (λ c κs. search rules) returns-6)
+pub good_job_spec : {M : Type 1} → statement M
+good_job_spec = tie.close (tie.spec returns returns-2 (λ c κs. search rules) returns-3 (λ c. search rules) (λ c. search rules) (λ c κs. search rules) returns-4 (λ c. search rules) (λ c κs. search rules) returns-5 (λ c. search rules) (λ c κs. search rules) returns-6)

@@ -1,25 +1,25 @@
 -- `job_parts::lookup_part` meets its contract: the part lies before the trailer, since the job is good. Assumes nothing.
 use native.Mathlib.Omega.{arith}
 use borrow.Author.Rules.{rules}
-use Rattle.meaning.specs.Job.{trailer, lookupPart}
-use Rattle.job_parts.proofs.Parts.{is-job}
+use Rattle.meaning.specs.Job.{trailer, lookup_part}
+use Rattle.job_parts.proofs.Parts.{is_job}
 use Rattle.job_parts.proofs.lookup_part.Statement.{statement}
 use Rattle.job_parts.proofs.lookup_part.Tie as tie
 
 sub_part : tie.Need-overflow-sub-part
 sub_part c =
     let a = c.before in
-    omega (arith, (is-job a.args.file.now a.requires).long-enough)
+    omega (arith, (is_job a.args.file.now a.requires).long_enough)
 
 part-requires : tie.Need-part-requires
 part-requires c κs =
     let a = c.before in
-    let j = is-job a.args.file.now a.requires in
-    (omega (arith, j.long-enough, j.short), j.lookups)
+    let j = is_job a.args.file.now a.requires in
+    (omega (arith, j.long_enough, j.short), j.lookups)
 
 returns : tie.Need-returns
-unfolding lookupPart trailer
+unfolding lookup_part trailer
 returns c = c.part.ensures
 
-pub lookup-part-spec : {M : Type 1} → statement M
-lookup-part-spec = tie.close (tie.spec sub_part (λ c. search rules) part-requires returns)
+pub lookup_part_spec : {M : Type 1} → statement M
+lookup_part_spec = tie.close (tie.spec sub_part (λ c. search rules) part-requires returns)

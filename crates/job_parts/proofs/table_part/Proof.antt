@@ -1,25 +1,25 @@
 -- `job_parts::table_part` meets its contract: the part lies before the trailer, since the job is good. Assumes nothing.
 use native.Mathlib.Omega.{arith}
 use borrow.Author.Rules.{rules}
-use Rattle.meaning.specs.Job.{trailer, tablePart}
-use Rattle.job_parts.proofs.Parts.{is-job}
+use Rattle.meaning.specs.Job.{trailer, table_part}
+use Rattle.job_parts.proofs.Parts.{is_job}
 use Rattle.job_parts.proofs.table_part.Statement.{statement}
 use Rattle.job_parts.proofs.table_part.Tie as tie
 
 sub_part : tie.Need-overflow-sub-part
 sub_part c =
     let a = c.before in
-    omega (arith, (is-job a.args.file.now a.requires).long-enough)
+    omega (arith, (is_job a.args.file.now a.requires).long_enough)
 
 part-requires : tie.Need-part-requires
 part-requires c κs =
     let a = c.before in
-    let j = is-job a.args.file.now a.requires in
-    (omega (arith, j.long-enough, j.short), j.table)
+    let j = is_job a.args.file.now a.requires in
+    (omega (arith, j.long_enough, j.short), j.table)
 
 returns : tie.Need-returns
-unfolding tablePart trailer
+unfolding table_part trailer
 returns c = c.part.ensures
 
-pub table-part-spec : {M : Type 1} → statement M
-table-part-spec = tie.close (tie.spec sub_part (λ c. search rules) part-requires returns)
+pub table_part_spec : {M : Type 1} → statement M
+table_part_spec = tie.close (tie.spec sub_part (λ c. search rules) part-requires returns)

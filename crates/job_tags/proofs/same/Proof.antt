@@ -3,7 +3,7 @@ use Prim.Native.Nat.{◌-◌}
 use native.Mathlib.Omega.{arith}
 use lib.ListN.{length}
 use borrow.Author.Rules.{rules}
-use Rattle.job_tags.proofs.Comparing.{Comparing, other_length, comparing-all, comparing-turn, comparing-other, comparing-end}
+use Rattle.job_tags.proofs.Comparing.{Comparing, other_length, comparing_all, comparing_turn, comparing_other, comparing_end}
 use Rattle.job_tags.proofs.same.Statement.{statement}
 use Rattle.job_tags.proofs.same.Tie as tie
 
@@ -19,7 +19,7 @@ returns c =
     other_length a.a.now a.b.now c.if1.true
 
 loop-holds : tie.Need-loop-init invariant-loop decreases-loop
-loop-holds c = comparing-all c.if1.false
+loop-holds c = comparing_all c.if1.false
 
 shared-slice-read-if2-2 : tie.Need-shared-slice-read-if2-2 invariant-loop decreases-loop
 shared-slice-read-if2-2 c =
@@ -29,15 +29,15 @@ shared-slice-read-if2-2 c =
 returns-2 : tie.Need-returns-2 invariant-loop decreases-loop
 returns-2 c =
     let l = c.before.before.before in
-    comparing-other l.before.loop.invariant l.loop-test.true c.if2.true
+    comparing_other l.before.loop.invariant l.loop-test.true c.if2.true
 
 loop-again : tie.Need-loop-preserved invariant-loop decreases-loop
 loop-again c =
     let l = c.before.before.before in
-    comparing-turn l.before.loop.invariant l.loop-test.true c.if2.false
+    comparing_turn l.before.loop.invariant l.loop-test.true c.if2.false
 
 returns-3 : tie.Need-returns-3 invariant-loop decreases-loop
-returns-3 c = comparing-end c.before.loop.invariant c.loop-test.false
+returns-3 c = comparing_end c.before.loop.invariant c.loop-test.false
 
 pub same_spec : {M : Type 1} → statement M
 same_spec = tie.close (tie.spec invariant-loop decreases-loop returns loop-holds (λ c. search rules) shared-slice-read-if2-2 returns-2 (λ c. search rules) (λ c. search rules) loop-again returns-3)

@@ -7,5 +7,5 @@ use Rattle.kept_header.proofs.cover_fits.Tie as tie
 returns : tie.Need-returns
 returns c = at_most (c.args.p - (c.args.first - c.args.head))
 
-pub cover-fits-spec : {M : Type 1} → statement M
-cover-fits-spec = tie.close (tie.spec (λ c. search rules) (λ c. search rules) returns)
+pub cover_fits_spec : {M : Type 1} → statement M
+cover_fits_spec = tie.close (tie.spec (λ c. search rules) (λ c. search rules) returns)

@@ -2,42 +2,42 @@ use mathlib.Core.Path.{refl, sym, ◌∙◌}
 use native.Mathlib.Omega.{arith}
 use borrow.Author.Rules.{rules}
 use Rattle.numbers.specs.Leaves.{went_on}
-use Rattle.kept_rules.specs.Left.{mapsIn, ahead-inside, ahead-ended, ahead-next}
+use Rattle.kept_rules.specs.Left.{maps_in, ahead_inside, ahead_ended, ahead_next}
 use Rattle.kept_rules.proofs.write_ahead.Statement.{statement}
 use Rattle.kept_rules.proofs.write_ahead.Tie as tie
 
 word-inside-requires : tie.Need-word-inside-requires
 word-inside-requires c κs =
     let a = c.before.before.before in
-    omega (arith, ahead-inside a.args.src.now a.args.at a.requires.0 refl refl)
+    omega (arith, ahead_inside a.args.src.now a.args.at a.requires.0 refl refl)
 
 write-counted-requires : tie.Need-write-counted-requires
 write-counted-requires c κs =
     let a = c.before.before.before.before.before in
-    (omega (arith, ahead-inside a.args.src.now a.args.at a.requires.0 c.before.word-inside.ensures.0 refl), a.requires.1.ahead, a.requires.3)
+    (omega (arith, ahead_inside a.args.src.now a.args.at a.requires.0 c.before.word-inside.ensures.0 refl), a.requires.1.ahead, a.requires.3)
 
 returns : tie.Need-returns
 returns c =
     let a = c.before.before.before.before.before.before.before.before.before.before.before in
-    ahead-ended (mapsIn a.args.t.now a.args.maps) a.args.src.now a.args.at c.before.before.before.before.before.before.before.word-inside.ensures.0 c.before.before.before.before.before.write-counted.ensures a.requires.2 (sym c.before.ended.ensures ∙ c.if1.true)
+    ahead_ended (maps_in a.args.t.now a.args.maps) a.args.src.now a.args.at c.before.before.before.before.before.before.before.word-inside.ensures.0 c.before.before.before.before.before.write-counted.ensures a.requires.2 (sym c.before.ended.ensures ∙ c.if1.true)
 
 word-inside-requires-2 : tie.Need-word-inside-requires-2
 word-inside-requires-2 c κs =
     let a = c.before.before.before.before.before.before.before.before.before.before.before in
-    omega (arith, ahead-inside a.args.src.now a.args.at a.requires.0 c.before.before.before.before.before.before.before.word-inside.ensures.0 refl)
+    omega (arith, ahead_inside a.args.src.now a.args.at a.requires.0 c.before.before.before.before.before.before.before.word-inside.ensures.0 refl)
 
 write-counted-records-requires : tie.Need-write-counted-records-requires
 write-counted-records-requires c κs =
     let a = c.before.before.before.before.before.before.before.before.before.before.before.before.before in
-    (omega (arith, ahead-inside a.args.src.now a.args.at a.requires.0 c.before.before.before.before.before.before.before.before.before.word-inside.ensures.0 c.before.word-inside2.ensures.0), a.requires.1.lookups, (went_on _ _ (sym c.before.before.before.ended.ensures ∙ c.before.before.if1.false)).1)
+    (omega (arith, ahead_inside a.args.src.now a.args.at a.requires.0 c.before.before.before.before.before.before.before.before.before.word-inside.ensures.0 c.before.word-inside2.ensures.0), a.requires.1.lookups, (went_on _ _ (sym c.before.before.before.ended.ensures ∙ c.before.before.if1.false)).1)
 
 returns-2 : tie.Need-returns-2
 returns-2 c =
     let a = c.before.before.before.before.before.before.before.before.before.before.before.before.before.before.before.before in
-    ahead-next (mapsIn a.args.t.now a.args.maps) a.args.src.now a.args.at c.before.before.before.before.before.before.before.before.before.before.before.before.word-inside.ensures.0 c.before.before.before.before.word-inside2.ensures.0 c.before.before.before.before.before.before.before.before.before.before.write-counted.ensures (sym c.before.before.before.before.before.before.ended.ensures ∙ c.before.before.before.before.before.if1.false) c.before.before.write-counted-records.ensures
+    ahead_next (maps_in a.args.t.now a.args.maps) a.args.src.now a.args.at c.before.before.before.before.before.before.before.before.before.before.before.before.word-inside.ensures.0 c.before.before.before.before.word-inside2.ensures.0 c.before.before.before.before.before.before.before.before.before.before.write-counted.ensures (sym c.before.before.before.before.before.before.ended.ensures ∙ c.before.before.before.before.before.if1.false) c.before.before.write-counted-records.ensures
 
-pub write-ahead-spec : {M : Type 1} → statement M
-write-ahead-spec =
+pub write_ahead_spec : {M : Type 1} → statement M
+write_ahead_spec =
     tie.close
     (tie.spec
     word-inside-requires

@@ -18,8 +18,8 @@ write-plain-requires c κs =
 returns-2 : tie.Need-returns-2
 returns-2 c = rw c.before.before.before.before.if1.false c.before.before.write-plain.ensures
 
-pub write-rule-spec : {M : Type 1} → statement M
-write-rule-spec =
+pub write_rule_spec : {M : Type 1} → statement M
+write_rule_spec =
     tie.close
     (tie.spec
     write-chained-requires

@@ -1,4 +1,4 @@
-use Rattle.cover_parts.proofs.Rows.{slot-gone, slot-short, slot-placing, slot-written}
+use Rattle.cover_parts.proofs.Rows.{slot_gone, slot_short, slot_placing, slot_written}
 use borrow.Author.Rules.{rules}
 use Rattle.kept_slots.proofs.write_left.Statement.{statement}
 use Rattle.kept_slots.proofs.write_left.Tie as tie
@@ -6,25 +6,25 @@ use Rattle.kept_slots.proofs.write_left.Tie as tie
 returns : tie.Need-returns
 returns c =
     let a = c.before.before.before.before.before.before.before.before.before.before.before.requires in
-    slot-gone a.0 a.1 c.before.before.before.meet.ensures c.if1.true
+    slot_gone a.0 a.1 c.before.before.before.meet.ensures c.if1.true
 
 returns-2 : tie.Need-returns-2
 returns-2 c =
     let a = c.before.before.before.before.before.before.before.before.before.before.before.before.before.before.before.before.before.requires in
-    slot-short a.0 a.1 c.before.before.before.before.before.before.before.before.before.meet.ensures c.before.before.before.before.before.before.if1.false c.before.before.before.write-cover.ensures c.if2.true
+    slot_short a.0 a.1 c.before.before.before.before.before.before.before.before.before.meet.ensures c.before.before.before.before.before.before.if1.false c.before.before.before.write-cover.ensures c.if2.true
 
 point-requires : tie.Need-point-requires
 point-requires c κs =
     let a = c.before.before.before.before.before.before.before.before.before.before.before.before.before.before.before.before.before.before.before.requires in
-    slot-placing a.0 a.1 c.before.before.before.before.before.before.before.before.before.before.before.meet.ensures c.before.before.before.before.before.before.before.before.if1.false c.before.before.before.before.before.write-cover.ensures c.before.before.if2.false
+    slot_placing a.0 a.1 c.before.before.before.before.before.before.before.before.before.before.before.meet.ensures c.before.before.before.before.before.before.before.before.if1.false c.before.before.before.before.before.write-cover.ensures c.before.before.if2.false
 
 returns-3 : tie.Need-returns-3
 returns-3 c =
     let a = c.before.before.before.before.before.before.before.before.before.before.before.before.before.before.before.before.before.before.before.before.before.before.before.before.requires in
-    slot-written a.0 a.1 c.before.before.before.before.before.before.before.before.before.before.before.before.before.before.before.before.meet.ensures c.before.before.before.before.before.before.before.before.before.before.before.before.before.if1.false c.before.before.before.before.before.before.before.before.before.before.write-cover.ensures c.before.before.before.before.before.before.before.if2.false c.before.before.before.before.point.ensures
+    slot_written a.0 a.1 c.before.before.before.before.before.before.before.before.before.before.before.before.before.before.before.before.meet.ensures c.before.before.before.before.before.before.before.before.before.before.before.before.before.if1.false c.before.before.before.before.before.before.before.before.before.before.write-cover.ensures c.before.before.before.before.before.before.before.if2.false c.before.before.before.before.point.ensures
 
-pub write-left-spec : {M : Type 1} → statement M
-write-left-spec =
+pub write_left_spec : {M : Type 1} → statement M
+write_left_spec =
     tie.close
     (tie.spec
     (λ c. search rules)

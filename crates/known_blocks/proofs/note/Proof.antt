@@ -1,4 +1,4 @@
-use Rattle.known_blocks.proofs.Settling.{noted-by, not_noted}
+use Rattle.known_blocks.proofs.Settling.{noted_by, not_noted}
 use borrow.Author.Rules.{rules}
 use Rattle.known_blocks.proofs.note.Statement.{statement}
 use Rattle.known_blocks.proofs.note.Tie as tie
@@ -7,10 +7,10 @@ returns : tie.Need-returns
 returns c = not_noted c.if1.true
 
 returns-2 : tie.Need-returns-2
-returns-2 c = noted-by c.before.before.before.before.before.before.before.before.cell.ensures.0 c.before.before.before.before.before.before.put-cell.ensures c.before.before.put-cell2.ensures
+returns-2 c = noted_by c.before.before.before.before.before.before.before.before.cell.ensures.0 c.before.before.before.before.before.before.put-cell.ensures c.before.before.put-cell2.ensures
 
-pub note-spec : {M : Type 1} → statement M
-note-spec =
+pub note_spec : {M : Type 1} → statement M
+note_spec =
     tie.close
     (tie.spec
     returns

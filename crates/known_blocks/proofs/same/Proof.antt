@@ -1,4 +1,4 @@
-use Rattle.known_blocks.proofs.Comparing.{Matching, matching-all, matching-other, matching-turn, matching-end}
+use Rattle.known_blocks.proofs.Comparing.{Matching, matching_all, matching_other, matching_turn, matching_end}
 use borrow.Author.Rules.{rules}
 use Prim.Native.Nat.{◌-◌}
 use Rattle.known_blocks.proofs.same.Statement.{statement}
@@ -11,16 +11,16 @@ abbrev decreases-loop : tie.decreases-loop
 decreases-loop area a b n i₀ i = n - i
 
 loop-holds : tie.Need-loop-init invariant-loop decreases-loop
-loop-holds c = matching-all _ _ _ _
+loop-holds c = matching_all _ _ _ _
 
 returns : tie.Need-returns invariant-loop decreases-loop
-returns c = matching-other _ _ _ _ _ c.before.before.before.before.loop.invariant c.before.before.before.loop-test.true c.before.before.word_at.ensures.0 c.before.word-at2.ensures.0 c.if1.true
+returns c = matching_other _ _ _ _ _ c.before.before.before.before.loop.invariant c.before.before.before.loop-test.true c.before.before.word_at.ensures.0 c.before.word-at2.ensures.0 c.if1.true
 
 loop-again : tie.Need-loop-preserved invariant-loop decreases-loop
-loop-again c = matching-turn _ _ _ _ _ c.before.before.before.before.loop.invariant c.before.before.before.loop-test.true c.before.before.word_at.ensures.0 c.before.word-at2.ensures.0 c.if1.false
+loop-again c = matching_turn _ _ _ _ _ c.before.before.before.before.loop.invariant c.before.before.before.loop-test.true c.before.before.word_at.ensures.0 c.before.word-at2.ensures.0 c.if1.false
 
 returns-2 : tie.Need-returns-2 invariant-loop decreases-loop
-returns-2 c = matching-end _ _ _ _ _ c.before.loop.invariant c.loop-test.false
+returns-2 c = matching_end _ _ _ _ _ c.before.loop.invariant c.loop-test.false
 
 pub same_spec : {M : Type 1} → statement M
 same_spec =

@@ -1,4 +1,4 @@
-use Rattle.known_blocks.proofs.Comparing.{start-by, start-past}
+use Rattle.known_blocks.proofs.Comparing.{start_by, start_past}
 use mathlib.Core.Path.{sym}
 use native.Mathlib.Omega.{arith}
 use borrow.Author.Rules.{rules}
@@ -6,10 +6,10 @@ use Rattle.known_blocks.proofs.start.Statement.{statement}
 use Rattle.known_blocks.proofs.start.Tie as tie
 
 returns : tie.Need-returns
-returns c = (start-by _ _ _ _ c.cell2.ensures.0 (omega (arith, c.before.before.cell.ensures.0)), omega (arith, c.cell2.ensures.1))
+returns c = (start_by _ _ _ _ c.cell2.ensures.0 (omega (arith, c.before.before.cell.ensures.0)), omega (arith, c.cell2.ensures.1))
 
 returns-2 : tie.Need-returns-2
-returns-2 c = (sym (start-past _ _ _ _ (omega (arith, c.before.cell.ensures.0))), omega arith)
+returns-2 c = (sym (start_past _ _ _ _ (omega (arith, c.before.cell.ensures.0))), omega arith)
 
 pub start_spec : {M : Type 1} → statement M
 start_spec =

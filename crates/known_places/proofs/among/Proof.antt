@@ -17,8 +17,8 @@ returns c = found_among c.before.before.before.loop.i (omega (arith, c.before.be
 returns-2 : tie.Need-returns-2 invariant-loop decreases-loop
 returns-2 c = found_none
 
-pub among-spec : {M : Type 1} → statement M
-among-spec =
+pub among_spec : {M : Type 1} → statement M
+among_spec =
     tie.close
     (tie.spec
     invariant-loop

@@ -20,8 +20,8 @@ returns c =
     let start = got.before.before.before in
     answered start.args.file.now ran.run.result got.lent.ensures long.before.number_of_lem.ensures long.length-of.ensures ran.run.ensures long.before.before.result2.given start.requires put.report.ensures
 
-pub answer-spec : {M : Type 1} → statement M
-answer-spec =
+pub answer_spec : {M : Type 1} → statement M
+answer_spec =
     tie.close
     (tie.spec
     (λ c κs. search rules)

@@ -6,8 +6,8 @@ use Rattle.laid_runs.proofs.lay_run.Tie as tie
 returns : tie.Need-returns
 returns c = record { cells = rw (← c.before.before.word-inside.ensures.0, ← c.before.word-inside2.ensures.0, ← c.word-inside3.ensures.0) refl }
 
-pub lay-run-spec : {M : Type 1} → statement M
-lay-run-spec =
+pub lay_run_spec : {M : Type 1} → statement M
+lay_run_spec =
     tie.close
     (tie.spec
     (λ c. search rules)

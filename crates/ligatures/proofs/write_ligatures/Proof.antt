@@ -3,54 +3,54 @@ use Prim.Native.Nat.{◌-◌}
 use native.Mathlib.Omega.{arith}
 use lib.ListN.{length}
 use Rattle.meaning.specs.Tables.{ligature}
-use Rattle.meaning.specs.Fault.{ligatureFault}
-use Rattle.meaning.specs.Cut.{cutLigature}
-use Rattle.meaning.specs.Layout.{ligatureWords}
-use Rattle.numbers.specs.Entries.{entriesIn}
+use Rattle.meaning.specs.Fault.{ligature_fault}
+use Rattle.meaning.specs.Cut.{cut_ligature}
+use Rattle.meaning.specs.Layout.{ligature_words}
+use Rattle.numbers.specs.Entries.{entries_in}
 use Rattle.member_sets.specs.Dead.{Dead}
-use Rattle.member_sets.specs.Sound.{set-inside, member-sound}
-use Rattle.member_sets.proofs.Gathering.{Gathering, gathering-all, gathering-short, gathering-null, gathering-gone, gathering-one, gathering-full, gathering-end}
-use Rattle.ligature_members.specs.Left.{ligatureLeft, ligature-inside, ligatures-said}
+use Rattle.member_sets.specs.Sound.{set_inside, member_sound}
+use Rattle.member_sets.proofs.Gathering.{Gathering, gathering_all, gathering_short, gathering_null, gathering_gone, gathering_one, gathering_full, gathering_end}
+use Rattle.ligature_members.specs.Left.{ligature_left, ligature_inside, ligatures_said}
 use borrow.Author.Rules.{rules}
 use Rattle.ligatures.proofs.write_ligatures.Statement.{statement}
 use Rattle.ligatures.proofs.write_ligatures.Tie as tie
 
 abbrev invariant-loop : tie.invariant-loop
 invariant-loop src at t glyphs dead₀ area₀ pos n first k₀ p₀ i₀ dead area k p i =
-    Gathering (ligature src) (cutLigature (entriesIn t glyphs)) ligatureWords src at n area₀ pos area k p i × Dead (ligatureLeft (entriesIn t glyphs) src) dead × (length dead ≡ length dead₀)
+    Gathering (ligature src) (cut_ligature (entries_in t glyphs)) ligature_words src at n area₀ pos area k p i × Dead (ligature_left (entries_in t glyphs) src) dead × (length dead ≡ length dead₀)
 
 abbrev decreases-loop : tie.decreases-loop
 decreases-loop src at t glyphs dead₀ area₀ pos n first k₀ p₀ i₀ dead area k p i = n - i
 
 word-inside-requires : tie.Need-word-inside-requires invariant-loop decreases-loop
-word-inside-requires c κs = omega (arith, set-inside _ _ _ c.before.before.before.before.requires.0)
+word-inside-requires c κs = omega (arith, set_inside _ _ _ c.before.before.before.before.requires.0)
 
 returns : tie.Need-returns invariant-loop decreases-loop
 returns c =
     let a = c.before.before.before.before.before.before.before.before in
     let w = c.before.before.before.word-inside.ensures in (
-      ligatures-said _ a.args.src.now a.args.at w.0
-          (gathering-short (ligature a.args.src.now) _ _ _ _ _ w.1 (omega arith) c.over.ensures),
+      ligatures_said _ a.args.src.now a.args.at w.0
+          (gathering_short (ligature a.args.src.now) _ _ _ _ _ w.1 (omega arith) c.over.ensures),
       a.requires.4,
     )
 
 loop-holds : tie.Need-loop-init invariant-loop decreases-loop
 loop-holds c =
     let a = c.before.before.before.before.before.before in
-    (gathering-all _ _ _ _ _ _ (omega (arith, set-inside _ _ _ a.requires.0)) (omega arith), a.requires.4, refl)
+    (gathering_all _ _ _ _ _ _ (omega (arith, set_inside _ _ _ a.requires.0)) (omega arith), a.requires.4, refl)
 
 loop-again : tie.Need-loop-preserved invariant-loop decreases-loop
 loop-again c =
     let w = c.before in
     let l = w.before.before in
-    (gathering-null _ _ _ _ _ _ l.loop.invariant.0 w.before.loop-test.true w.word-inside2.ensures.0 c.if2.true, l.loop.invariant.1, l.loop.invariant.2)
+    (gathering_null _ _ _ _ _ _ l.loop.invariant.0 w.before.loop-test.true w.word-inside2.ensures.0 c.if2.true, l.loop.invariant.1, l.loop.invariant.2)
 
 write-once-requires : tie.Need-write-once-requires invariant-loop decreases-loop
 write-once-requires c κs =
     let w = c.before.before.before in
     let l = c.before.before.before.before.before in
     let a = c.before.before.before.before.before.before.before.before.before.before.before.before in
-    (member-sound (ligatureFault a.args.src.now) a.args.src.now a.args.at a.requires.0 (omega (arith, c.before.before.before.before.before.before.before.word-inside.ensures.0)) w.word-inside2.ensures.0 c.before.before.if2.false, a.requires.2, omega (arith, l.loop.invariant.0.behind), omega (arith, l.loop.invariant.0.room), l.loop.invariant.1)
+    (member_sound (ligature_fault a.args.src.now) a.args.src.now a.args.at a.requires.0 (omega (arith, c.before.before.before.before.before.before.before.word-inside.ensures.0)) w.word-inside2.ensures.0 c.before.before.if2.false, a.requires.2, omega (arith, l.loop.invariant.0.behind), omega (arith, l.loop.invariant.0.room), l.loop.invariant.1)
 
 returns-2 : tie.Need-returns-2 invariant-loop decreases-loop
 returns-2 c =
@@ -59,9 +59,9 @@ returns-2 c =
     let l = w.before.before in
     let a = c.before.before.before.before.before.before.before.before.before.before.before.before.before.before.before.before.before.before in
     let n = c.before.before.before.before.before.before.before.before.before.before.before.before.before.word-inside.ensures in
-    let s = member-sound (ligatureFault a.args.src.now) a.args.src.now a.args.at a.requires.0 (omega (arith, n.0)) w.word-inside2.ensures.0 g.before.before.before.if2.false in (
-      ligatures-said _ a.args.src.now a.args.at n.0
-          (gathering-full _ _ _ _ _ _ l.loop.invariant.0 w.before.loop-test.true w.word-inside2.ensures.0 g.before.before.before.if2.false g.write-once.ensures.0 n.1 (omega (arith, ligature-inside a.args.src.now _ s)) c.if3.true),
+    let s = member_sound (ligature_fault a.args.src.now) a.args.src.now a.args.at a.requires.0 (omega (arith, n.0)) w.word-inside2.ensures.0 g.before.before.before.if2.false in (
+      ligatures_said _ a.args.src.now a.args.at n.0
+          (gathering_full _ _ _ _ _ _ l.loop.invariant.0 w.before.loop-test.true w.word-inside2.ensures.0 g.before.before.before.if2.false g.write-once.ensures.0 n.1 (omega (arith, ligature_inside a.args.src.now _ s)) c.if3.true),
       g.write-once.ensures.1,
     )
 
@@ -71,14 +71,14 @@ loop-again-2 c =
     let g = c.before.before.before.before.before.before.before.before.before.before in
     let w = g.before.before.before.before in
     let l = w.before.before in
-    (gathering-one _ _ _ _ _ _ l.loop.invariant.0 w.before.loop-test.true w.word-inside2.ensures.0 g.before.before.before.if2.false g.write-once.ensures.0 p.before.before.if4.true p.before.before.before.if3.false p.put.ensures, g.write-once.ensures.1, c.before.before.before.before.before.before.before.before.before.dead.given ∙ l.loop.invariant.2)
+    (gathering_one _ _ _ _ _ _ l.loop.invariant.0 w.before.loop-test.true w.word-inside2.ensures.0 g.before.before.before.if2.false g.write-once.ensures.0 p.before.before.if4.true p.before.before.before.if3.false p.put.ensures, g.write-once.ensures.1, c.before.before.before.before.before.before.before.before.before.dead.given ∙ l.loop.invariant.2)
 
 loop-again-3 : tie.Need-loop-preserved-3 invariant-loop decreases-loop
 loop-again-3 c =
     let g = c.before.before.before.before.before.before in
     let w = g.before.before.before.before in
     let l = w.before.before in
-    (gathering-gone _ _ _ _ _ _ l.loop.invariant.0 w.before.loop-test.true w.word-inside2.ensures.0 g.before.before.before.if2.false g.write-once.ensures.0 (omega arith), g.write-once.ensures.1, c.before.before.before.before.before.dead.given ∙ l.loop.invariant.2)
+    (gathering_gone _ _ _ _ _ _ l.loop.invariant.0 w.before.loop-test.true w.word-inside2.ensures.0 g.before.before.before.if2.false g.write-once.ensures.0 (omega arith), g.write-once.ensures.1, c.before.before.before.before.before.dead.given ∙ l.loop.invariant.2)
 
 close-set-requires : tie.Need-close-set-requires invariant-loop decreases-loop
 close-set-requires c κs = omega (arith, c.before.before.loop.invariant.0, c.before.before.before.before.word-inside.ensures.1)
@@ -87,13 +87,13 @@ returns-3 : tie.Need-returns-3 invariant-loop decreases-loop
 returns-3 c =
     let a = c.before.before.before.before.before.before.before.before.before.before.before.before in
     let l = c.before.before.before.before.before in (
-      ligatures-said _ a.args.src.now a.args.at c.before.before.before.before.before.before.before.word-inside.ensures.0
-          (gathering-end _ _ _ _ _ _ l.loop.invariant.0 c.before.before.before.before.loop-test.false c.before.before.close-set.ensures),
+      ligatures_said _ a.args.src.now a.args.at c.before.before.before.before.before.before.before.word-inside.ensures.0
+          (gathering_end _ _ _ _ _ _ l.loop.invariant.0 c.before.before.before.before.loop-test.false c.before.before.close-set.ensures),
       l.loop.invariant.1,
     )
 
-pub write-ligatures-spec : {M : Type 1} → statement M
-write-ligatures-spec =
+pub write_ligatures_spec : {M : Type 1} → statement M
+write_ligatures_spec =
     tie.close
     (tie.spec
     invariant-loop

@@ -1,5 +1,5 @@
 use borrow.Author.Rules.{rules}
-use Rattle.lookup_list.proofs.Readying.{entry_other, entry-ends}
+use Rattle.lookup_list.proofs.Readying.{entry_other, entry_ends}
 use Rattle.lookup_list.proofs.good_entry.Statement.{statement}
 use Rattle.lookup_list.proofs.good_entry.Tie as tie
 
@@ -13,7 +13,7 @@ returns : tie.Need-returns
 returns c =
     let g = c.before in
     let a = g.before.before.before.before.args in
-    entry_other a.list.now a.buffer.now a.at g.before.word_at.ensures.0 g.good-kind.ensures c.if1.true
+    entry_other a.list.now a.buffer.now a.at g.before.word_at.ensures.0 g.good_kind_lem.ensures c.if1.true
 
 add-long-at : tie.Need-overflow-add-long-at
 add-long-at c = search rules
@@ -34,10 +34,10 @@ returns-2 : tie.Need-returns-2
 returns-2 c =
     let g = c.before.before.before in
     let a = g.before.before.before.before.args in
-    entry-ends a.list.now a.buffer.now a.at g.before.word_at.ensures.0 g.good-kind.ensures c.before.before.if1.false c.before.long-at.ensures.0 c.long-at2.ensures.0
+    entry_ends a.list.now a.buffer.now a.at g.before.word_at.ensures.0 g.good_kind_lem.ensures c.before.before.if1.false c.before.long-at.ensures.0 c.long-at2.ensures.0
 
-pub good-entry-spec : {M : Type 1} → statement M
-good-entry-spec =
+pub good_entry_spec : {M : Type 1} → statement M
+good_entry_spec =
     tie.close
     (tie.spec
     word-at-requires

@@ -1,5 +1,5 @@
 use borrow.Author.Rules.{rules}
-use Rattle.lookup_list.proofs.Parts.{is-long}
+use Rattle.lookup_list.proofs.Parts.{is_long}
 use Rattle.lookup_list.proofs.long_at.Statement.{statement}
 use Rattle.lookup_list.proofs.long_at.Tie as tie
 
@@ -19,9 +19,9 @@ add-result : tie.Need-overflow-add-result
 add-result c = search rules
 
 returns : tie.Need-returns
-returns c = is-long c.before.before.before.args.list.now c.before.before.before.args.at c.before.word_at.ensures c.word-at2.ensures
+returns c = is_long c.before.before.before.args.list.now c.before.before.before.args.at c.before.word_at.ensures c.word-at2.ensures
 
-pub long-at-spec : {M : Type 1} → statement M
-long-at-spec =
+pub long_at_spec : {M : Type 1} → statement M
+long_at_spec =
     tie.close
     (tie.spec word-at-requires mul-result add-word-at word-at-requires-2 add-result returns)

@@ -18,5 +18,5 @@ part-result-end c = search rules
 returns : tie.Need-returns
 returns c = part_bytes c.before.args.buffer.now c.before.args.start c.before.args.len
 
-pub part-spec : {M : Type 1} → statement M
-part-spec = tie.close (tie.spec add-result sub-result part-result-start part-result-end returns)
+pub part_spec : {M : Type 1} → statement M
+part_spec = tie.close (tie.spec add-result sub-result part-result-start part-result-end returns)

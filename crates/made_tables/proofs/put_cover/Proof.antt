@@ -13,8 +13,8 @@ invariant-loop out₀ at n first i₀ out i = (length out ≡ length out₀) × 
 abbrev decreases-loop : tie.decreases-loop
 decreases-loop out₀ at n first i₀ out i = n - i
 
-pub put-cover-spec : {M : Type 1} → statement M
-put-cover-spec =
+pub put_cover_spec : {M : Type 1} → statement M
+put_cover_spec =
     tie.close
     (tie.spec
     invariant-loop

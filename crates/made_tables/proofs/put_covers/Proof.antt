@@ -13,8 +13,8 @@ invariant-loop out₀ at times n first p₀ i₀ out p i = (length out ≡ lengt
 abbrev decreases-loop : tie.decreases-loop
 decreases-loop out₀ at times n first p₀ i₀ out p i = times - i
 
-pub put-covers-spec : {M : Type 1} → statement M
-put-covers-spec =
+pub put_covers_spec : {M : Type 1} → statement M
+put_covers_spec =
     tie.close
     (tie.spec
     invariant-loop

@@ -13,8 +13,8 @@ invariant-loop out₀ n i₀ out i = (length out ≡ length out₀) × (i ≤ n)
 abbrev decreases-loop : tie.decreases-loop
 decreases-loop out₀ n i₀ out i = n - i
 
-pub put-map-spec : {M : Type 1} → statement M
-put-map-spec =
+pub put_map_spec : {M : Type 1} → statement M
+put_map_spec =
     tie.close
     (tie.spec
     invariant-loop

@@ -13,8 +13,8 @@ invariant-loop out₀ n first step offset₀ i₀ out offset i = (length out ≡
 abbrev decreases-loop : tie.decreases-loop
 decreases-loop out₀ n first step offset₀ i₀ out offset i = n - i
 
-pub put-offsets-spec : {M : Type 1} → statement M
-put-offsets-spec =
+pub put_offsets_spec : {M : Type 1} → statement M
+put_offsets_spec =
     tie.close
     (tie.spec
     invariant-loop

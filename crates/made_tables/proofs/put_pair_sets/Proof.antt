@@ -13,8 +13,8 @@ invariant-loop out₀ at n p₀ i₀ out p i = (length out ≡ length out₀) ×
 abbrev decreases-loop : tie.decreases-loop
 decreases-loop out₀ at n p₀ i₀ out p i = n - i
 
-pub put-pair-sets-spec : {M : Type 1} → statement M
-put-pair-sets-spec =
+pub put_pair_sets_spec : {M : Type 1} → statement M
+put_pair_sets_spec =
     tie.close
     (tie.spec
     invariant-loop

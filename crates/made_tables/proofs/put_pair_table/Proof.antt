@@ -13,8 +13,8 @@ invariant-loop out₀ n step cover p₀ i₀ out p i = (length out ≡ length ou
 abbrev decreases-loop : tie.decreases-loop
 decreases-loop out₀ n step cover p₀ i₀ out p i = n - i
 
-pub put-pair-table-spec : {M : Type 1} → statement M
-put-pair-table-spec =
+pub put_pair_table_spec : {M : Type 1} → statement M
+put_pair_table_spec =
     tie.close
     (tie.spec
     invariant-loop

@@ -13,8 +13,8 @@ invariant-loop out₀ at n i₀ out i = (length out ≡ length out₀) × (i ≤
 abbrev decreases-loop : tie.decreases-loop
 decreases-loop out₀ at n i₀ out i = n - i
 
-pub put-pairs-spec : {M : Type 1} → statement M
-put-pairs-spec =
+pub put_pairs_spec : {M : Type 1} → statement M
+put_pairs_spec =
     tie.close
     (tie.spec
     invariant-loop

@@ -13,8 +13,8 @@ invariant-loop out₀ at n i₀ out i = (length out ≡ length out₀) × (i ≤
 abbrev decreases-loop : tie.decreases-loop
 decreases-loop out₀ at n i₀ out i = n - i
 
-pub put-rules-spec : {M : Type 1} → statement M
-put-rules-spec =
+pub put_rules_spec : {M : Type 1} → statement M
+put_rules_spec =
     tie.close
     (tie.spec
     invariant-loop

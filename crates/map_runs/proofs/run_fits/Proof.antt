@@ -19,6 +19,6 @@ returns-4 c = simp (le-leb _ _ c.before.before.before.if1.false, le-leb _ _ c.be
 returns-5 : tie.Need-returns-5
 returns-5 c = simp (le-leb _ _ c.before.before.before.if1.false, le-leb _ _ c.before.before.if2.false, lt-ltb 0 c.before.before.before.before.args.n (omega (arith, c.before.if3.false)), le-leb _ _ c.if4.false)
 
-pub run-fits-spec : {M : Type 1} → statement M
-run-fits-spec =
+pub run_fits_spec : {M : Type 1} → statement M
+run_fits_spec =
     tie.close (tie.spec returns returns-2 returns-3 (λ c. search rules) returns-4 (λ c. search rules) returns-5)

@@ -1,5 +1,5 @@
 use borrow.Author.Rules.{rules}
-use Rattle.matching.proofs.Rows.{chained-covers}
+use Rattle.matching.proofs.Rows.{chained_covers_lem}
 use Rattle.matching.proofs.chained_covers.Statement.{statement}
 use Rattle.matching.proofs.chained_covers.Tie as tie
 
@@ -49,10 +49,10 @@ word-at-requires-4 : tie.Need-word-at-requires-4
 word-at-requires-4 c κs = search rules
 
 returns : tie.Need-returns
-returns c = chained-covers c.before.before.before.before.before.args.src.now c.before.before.before.word_at.ensures c.before.before.word-at2.ensures c.before.word-at3.ensures c.word-at4.ensures
+returns c = chained_covers_lem c.before.before.before.before.before.args.src.now c.before.before.before.word_at.ensures c.before.before.word-at2.ensures c.before.word-at3.ensures c.word-at4.ensures
 
-pub chained-covers-spec : {M : Type 1} → statement M
-chained-covers-spec =
+pub chained_covers_spec : {M : Type 1} → statement M
+chained_covers_spec =
     tie.close
     (tie.spec
     word-at-requires

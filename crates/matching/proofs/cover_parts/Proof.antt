@@ -6,14 +6,14 @@ chained-covers-requires : tie.Need-chained-covers-requires
 chained-covers-requires c κs = search rules
 
 returns : tie.Need-returns
-returns c = rw c.before.if1.true c.chained-covers.ensures
+returns c = rw c.before.if1.true c.chained_covers_lem.ensures
 
 plain-covers-requires : tie.Need-plain-covers-requires
 plain-covers-requires c κs = search rules
 
 returns-2 : tie.Need-returns-2
-returns-2 c = rw c.before.if1.false c.plain-covers.ensures
+returns-2 c = rw c.before.if1.false c.plain_covers_lem.ensures
 
-pub cover-parts-spec : {M : Type 1} → statement M
-cover-parts-spec =
+pub cover_parts_spec : {M : Type 1} → statement M
+cover_parts_spec =
     tie.close (tie.spec chained-covers-requires returns plain-covers-requires returns-2)

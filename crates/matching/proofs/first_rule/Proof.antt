@@ -3,7 +3,7 @@ use native.Mathlib.Omega.{arith}
 use lib.ListN.{set}
 use borrow.Author.Rules.{rules}
 use Rattle.meaning.specs.Words.{words}
-use Rattle.matching.proofs.Fitting.{Choosing, choosing-all, choosing-turn, choosing-found, choosing-end}
+use Rattle.matching.proofs.Fitting.{Choosing, choosing_all, choosing_turn, choosing_found, choosing_end}
 use Rattle.matching.proofs.first_rule.Statement.{statement}
 use Rattle.matching.proofs.first_rule.Tie as tie
 
@@ -17,7 +17,7 @@ word-at-requires : tie.Need-word-at-requires invariant-loop decreases-loop
 word-at-requires c κs = search rules
 
 loop-holds : tie.Need-loop-init invariant-loop decreases-loop
-loop-holds c = choosing-all c.word_at.ensures
+loop-holds c = choosing_all c.word_at.ensures
 
 add-word-at : tie.Need-overflow-add-word-at invariant-loop decreases-loop
 add-word-at c = search rules
@@ -47,7 +47,7 @@ returns c =
     let f = c.before.before in
     let w = f.before in
     let l = w.before.before in
-    choosing-found l.loop.invariant w.before.loop-test.true w.word-at2.ensures.0 f.rule_fits.ensures c.before.if1.true c.rule-parts.ensures (omega arith) w.word-at2.ensures.1
+    choosing_found l.loop.invariant w.before.loop-test.true w.word-at2.ensures.0 f.rule_fits.ensures c.before.if1.true c.rule-parts.ensures (omega arith) w.word-at2.ensures.1
 
 add-i : tie.Need-overflow-add-i invariant-loop decreases-loop
 add-i c = search rules
@@ -60,13 +60,13 @@ loop-again c =
     let f = c.before in
     let w = f.before in
     let l = w.before.before in
-    choosing-turn l.loop.invariant w.before.loop-test.true w.word-at2.ensures.0 f.rule_fits.ensures c.if1.false
+    choosing_turn l.loop.invariant w.before.loop-test.true w.word-at2.ensures.0 f.rule_fits.ensures c.if1.false
 
 returns-2 : tie.Need-returns-2 invariant-loop decreases-loop
-returns-2 c = choosing-end c.before.loop.invariant c.loop-test.false
+returns-2 c = choosing_end c.before.loop.invariant c.loop-test.false
 
-pub first-rule-spec : {M : Type 1} → statement M
-first-rule-spec =
+pub first_rule_spec : {M : Type 1} → statement M
+first_rule_spec =
     tie.close
     (tie.spec
     invariant-loop

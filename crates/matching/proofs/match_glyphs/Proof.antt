@@ -1,6 +1,6 @@
 use native.Mathlib.Omega.{arith}
 use borrow.Author.Rules.{rules}
-use Rattle.matching.proofs.Formats.{cover-sound, glyphs-sound, glyphs-null, glyphs-not, glyphs-at}
+use Rattle.matching.proofs.Formats.{cover_sound, glyphs_sound, glyphs_null, glyphs_not, glyphs_at}
 use Rattle.matching.proofs.match_glyphs.Statement.{statement}
 use Rattle.matching.proofs.match_glyphs.Tie as tie
 
@@ -10,7 +10,7 @@ word-at-requires c κs = search rules
 returns : tie.Need-returns
 returns c =
     let a = c.before.before.before.before.args in
-    glyphs-null a.chained a.src.now a.string.now a.n a.place c.before.word_at.ensures.0 c.if1.true
+    glyphs_null a.chained a.src.now a.string.now a.n a.place c.before.word_at.ensures.0 c.if1.true
 
 mul-word-at : tie.Need-overflow-mul-word-at
 mul-word-at c = search rules
@@ -22,7 +22,7 @@ index-of-requires : tie.Need-index-of-requires
 index-of-requires c κs =
     let w = c.before.before in
     let t = w.before.before.before in
-    (cover-sound t.args.src.now t.requires.0 w.word_at.ensures.0 c.before.if1.false, c.word-at2.ensures.1)
+    (cover_sound t.args.src.now t.requires.0 w.word_at.ensures.0 c.before.if1.false, c.word-at2.ensures.1)
 
 enum-known-i : tie.Need-enum-known-i
 enum-known-i c = search rules
@@ -36,12 +36,12 @@ returns-2 c =
     let w = f.before.before.before in
     let t = w.before.before.before in
     let a = t.args in
-    glyphs-not a.chained a.src.now a.string.now a.n a.place w.word_at.ensures.0 f.before.before.if1.false t.requires.1 f.before.word-at2.ensures.0 f.index_of.ensures c.enum_told.given.1
+    glyphs_not a.chained a.src.now a.string.now a.n a.place w.word_at.ensures.0 f.before.before.if1.false t.requires.1 f.before.word-at2.ensures.0 f.index_of.ensures c.enum_told.given.1
 
 match-set-requires : tie.Need-match-set-requires
 match-set-requires c κs =
     let t = c.before.before.before.before.before.before.before.before.before in
-    (glyphs-sound t.args.src.now, omega arith, t.requires.1, t.requires.2)
+    (glyphs_sound t.args.src.now, omega arith, t.requires.1, t.requires.2)
 
 returns-3 : tie.Need-returns-3
 returns-3 c =
@@ -49,10 +49,10 @@ returns-3 c =
     let w = f.before.before.before in
     let t = w.before.before.before in
     let a = t.args in
-    glyphs-at a.chained a.src.now a.string.now a.n a.place w.word_at.ensures.0 f.before.before.if1.false t.requires.1 f.before.word-at2.ensures.0 f.index_of.ensures c.before.before.i.given.1 c.match-set.ensures
+    glyphs_at a.chained a.src.now a.string.now a.n a.place w.word_at.ensures.0 f.before.before.if1.false t.requires.1 f.before.word-at2.ensures.0 f.index_of.ensures c.before.before.i.given.1 c.match-set.ensures
 
-pub match-glyphs-spec : {M : Type 1} → statement M
-match-glyphs-spec =
+pub match_glyphs_spec : {M : Type 1} → statement M
+match_glyphs_spec =
     tie.close
     (tie.spec
     word-at-requires

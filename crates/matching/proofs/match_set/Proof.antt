@@ -1,6 +1,6 @@
 use borrow.Author.Rules.{rules}
 use Rattle.meaning.specs.Words.{words}
-use Rattle.matching.proofs.Formats.{set_past, set-null, set_there}
+use Rattle.matching.proofs.Formats.{set_past, set_null, set_there}
 use Rattle.matching.proofs.match_set.Statement.{statement}
 use Rattle.matching.proofs.match_set.Tie as tie
 
@@ -28,7 +28,7 @@ returns-2 : tie.Need-returns-2
 returns-2 c =
     let w = c.before.before.before in
     let a = w.before.before.before.args in
-    set-null a.chained a.src.now a.how a.slot a.i (words a.string.now 0 a.n) a.place w.word_at.ensures.0 c.before.before.if1.false c.before.word-at2.ensures.0 c.if2.true
+    set_null a.chained a.src.now a.how a.slot a.i (words a.string.now 0 a.n) a.place w.word_at.ensures.0 c.before.before.if1.false c.before.word-at2.ensures.0 c.if2.true
 
 first-rule-requires : tie.Need-first-rule-requires
 first-rule-requires c κs = search rules
@@ -39,8 +39,8 @@ returns-3 c =
     let a = w.before.before.before.args in
     set_there a.chained a.src.now a.how a.slot a.i (words a.string.now 0 a.n) a.place w.word_at.ensures.0 c.before.before.before.if1.false c.before.before.word-at2.ensures.0 c.before.if2.false c.first-rule.ensures
 
-pub match-set-spec : {M : Type 1} → statement M
-match-set-spec =
+pub match_set_spec : {M : Type 1} → statement M
+match_set_spec =
     tie.close
     (tie.spec
     word-at-requires

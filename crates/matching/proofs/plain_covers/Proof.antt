@@ -1,5 +1,5 @@
 use borrow.Author.Rules.{rules}
-use Rattle.matching.proofs.Rows.{plain-covers}
+use Rattle.matching.proofs.Rows.{plain_covers_lem}
 use Rattle.matching.proofs.plain_covers.Statement.{statement}
 use Rattle.matching.proofs.plain_covers.Tie as tie
 
@@ -16,7 +16,7 @@ word-at-requires-2 : tie.Need-word-at-requires-2
 word-at-requires-2 c κs = search rules
 
 returns : tie.Need-returns
-returns c = plain-covers c.before.before.before.args.src.now c.before.word_at.ensures c.word-at2.ensures
+returns c = plain_covers_lem c.before.before.before.args.src.now c.before.word_at.ensures c.word-at2.ensures
 
-pub plain-covers-spec : {M : Type 1} → statement M
-plain-covers-spec = tie.close (tie.spec word-at-requires mul-t6 add-t7 word-at-requires-2 returns)
+pub plain_covers_spec : {M : Type 1} → statement M
+plain_covers_spec = tie.close (tie.spec word-at-requires mul-t6 add-t7 word-at-requires-2 returns)

@@ -3,7 +3,7 @@ use mathlib.Core.Logic.{⊎_elim}
 use Prim.Native.Nat.{◌-◌, ◌/◌, ◌<◌}
 use native.Mathlib.Omega.{arith}
 use lib.ListN.{length}
-use Rattle.meet.proofs.Asking.{Asking, asking-all, asking-small, asking-one, asking-none, asking-end}
+use Rattle.meet.proofs.Asking.{Asking, asking_all, asking_small, asking_one, asking_none, asking_end}
 use Rattle.meet.proofs.meet_entries.Statement.{statement}
 use Rattle.meet.proofs.meet_entries.Tie as tie
 
@@ -14,7 +14,7 @@ abbrev decreases-loop : tie.decreases-loop
 decreases-loop src at glyphs t₀ to k₀ e₀ t k e = length glyphs / 4 - e
 
 loop-holds : tie.Need-loop-init invariant-loop decreases-loop
-loop-holds c = asking-all
+loop-holds c = asking_all
 
 index-of-requires : tie.Need-index-of-requires invariant-loop decreases-loop
 index-of-requires c κs = (c.before.before.before.before.before.before.requires.sound, c.word-inside.ensures.1)
@@ -25,7 +25,7 @@ small c =
     let x = c.before.before.before in
     let w = x.before in
     let l = w.before in
-    asking-small l.before.before.before.before.before.requires l.before.loop.invariant l.loop-test.true w.word-inside.ensures.0 x.index_of.ensures c.before.i.given.1 w.word-inside.ensures.1
+    asking_small l.before.before.before.before.before.requires l.before.loop.invariant l.loop-test.true w.word-inside.ensures.0 x.index_of.ensures c.before.i.given.1 w.word-inside.ensures.1
 
 mul-t : tie.Need-overflow-mul-t invariant-loop decreases-loop
 mul-t c = omega (arith, small c)
@@ -43,18 +43,18 @@ loop-again c =
     let l = w.before in
     let p = l.before.before.before.before.before.requires in
     ⊎_elim
-    (λ a. rw (a.4, a.5) (asking-one p l.before.loop.invariant l.loop-test.true w.word-inside.ensures.0 x.index_of.ensures a.1.given.1 a.3.ensures.0 a.3.ensures.1))
-    (λ a. rw (a.2, a.3) (asking-none p l.before.loop.invariant l.loop-test.true w.word-inside.ensures.0 x.index_of.ensures a.1.given.1))
+    (λ a. rw (a.4, a.5) (asking_one p l.before.loop.invariant l.loop-test.true w.word-inside.ensures.0 x.index_of.ensures a.1.given.1 a.3.ensures.0 a.3.ensures.1))
+    (λ a. rw (a.2, a.3) (asking_none p l.before.loop.invariant l.loop-test.true w.word-inside.ensures.0 x.index_of.ensures a.1.given.1))
     c.match.branch
 
 same_length : tie.Need-same-length invariant-loop decreases-loop
 same_length c = c.before.loop.invariant.kept.size
 
 returns : tie.Need-returns invariant-loop decreases-loop
-returns c = asking-end c.before.before.before.before.before.requires c.before.loop.invariant c.loop-test.false
+returns c = asking_end c.before.before.before.before.before.requires c.before.loop.invariant c.loop-test.false
 
-pub meet-entries-spec : {M : Type 1} → statement M
-meet-entries-spec =
+pub meet_entries_spec : {M : Type 1} → statement M
+meet_entries_spec =
     tie.close
     (tie.spec
     invariant-loop

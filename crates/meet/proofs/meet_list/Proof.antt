@@ -1,5 +1,5 @@
 use borrow.Author.Rules.{rules}
-use Rattle.range_meets.proofs.Lists.{Listing, listing-all, listing-one, listing_none, listing-end}
+use Rattle.range_meets.proofs.Lists.{Listing, listing_all, listing_one, listing_none, listing_end}
 use mathlib.Core.Logic.{⊎_elim}
 use Prim.Native.Nat.{◌-◌}
 use Rattle.meet.proofs.meet_list.Statement.{statement}
@@ -12,7 +12,7 @@ abbrev decreases-loop : tie.decreases-loop
 decreases-loop src at n m t₀ to k₀ i₀ t k i = n - i
 
 loop-holds : tie.Need-loop-init invariant-loop decreases-loop
-loop-holds c = listing-all
+loop-holds c = listing_all
 
 loop-again : tie.Need-loop-preserved invariant-loop decreases-loop
 loop-again c =
@@ -21,7 +21,7 @@ loop-again c =
     let l = w.before in
     let p = l.before.before.before.before.requires in
     ⊎_elim
-    (λ a. rw a.1 (listing-one p l.before.loop.invariant l.loop-test.true w.word-inside.ensures.0 e.entry.ensures.0 a.0.taken))
+    (λ a. rw a.1 (listing_one p l.before.loop.invariant l.loop-test.true w.word-inside.ensures.0 e.entry.ensures.0 a.0.taken))
     (λ a. rw a.1 (listing_none p l.before.loop.invariant l.loop-test.true w.word-inside.ensures.0 e.entry.ensures.0 _ a.0.left))
     c.if1.branch
 
@@ -29,10 +29,10 @@ same_length : tie.Need-same-length invariant-loop decreases-loop
 same_length c = c.before.loop.invariant.kept.size
 
 returns : tie.Need-returns invariant-loop decreases-loop
-returns c = listing-end c.before.before.before.before.requires c.before.loop.invariant c.loop-test.false
+returns c = listing_end c.before.before.before.before.requires c.before.loop.invariant c.loop-test.false
 
-pub meet-list-spec : {M : Type 1} → statement M
-meet-list-spec =
+pub meet_list_spec : {M : Type 1} → statement M
+meet_list_spec =
     tie.close
     (tie.spec
     invariant-loop

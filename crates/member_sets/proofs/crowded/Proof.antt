@@ -16,8 +16,8 @@ loop-holds c = (omega arith, omega arith)
 loop-again : tie.Need-loop-preserved invariant-loop decreases-loop
 loop-again c = (omega arith, omega arith)
 
-pub crowded-spec : {M : Type 1} → statement M
-crowded-spec =
+pub crowded_spec : {M : Type 1} → statement M
+crowded_spec =
     tie.close
     (tie.spec
     invariant-loop

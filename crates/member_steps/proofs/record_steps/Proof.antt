@@ -1,6 +1,6 @@
 use Prim.Native.Nat.{◌-◌}
 use borrow.Author.Rules.{rules}
-use Rattle.member_steps.proofs.Sums.{Adding, adding-all, adding-next, adding-end}
+use Rattle.member_steps.proofs.Sums.{Adding, adding_all, adding_next, adding_end}
 use Rattle.member_steps.proofs.record_steps.Statement.{statement}
 use Rattle.member_steps.proofs.record_steps.Tie as tie
 
@@ -11,7 +11,7 @@ abbrev decreases-loop : tie.decreases-loop
 decreases-loop src at n steps sum₀ i₀ sum i = n - i
 
 loop-holds : tie.Need-loop-init invariant-loop decreases-loop
-loop-holds c = adding-all
+loop-holds c = adding_all
 
 add-steps-requires : tie.Need-add-steps-requires invariant-loop decreases-loop
 add-steps-requires c κs = c.before.before.before.loop.invariant.small
@@ -21,13 +21,13 @@ loop-again c =
     let o = c.before in
     let w = o.before in
     let t = w.before in
-    adding-next t.before.loop.invariant t.loop-test.true w.word_at.ensures.0 o.steps_of.ensures c.add-steps.ensures
+    adding_next t.before.loop.invariant t.loop-test.true w.word_at.ensures.0 o.steps_of.ensures c.add-steps.ensures
 
 returns : tie.Need-returns invariant-loop decreases-loop
-returns c = adding-end c.before.loop.invariant c.loop-test.false
+returns c = adding_end c.before.loop.invariant c.loop-test.false
 
-pub record-steps-spec : {M : Type 1} → statement M
-record-steps-spec =
+pub record_steps_spec : {M : Type 1} → statement M
+record_steps_spec =
     tie.close
     (tie.spec
     invariant-loop

@@ -1,15 +1,15 @@
 use borrow.Author.Rules.{rules}
-use Rattle.member_steps.proofs.Tables.{rule-taken}
+use Rattle.member_steps.proofs.Tables.{rule_taken}
 use Rattle.member_steps.proofs.rule_steps.Statement.{statement}
 use Rattle.member_steps.proofs.rule_steps.Tie as tie
 
 returns : tie.Need-returns
 returns c =
     let a = c.before.before.before.before.args in
-    rule-taken a.steps.now a.src.now a.chained a.at c.before.rule-parts.ensures c.record-steps.ensures
+    rule_taken a.steps.now a.src.now a.chained a.at c.before.rule-parts.ensures c.record-steps.ensures
 
-pub rule-steps-spec : {M : Type 1} → statement M
-rule-steps-spec =
+pub rule_steps_spec : {M : Type 1} → statement M
+rule_steps_spec =
     tie.close
     (tie.spec
     (λ c κs. search rules)

@@ -3,7 +3,7 @@ use borrow.Author.Rules.{rules}
 use Prim.Native.Nat.{◌-◌, ◌/◌}
 use mathlib.Core.Path.{◌≡◌, refl, sym, ap, ◌∙◌}
 use lib.ListN.{length}
-use Rattle.names.proofs.Naming.{zeros, Naming, naming-all, naming-none, naming-turn, naming-end}
+use Rattle.names.proofs.Naming.{zeros, Naming, naming_all, naming_none, naming_turn, naming_end}
 use Rattle.names.proofs.named_by.Statement.{statement}
 use Rattle.names.proofs.named_by.Tie as tie
 
@@ -14,7 +14,7 @@ abbrev decreases-loop : tie.decreases-loop
 decreases-loop list buffer none many lookup₀ lookup = many - lookup
 
 loop-holds : tie.Need-loop-init invariant-loop decreases-loop
-loop-holds c = (refl, naming-all)
+loop-holds c = (refl, naming_all)
 
 listed-steps-requires : tie.Need-listed-steps-requires invariant-loop decreases-loop
 listed-steps-requires c κs = (c.before.before.before.before.before.requires.0, omega (arith, c.before.loop.invariant.0))
@@ -24,20 +24,20 @@ returns c =
     let f = c.before in
     let l = f.before.before in
     let p = l.before.before.before.before.requires in
-    naming-none l.loop.invariant.1 f.before.loop-test.true (p.1 ∙ ap zeros (sym l.loop.invariant.0)) f.listed-steps.ensures c.if1.true
+    naming_none l.loop.invariant.1 f.before.loop-test.true (p.1 ∙ ap zeros (sym l.loop.invariant.0)) f.listed-steps.ensures c.if1.true
 
 loop-again : tie.Need-loop-preserved invariant-loop decreases-loop
 loop-again c =
     let f = c.before in
     let l = f.before.before in
     let p = l.before.before.before.before.requires in
-    (l.loop.invariant.0, naming-turn l.loop.invariant.1 f.before.loop-test.true (p.1 ∙ ap zeros (sym l.loop.invariant.0)) f.listed-steps.ensures c.if1.false)
+    (l.loop.invariant.0, naming_turn l.loop.invariant.1 f.before.loop-test.true (p.1 ∙ ap zeros (sym l.loop.invariant.0)) f.listed-steps.ensures c.if1.false)
 
 returns-2 : tie.Need-returns-2 invariant-loop decreases-loop
-returns-2 c = naming-end c.before.loop.invariant.1 c.loop-test.false
+returns-2 c = naming_end c.before.loop.invariant.1 c.loop-test.false
 
-pub named-by-spec : {M : Type 1} → statement M
-named-by-spec =
+pub named_by_spec : {M : Type 1} → statement M
+named_by_spec =
     tie.close
     (tie.spec
     invariant-loop

@@ -2,24 +2,24 @@ use mathlib.Core.Path.{refl}
 use Prim.Native.Nat.{◌-◌}
 use native.Mathlib.Omega.{arith}
 use Rattle.meaning.specs.Words.{find}
-use Rattle.numbers.specs.Entries.{entriesIn}
-use Rattle.numbers.specs.Leaves.{leaves-full}
-use Rattle.numbers.proofs.Numbers.{Renumbering, renumbering-all, renumbering-turn, renumbering-gone, renumbering-end, cell-new, cell-gone}
+use Rattle.numbers.specs.Entries.{entries_in}
+use Rattle.numbers.specs.Leaves.{leaves_full}
+use Rattle.numbers.proofs.Numbers.{Renumbering, renumbering_all, renumbering_turn, renumbering_gone, renumbering_end, cell_new, cell_gone}
 use borrow.Author.Rules.{rules}
 use Rattle.numbers.proofs.renumber.Statement.{statement}
 use Rattle.numbers.proofs.renumber.Tie as tie
 
 abbrev invariant-loop : tie.invariant-loop
-invariant-loop src at n t m area₀ pos i₀ area i = Renumbering (find (entriesIn t m)) src at n area₀ pos area i
+invariant-loop src at n t m area₀ pos i₀ area i = Renumbering (find (entries_in t m)) src at n area₀ pos area i
 
 abbrev decreases-loop : tie.decreases-loop
 decreases-loop src at n t m area₀ pos i₀ area i = n - i
 
 returns : tie.Need-returns invariant-loop decreases-loop
-returns c = leaves-full refl c.over.ensures (omega arith)
+returns c = leaves_full refl c.over.ensures (omega arith)
 
 loop-holds : tie.Need-loop-init invariant-loop decreases-loop
-loop-holds c = renumbering-all (omega arith)
+loop-holds c = renumbering_all (omega arith)
 
 find-requires : tie.Need-find-requires invariant-loop decreases-loop
 find-requires c κs = c.before.before.before.before.before.before.before.requires.1
@@ -31,7 +31,7 @@ returns-2 : tie.Need-returns-2 invariant-loop decreases-loop
 returns-2 c =
     let f = c.before.before in
     let l = f.before.before.before in
-    renumbering-gone l.loop.invariant f.before.before.loop-test.true f.before.word-inside.ensures.0 (cell-gone l.before.before.before.before.before.requires.1 f.find.ensures c.enum_told.given.1)
+    renumbering_gone l.loop.invariant f.before.before.loop-test.true f.before.word-inside.ensures.0 (cell_gone l.before.before.before.before.before.requires.1 f.find.ensures c.enum_told.given.1)
 
 put-requires : tie.Need-put-requires invariant-loop decreases-loop
 put-requires c κs = omega (arith, c.before.before.before.before.before.before.before.loop.invariant.extends.same, c.before.before.before.before.before.before.before.loop.invariant.room)
@@ -41,16 +41,16 @@ loop-again c =
     let p = c.before.before in
     let f = p.before.before.before.before.before in
     let l = f.before.before.before in
-    renumbering-turn l.loop.invariant f.before.before.loop-test.true f.before.word-inside.ensures.0 (cell-new l.before.before.before.before.before.requires.1 f.find.ensures c.before.before.before.before.before.new.given.1) p.put.ensures
+    renumbering_turn l.loop.invariant f.before.before.loop-test.true f.before.word-inside.ensures.0 (cell_new l.before.before.before.before.before.requires.1 f.find.ensures c.before.before.before.before.before.new.given.1) p.put.ensures
 
 same-length-3 : tie.Need-same-length-3 invariant-loop decreases-loop
 same-length-3 c = c.before.loop.invariant.extends.same
 
 returns-3 : tie.Need-returns-3 invariant-loop decreases-loop
-returns-3 c = renumbering-end c.before.loop.invariant c.loop-test.false
+returns-3 c = renumbering_end c.before.loop.invariant c.loop-test.false
 
-pub renumber-spec : {M : Type 1} → statement M
-renumber-spec =
+pub renumber_spec : {M : Type 1} → statement M
+renumber_spec =
     tie.close
     (tie.spec
     invariant-loop

@@ -1,10 +1,10 @@
 use mathlib.Core.List.{[]}
 use borrow.Author.Rules.{rules}
-use Rattle.meaning.specs.Maps.{glyphEntries}
-use Rattle.meaning.specs.Tables.{pairTable}
+use Rattle.meaning.specs.Maps.{glyph_entries}
+use Rattle.meaning.specs.Tables.{pair_table}
 use Rattle.meaning.specs.Cut.{cut}
-use Rattle.meaning.specs.Subset.{writtenIn}
-use Rattle.pair_classes.proofs.Cutting.{front_length, front-near, front-tries}
+use Rattle.meaning.specs.Subset.{written_in}
+use Rattle.pair_classes.proofs.Cutting.{front_length, front_near, front_tries}
 use Rattle.pair_classes.proofs.class_pairs.Statement.{statement}
 use Rattle.pair_classes.proofs.class_pairs.Tie as tie
 
@@ -15,16 +15,16 @@ slice-aggregate-cut-in c =
 cut-in-requires : tie.Need-cut-in-requires
 cut-in-requires c κs =
     let a = c.before.before.before.before.before.before.before.before.before.before in
-    (a.requires, front-near a.args.area.now c.before.before.before.front.ensures)
+    (a.requires, front_near a.args.area.now c.before.before.before.front.ensures)
 
 returns : tie.Need-returns
 returns c =
     let a = c.before.before.before.before.before.before.before.before.before.before.before.before.before.before.before.before.before.args in
     let k = c.before.before.before.before.before.before.cut_in in
-    front-tries a.area.now c.before.before.before.before.before.before.before.before.before.before.front.ensures a.t.now k.result a.out.now k.new.1.1.1.1.1.0 (writtenIn a.marks.layout a.out.now (cut (glyphEntries a.marks.form a.glyphs.now) [] (pairTable a.src.now))) k.ensures
+    front_tries a.area.now c.before.before.before.before.before.before.before.before.before.before.front.ensures a.t.now k.result a.out.now k.new.1.1.1.1.1.0 (written_in a.marks.layout a.out.now (cut (glyph_entries a.marks.form a.glyphs.now) [] (pair_table a.src.now))) k.ensures
 
-pub class-pairs-spec : {M : Type 1} → statement M
-class-pairs-spec =
+pub class_pairs_spec : {M : Type 1} → statement M
+class_pairs_spec =
     tie.close
     (tie.spec
     (λ c κs. search rules)

@@ -1,5 +1,5 @@
 use native.Mathlib.Omega.{arith}
-use Rattle.pair_classes.proofs.Cutting.{front_long, front-all}
+use Rattle.pair_classes.proofs.Cutting.{front_long, front_all}
 use Rattle.pair_classes.proofs.front.Statement.{statement}
 use Rattle.pair_classes.proofs.front.Tie as tie
 
@@ -9,7 +9,7 @@ returns c =
 
 returns-2 : tie.Need-returns-2
 returns-2 c =
-    front-all (omega (arith, c.if1.false))
+    front_all (omega (arith, c.if1.false))
 
-pub front-spec : {M : Type 1} → statement M
-front-spec = tie.close (tie.spec returns returns-2)
+pub front_spec : {M : Type 1} → statement M
+front_spec = tie.close (tie.spec returns returns-2)

@@ -3,7 +3,7 @@ use borrow.Author.Tests.{not-false}
 use mathlib.Core.Path.{sym}
 use mathlib.Core.Bool.{true≢false}
 use native.Mathlib.Omega.{arith}
-use Rattle.value_differences.proofs.Values.{alike-values}
+use Rattle.value_differences.proofs.Values.{alike_values}
 use Rattle.pair_differences.proofs.alike.Statement.{statement}
 use Rattle.pair_differences.proofs.alike.Tie as tie
 
@@ -24,8 +24,8 @@ returns-4 c =
     let f = w.before.before in
     let a = f.before.before.before.before.before.args in
     λ e.
-    alike-values a.left.now a.right.now a.p a.q f.before.before.word_at.ensures.0 f.before.word-at2.ensures.0 (omega (arith, f.word-at3.ensures.0)) (omega (arith, w.word-at4.ensures.0)) n.field-count.ensures.0 c.before.field-count2.ensures.0
-    (i.before.same-words.ensures (not-false _ i.if3.false))
+    alike_values a.left.now a.right.now a.p a.q f.before.before.word_at.ensures.0 f.before.word-at2.ensures.0 (omega (arith, f.word-at3.ensures.0)) (omega (arith, w.word-at4.ensures.0)) n.field-count.ensures.0 c.before.field-count2.ensures.0
+    (i.before.same_words.ensures (not-false _ i.if3.false))
     (c.same-words2.ensures e)
 
 pub alike_spec : {M : Type 1} → statement M

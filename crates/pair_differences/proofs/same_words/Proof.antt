@@ -1,5 +1,5 @@
 use borrow.Author.Rules.{rules}
-use Rattle.value_differences.proofs.Values.{Wording, wording-all, wording-turn, wording-end}
+use Rattle.value_differences.proofs.Values.{Wording, wording_all, wording_turn, wording_end}
 use mathlib.Core.Path.{sym}
 use mathlib.Core.Bool.{true≢false}
 use Prim.Native.Nat.{◌-◌}
@@ -14,7 +14,7 @@ abbrev decreases-loop : tie.decreases-loop
 decreases-loop left p right q n i₀ i = n - i
 
 loop-holds : tie.Need-loop-init invariant-loop decreases-loop
-loop-holds c = wording-all
+loop-holds c = wording_all
 
 returns : tie.Need-returns invariant-loop decreases-loop
 returns c = λ e. absurd (true≢false (sym e))
@@ -22,13 +22,13 @@ returns c = λ e. absurd (true≢false (sym e))
 loop-again : tie.Need-loop-preserved invariant-loop decreases-loop
 loop-again c =
     let l = c.before.before.before in
-    wording-turn l.before.loop.invariant l.loop-test.true c.before.before.word_at.ensures.0 c.before.word-at2.ensures.0 (omega arith)
+    wording_turn l.before.loop.invariant l.loop-test.true c.before.before.word_at.ensures.0 c.before.word-at2.ensures.0 (omega arith)
 
 returns-2 : tie.Need-returns-2 invariant-loop decreases-loop
-returns-2 c = λ e. wording-end c.before.loop.invariant c.loop-test.false
+returns-2 c = λ e. wording_end c.before.loop.invariant c.loop-test.false
 
-pub same-words-spec : {M : Type 1} → statement M
-same-words-spec =
+pub same_words_spec : {M : Type 1} → statement M
+same_words_spec =
     tie.close
     (tie.spec
     invariant-loop

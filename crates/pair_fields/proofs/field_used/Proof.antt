@@ -1,12 +1,12 @@
 use native.Mathlib.Omega.{arith}
-use Rattle.numbers.specs.Entries.{entriesIn}
-use Rattle.pair_fields.proofs.Pairing.{Using, using-all, using-inside, using-found, using-next, using-end}
+use Rattle.numbers.specs.Entries.{entries_in}
+use Rattle.pair_fields.proofs.Pairing.{Using, using_all, using_inside, using_found, using_next, using_end}
 use borrow.Author.Rules.{rules}
 use Rattle.pair_fields.proofs.field_used.Statement.{statement}
 use Rattle.pair_fields.proofs.field_used.Tie as tie
 
 abbrev invariant-pairs : tie.invariant-pairs
-invariant-pairs src at size place t glyphs p₀ left₀ p left = Using (entriesIn t glyphs) src size place at p left
+invariant-pairs src at size place t glyphs p₀ left₀ p left = Using (entries_in t glyphs) src size place at p left
 
 abbrev decreases-pairs : tie.decreases-pairs
 decreases-pairs src at size place t glyphs p₀ left₀ p left = left
@@ -18,25 +18,25 @@ word-inside-requires : tie.Need-word-inside-requires invariant-pairs decreases-p
 word-inside-requires c κs = omega (arith, c.before.before.requires.0)
 
 pairs-holds : tie.Need-pairs-init invariant-pairs decreases-pairs
-pairs-holds c = using-all c.word-inside.ensures.0 c.before.before.before.requires.0
+pairs-holds c = using_all c.word-inside.ensures.0 c.before.before.before.requires.0
 
 speaks-requires : tie.Need-speaks-requires invariant-pairs decreases-pairs
-speaks-requires c κs = (omega (arith, using-inside c.before.pairs.invariant c.pairs-test.true, c.before.before.before.before.before.requires.1), c.before.before.before.before.before.requires.2)
+speaks-requires c κs = (omega (arith, using_inside c.before.pairs.invariant c.pairs-test.true, c.before.before.before.before.before.requires.1), c.before.before.before.before.before.requires.2)
 
 returns : tie.Need-returns invariant-pairs decreases-pairs
-returns c = using-found c.before.before.before.pairs.invariant c.before.before.pairs-test.true c.before.speaks.ensures c.if1.true
+returns c = using_found c.before.before.before.pairs.invariant c.before.before.pairs-test.true c.before.speaks.ensures c.if1.true
 
 add-p-2 : tie.Need-overflow-add-p-2 invariant-pairs decreases-pairs
-add-p-2 c = omega (arith, using-inside c.before.before.before.pairs.invariant c.before.before.pairs-test.true)
+add-p-2 c = omega (arith, using_inside c.before.before.before.pairs.invariant c.before.before.pairs-test.true)
 
 pairs-again : tie.Need-pairs-preserved invariant-pairs decreases-pairs
-pairs-again c = using-next c.before.before.before.pairs.invariant c.before.before.pairs-test.true c.before.speaks.ensures c.if1.false
+pairs-again c = using_next c.before.before.before.pairs.invariant c.before.before.pairs-test.true c.before.speaks.ensures c.if1.false
 
 returns-2 : tie.Need-returns-2 invariant-pairs decreases-pairs
-returns-2 c = using-end c.before.pairs.invariant c.pairs-test.false
+returns-2 c = using_end c.before.pairs.invariant c.pairs-test.false
 
-pub field-used-spec : {M : Type 1} → statement M
-field-used-spec =
+pub field_used_spec : {M : Type 1} → statement M
+field_used_spec =
     tie.close
     (tie.spec
     invariant-pairs

@@ -12,5 +12,5 @@ returns-2 : tie.Need-returns-2
 unfolding value_at
 returns-2 c = rw (ne_eqb _ _ c.before.if1.false) c.word-inside.ensures.0
 
-pub value-at-spec : {M : Type 1} → statement M
-value-at-spec = tie.close (tie.spec returns (λ c. search rules) (λ c κs. search rules) returns-2)
+pub value_at_spec : {M : Type 1} → statement M
+value_at_spec = tie.close (tie.spec returns (λ c. search rules) (λ c κs. search rules) returns-2)

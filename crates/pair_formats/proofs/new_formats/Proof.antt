@@ -1,7 +1,7 @@
 use native.Mathlib.Omega.{arith}
 use Rattle.area.specs.Part.{notes}
-use Rattle.numbers.specs.Entries.{entriesIn}
-use Rattle.field_uses.proofs.Using.{names-sized, formats-new}
+use Rattle.numbers.specs.Entries.{entries_in}
+use Rattle.field_uses.proofs.Using.{names_sized, formats_new}
 use borrow.Author.Rules.{rules}
 use Rattle.pair_formats.proofs.new_formats.Statement.{statement}
 use Rattle.pair_formats.proofs.new_formats.Tie as tie
@@ -12,7 +12,7 @@ new-format-requires c κs =
     let w = k.before in
     let v = w.before in
     let a = v.before.before.before in
-    (names-sized a.args.src.now v.word-inside.ensures.0 w.word-inside2.ensures.0 k.field-count.ensures.0 c.field-count2.ensures.0 a.requires.names, omega arith, omega arith, omega (arith, k.field-count.ensures.0), a.requires.inside)
+    (names_sized a.args.src.now v.word-inside.ensures.0 w.word-inside2.ensures.0 k.field-count.ensures.0 c.field-count2.ensures.0 a.requires.names, omega arith, omega arith, omega (arith, k.field-count.ensures.0), a.requires.inside)
 
 new-format-requires-2 : tie.Need-new-format-requires-2
 new-format-requires-2 c κs =
@@ -21,7 +21,7 @@ new-format-requires-2 c κs =
     let w = k.before in
     let v = w.before in
     let a = v.before.before.before in
-    (names-sized a.args.src.now v.word-inside.ensures.0 w.word-inside2.ensures.0 k.field-count.ensures.0 l.field-count2.ensures.0 a.requires.names, omega (arith, k.field-count.ensures.1), omega arith, omega (arith, l.field-count2.ensures.0), a.requires.inside)
+    (names_sized a.args.src.now v.word-inside.ensures.0 w.word-inside2.ensures.0 k.field-count.ensures.0 l.field-count2.ensures.0 a.requires.names, omega (arith, k.field-count.ensures.1), omega arith, omega (arith, l.field-count2.ensures.0), a.requires.inside)
 
 returns : tie.Need-returns
 returns c =
@@ -32,10 +32,10 @@ returns c =
     let w = k.before in
     let v = w.before in
     let a = v.before.before.before.args in
-    formats-new a.src.now v.word-inside.ensures.0 w.word-inside2.ensures.0 k.field-count.ensures.0 l.field-count2.ensures.0 (entriesIn a.t.now a.glyphs) (notes a.t.now a.at a.n) n.new-format.ensures m.new-format2.ensures c.stand-in.ensures
+    formats_new a.src.now v.word-inside.ensures.0 w.word-inside2.ensures.0 k.field-count.ensures.0 l.field-count2.ensures.0 (entries_in a.t.now a.glyphs) (notes a.t.now a.at a.n) n.new-format.ensures m.new-format2.ensures c.stand-in.ensures
 
-pub new-formats-spec : {M : Type 1} → statement M
-new-formats-spec =
+pub new_formats_spec : {M : Type 1} → statement M
+new_formats_spec =
     tie.close
     (tie.spec
     (λ c κs. search rules)

@@ -1,4 +1,4 @@
-use Rattle.pair_layouts.proofs.Laying.{too_short, too-big}
+use Rattle.pair_layouts.proofs.Laying.{too_short, too_big}
 use Rattle.pair_layouts.proofs.no_room.Statement.{statement}
 use Rattle.pair_layouts.proofs.no_room.Tie as tie
 
@@ -8,7 +8,7 @@ returns c =
 
 returns-2 : tie.Need-returns-2
 returns-2 c =
-    too-big c.if1.false
+    too_big c.if1.false
 
-pub no-room-spec : {M : Type 1} → statement M
-no-room-spec = tie.close (tie.spec returns returns-2)
+pub no_room_spec : {M : Type 1} → statement M
+no_room_spec = tie.close (tie.spec returns returns-2)

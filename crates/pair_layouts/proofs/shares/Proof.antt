@@ -1,6 +1,6 @@
 use Prim.Native.Nat.{◌-◌}
 use borrow.Author.Rules.{rules}
-use Rattle.pair_layouts.proofs.Sharing.{plain-shares, lengths_differ, Sharing, sharing-all, cells-differ, sharing-turn, sharing-end}
+use Rattle.pair_layouts.proofs.Sharing.{plain_shares, lengths_differ, Sharing, sharing_all, cells_differ, sharing_turn, sharing_end}
 use Rattle.pair_layouts.proofs.shares.Statement.{statement}
 use Rattle.pair_layouts.proofs.shares.Tie as tie
 
@@ -13,7 +13,7 @@ decreases-loop t first second packing i₀ i = first.len - i
 returns : tie.Need-returns invariant-loop decreases-loop
 returns c =
     let a = c.before.args in
-    plain-shares a.packing a.t.now a.first a.second c.if1.true
+    plain_shares a.packing a.t.now a.first a.second c.if1.true
 
 returns-2 : tie.Need-returns-2 invariant-loop decreases-loop
 returns-2 c =
@@ -21,19 +21,19 @@ returns-2 c =
     lengths_differ a.packing a.t.now a.first a.second c.before.before.before.if1.false c.if2.true
 
 loop-holds : tie.Need-loop-init invariant-loop decreases-loop
-loop-holds c = sharing-all c.before.before.before.if1.false c.if2.false
+loop-holds c = sharing_all c.before.before.before.if1.false c.if2.false
 
 returns-3 : tie.Need-returns-3 invariant-loop decreases-loop
-returns-3 c = cells-differ c.before.before.before.before.before.before.before.loop.invariant c.before.before.before.before.before.if3.true c.if4.true
+returns-3 c = cells_differ c.before.before.before.before.before.before.before.loop.invariant c.before.before.before.before.before.if3.true c.if4.true
 
 loop-again : tie.Need-loop-preserved invariant-loop decreases-loop
-loop-again c = sharing-turn c.before.before.before.before.before.before.before.loop.invariant c.before.before.before.before.before.if3.true c.if4.false
+loop-again c = sharing_turn c.before.before.before.before.before.before.before.loop.invariant c.before.before.before.before.before.if3.true c.if4.false
 
 returns-4 : tie.Need-returns-4 invariant-loop decreases-loop
-returns-4 c = sharing-end c.before.before.loop.invariant c.if3.false
+returns-4 c = sharing_end c.before.before.loop.invariant c.if3.false
 
-pub shares-spec : {M : Type 1} → statement M
-shares-spec =
+pub shares_spec : {M : Type 1} → statement M
+shares_spec =
     tie.close
     (tie.spec
     invariant-loop

@@ -1,7 +1,7 @@
 use mathlib.Core.Path.{sym, ◌∙◌}
 use native.Mathlib.Omega.{arith}
 use borrow.Author.Rules.{rules}
-use Rattle.pair_layouts.proofs.Laying.{cover-over, first-over, one_ended, all-ended, area_small}
+use Rattle.pair_layouts.proofs.Laying.{cover_over, first_over, one_ended, all_ended, area_small}
 use Rattle.pair_layouts.proofs.write_tail.Statement.{statement}
 use Rattle.pair_layouts.proofs.write_tail.Tie as tie
 
@@ -12,7 +12,7 @@ write-cover-requires c κs =
 
 returns : tie.Need-returns
 returns c =
-    cover-over _ _ _ _ c.before.before.before.before.write-cover.ensures c.before.if1.true c.one_table.ensures
+    cover_over _ _ _ _ c.before.before.before.before.write-cover.ensures c.before.if1.true c.one_table.ensures
 
 write-classes-requires : tie.Need-write-classes-requires
 write-classes-requires c κs =
@@ -21,7 +21,7 @@ write-classes-requires c κs =
 
 returns-2 : tie.Need-returns-2
 returns-2 c =
-    first-over _ _ _ _ c.before.before.before.before.before.before.before.before.before.write-cover.ensures c.before.before.before.before.before.before.if1.false c.before.before.before.before.write-classes.ensures c.before.if2.true c.one-table2.ensures
+    first_over _ _ _ _ c.before.before.before.before.before.before.before.before.before.write-cover.ensures c.before.before.before.before.before.before.if1.false c.before.before.before.before.write-classes.ensures c.before.if2.true c.one-table2.ensures
 
 returns-3 : tie.Need-returns-3
 returns-3 c =
@@ -34,10 +34,10 @@ write-classes-requires-2 c κs =
 
 returns-4 : tie.Need-returns-4
 returns-4 c =
-    all-ended _ _ _ _ c.before.before.before.before.before.before.before.before.before.before.before.before.before.before.write-cover.ensures c.before.before.before.before.before.before.before.before.before.before.before.if1.false c.before.before.before.before.before.before.before.before.before.write-classes.ensures c.before.before.before.before.before.before.if2.false (sym c.before.before.before.before.before.shares.ensures ∙ c.before.before.before.before.if3.false) c.before.before.write-classes2.ensures
+    all_ended _ _ _ _ c.before.before.before.before.before.before.before.before.before.before.before.before.before.before.write-cover.ensures c.before.before.before.before.before.before.before.before.before.before.before.if1.false c.before.before.before.before.before.before.before.before.before.write-classes.ensures c.before.before.before.before.before.before.if2.false (sym c.before.before.before.before.before.shares.ensures ∙ c.before.before.before.before.if3.false) c.before.before.write-classes2.ensures
 
-pub write-tail-spec : {M : Type 1} → statement M
-write-tail-spec =
+pub write_tail_spec : {M : Type 1} → statement M
+write_tail_spec =
     tie.close
     (tie.spec
     write-cover-requires

@@ -1,15 +1,15 @@
 use native.Mathlib.Omega.{arith}
 use borrow.Author.Rules.{rules}
-use Rattle.meaning.specs.Tables.{bit, fieldCount}
+use Rattle.meaning.specs.Tables.{bit, field_count}
 use Rattle.pair_places.proofs.field_count.Statement.{statement}
 use Rattle.pair_places.proofs.field_count.Tie as tie
 
 returns : tie.Need-returns
-unfolding fieldCount bit
+unfolding field_count bit
 returns c = (omega arith, omega arith)
 
-pub field-count-spec : {M : Type 1} → statement M
-field-count-spec =
+pub field_count_spec : {M : Type 1} → statement M
+field_count_spec =
     tie.close
     (tie.spec
     (λ c. search rules)

@@ -14,7 +14,7 @@ returns-2 c =
     let a = c.before.before.args in
     (place_is a.start a.f a.k (omega arith) c.field-count.ensures.0, omega arith)
 
-pub field-place-spec : {M : Type 1} → statement M
-field-place-spec =
+pub field_place_spec : {M : Type 1} → statement M
+field_place_spec =
     tie.close
     (tie.spec (λ c. search rules) returns (λ c. search rules) (λ c κs. search rules) (λ c. search rules) (λ c. search rules) returns-2)

@@ -3,8 +3,8 @@ use mathlib.Core.List.{◌++◌}
 use Prim.Native.Nat.{ℕ, ◌+◌, ◌*◌}
 use native.Mathlib.Omega.{arith}
 use borrow.Author.Rules.{rules}
-use Rattle.pair_places.specs.Formats.{fields, keptPlaces, places_of}
-use Rattle.pair_places.specs.Puts.{puts-more, puts-said}
+use Rattle.pair_places.specs.Formats.{fields, kept_places, places_of}
+use Rattle.pair_places.specs.Puts.{puts_more, puts_said}
 use Rattle.pair_places.proofs.kept_places.Statement.{statement}
 use Rattle.pair_places.proofs.kept_places.Tie as tie
 
@@ -14,10 +14,10 @@ returns c =
     let d = c.before.before in
     let e = d.before.before.before.before.before in
     let a = e.before.before.before.args in
-    (puts-said (puts-more e.put-places.ensures.0 d.put-places2.ensures.0) (ap (λ (n : ℕ). keptPlaces 2 a.f1 a.n1 fields ++ keptPlaces (2 + 2 * n) a.f2 a.n2 fields) d.before.before.field-count.ensures.0), omega arith)
+    (puts_said (puts_more e.put-places.ensures.0 d.put-places2.ensures.0) (ap (λ (n : ℕ). kept_places 2 a.f1 a.n1 fields ++ kept_places (2 + 2 * n) a.f2 a.n2 fields) d.before.before.field-count.ensures.0), omega arith)
 
-pub kept-places-spec : {M : Type 1} → statement M
-kept-places-spec =
+pub kept_places_spec : {M : Type 1} → statement M
+kept_places_spec =
     tie.close
     (tie.spec
     (λ c κs. search rules)

@@ -1,6 +1,6 @@
 use native.Mathlib.Omega.{arith}
 use borrow.Author.Rules.{rules}
-use Rattle.pair_places.specs.Puts.{puts-more, puts-said, kept-all}
+use Rattle.pair_places.specs.Puts.{puts_more, puts_said, kept_all}
 use Rattle.pair_places.proofs.put_places.Statement.{statement}
 use Rattle.pair_places.proofs.put_places.Tie as tie
 
@@ -11,10 +11,10 @@ returns c =
     let f = e.before.before.before.before in
     let g = f.before.before.before.before in
     let a = g.before.before.before.args in
-    (puts-said (puts-more g.put-place.ensures.0 (puts-more f.put-place2.ensures.0 (puts-more e.put-place3.ensures.0 d.put-place4.ensures.0))) (kept-all a.start a.f a.new), omega arith)
+    (puts_said (puts_more g.put-place.ensures.0 (puts_more f.put-place2.ensures.0 (puts_more e.put-place3.ensures.0 d.put-place4.ensures.0))) (kept_all a.start a.f a.new), omega arith)
 
-pub put-places-spec : {M : Type 1} → statement M
-put-places-spec =
+pub put_places_spec : {M : Type 1} → statement M
+put_places_spec =
     tie.close
     (tie.spec
     (λ c κs. search rules)

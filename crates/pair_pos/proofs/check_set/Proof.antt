@@ -1,7 +1,7 @@
 use Prim.Native.Nat.{◌*◌, ◌<◌}
 use native.Mathlib.Omega.{arith}
-use Rattle.pair_pos.proofs.Sizes.{records-small}
-use Rattle.pair_pos.proofs.Checked.{no-count, cut_short, falls, sound}
+use Rattle.pair_pos.proofs.Sizes.{records_small}
+use Rattle.pair_pos.proofs.Checked.{no_count, cut_short, falls, sound}
 use borrow.Author.Tests.{not-true, not-false}
 use borrow.Author.Rules.{rules}
 use Rattle.pair_pos.proofs.check_set.Statement.{statement}
@@ -9,13 +9,13 @@ use Rattle.pair_pos.proofs.check_set.Tie as tie
 
 -- the records' bytes are few
 few : (c : tie.After-pair-size) → c.pair_size.result * c.before.word_at.result < 0x100_0000
-few c = records-small c.pair_size.result c.before.word_at.result c.pair_size.ensures.1 c.before.word_at.ensures.1
+few c = records_small c.pair_size.result c.before.word_at.result c.pair_size.ensures.1 c.before.word_at.ensures.1
 
 returns : tie.Need-returns
 returns c =
     let i = c.before in
     let a = i.before.before.args in
-    no-count _ _ a.src.now a.at i.inside.ensures (not-true _ c.if1.true)
+    no_count _ _ a.src.now a.at i.inside.ensures (not-true _ c.if1.true)
 
 mul-inside : tie.Need-overflow-mul-inside
 mul-inside c = omega (arith, few c)
@@ -58,8 +58,8 @@ returns-4 c =
     sound _ _ a.src.now a.at j.inside.ensures (not-false _ w.before.if1.false) w.word_at.ensures.0 p.pair_size.ensures.0
     i.inside2.ensures (not-false _ o.before.if2.false) o.ascending.ensures (not-false _ c.if3.false)
 
-pub check-set-spec : {M : Type 1} → statement M
-check-set-spec =
+pub check_set_spec : {M : Type 1} → statement M
+check_set_spec =
     tie.close
     (tie.spec
     (λ c κs. search rules)

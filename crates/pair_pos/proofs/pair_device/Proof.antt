@@ -23,8 +23,8 @@ returns-3 c =
     let first = rw v.word_at.ensures.0 at (sym d.has-device.ensures ∙ w.before.if2.false) in
     rw (eq-eqb _ _ v.before.if1.false, first) (rw w.word-at2.ensures.0 at c.has-device2.ensures)
 
-pub pair-device-spec : {M : Type 1} → statement M
-pair-device-spec =
+pub pair_device_spec : {M : Type 1} → statement M
+pair_device_spec =
     tie.close
     (tie.spec
     returns

@@ -1,7 +1,7 @@
 use Prim.Native.Nat.{◌-◌}
 use native.Mathlib.Omega.{arith}
 use lib.ListN.{length}
-use Rattle.pair_fields.proofs.Pairing.{Valuing, valuing-all, valuing-turn, valuing-end}
+use Rattle.pair_fields.proofs.Pairing.{Valuing, valuing_all, valuing_turn, valuing_end}
 use borrow.Author.Rules.{rules}
 use Rattle.pair_sets.proofs.write_values.Statement.{statement}
 use Rattle.pair_sets.proofs.write_values.Tie as tie
@@ -13,7 +13,7 @@ abbrev decreases-loop : tie.decreases-loop
 decreases-loop src p places area₀ pos i₀ area i = length places - i
 
 loop-holds : tie.Need-loop-init invariant-loop decreases-loop
-loop-holds c = valuing-all (omega arith)
+loop-holds c = valuing_all (omega arith)
 
 cast-place : tie.Need-overflow-cast-place invariant-loop decreases-loop
 cast-place c = omega (arith, c.shared-slice-known3.given c.before.before.loop.i)
@@ -29,16 +29,16 @@ loop-again c =
     let p = c.before.before in
     let v = p.before.before in
     let l = v.before.before.before in
-    valuing-turn l.loop.invariant v.before.before.loop-test.true v.value-at.ensures p.put.ensures
+    valuing_turn l.loop.invariant v.before.before.loop-test.true v.value-at.ensures p.put.ensures
 
 same_length : tie.Need-same-length invariant-loop decreases-loop
 same_length c = c.before.loop.invariant.same
 
 returns : tie.Need-returns invariant-loop decreases-loop
-returns c = valuing-end c.before.loop.invariant c.loop-test.false
+returns c = valuing_end c.before.loop.invariant c.loop-test.false
 
-pub write-values-spec : {M : Type 1} → statement M
-write-values-spec =
+pub write_values_spec : {M : Type 1} → statement M
+write_values_spec =
     tie.close
     (tie.spec
     invariant-loop

@@ -1,11 +1,11 @@
 use mathlib.Core.List.{[]}
 use native.Mathlib.Omega.{arith}
 use borrow.Author.Rules.{rules}
-use Rattle.meaning.specs.Maps.{glyphEntries}
+use Rattle.meaning.specs.Maps.{glyph_entries}
 use Rattle.meaning.specs.Cut.{cut}
-use Rattle.meaning.specs.Subset.{writtenIn}
-use Rattle.tried.specs.Front.{front_length, front-area}
-use Rattle.cut_sets.specs.PairTables.{pairTable}
+use Rattle.meaning.specs.Subset.{written_in}
+use Rattle.tried.specs.Front.{front_length, front_area}
+use Rattle.cut_sets.specs.PairTables.{pair_table}
 use Rattle.pairs_by_glyph.proofs.pairs.Statement.{statement}
 use Rattle.pairs_by_glyph.proofs.pairs.Tie as tie
 
@@ -22,10 +22,10 @@ returns : tie.Need-returns
 returns c =
     let r = c.before.before.before.before.before.before in
     let a = c.before.before.before.before.before.before.before.before.before.before.before.before.before.before.before.before.args in
-    front-area a.area.now c.before.before.before.before.before.before.before.before.before.before.least.ensures _ r.cut-pairs.result a.out.now _ (writtenIn a.marks.layout a.out.now (cut (glyphEntries a.marks.form a.glyphs.now) [] (pairTable a.src.now))) r.cut-pairs.ensures
+    front_area a.area.now c.before.before.before.before.before.before.before.before.before.before.least.ensures _ r.cut_pairs_lem.result a.out.now _ (written_in a.marks.layout a.out.now (cut (glyph_entries a.marks.form a.glyphs.now) [] (pair_table a.src.now))) r.cut_pairs_lem.ensures
 
-pub pairs-spec : {M : Type 1} → statement M
-pairs-spec =
+pub pairs_spec : {M : Type 1} → statement M
+pairs_spec =
     tie.close
     (tie.spec
     (λ c κs. search rules)

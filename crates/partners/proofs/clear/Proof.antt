@@ -1,6 +1,6 @@
 use borrow.Author.Rules.{rules}
 use Prim.Native.Nat.{◌-◌}
-use Rattle.partners.proofs.Chaining.{Clearing, clearing-none, clearing-turn, clearing-end}
+use Rattle.partners.proofs.Chaining.{Clearing, clearing_none, clearing_turn, clearing_end}
 use Rattle.partners.proofs.clear.Statement.{statement}
 use Rattle.partners.proofs.clear.Tie as tie
 
@@ -11,7 +11,7 @@ abbrev decreases-loop : tie.decreases-loop
 decreases-loop own m heads₀ i₀ heads i = m - i
 
 loop-holds : tie.Need-loop-init invariant-loop decreases-loop
-loop-holds c = clearing-none
+loop-holds c = clearing_none
 
 cell-requires : tie.Need-cell-requires invariant-loop decreases-loop
 cell-requires c κs = search rules
@@ -26,13 +26,13 @@ loop-less : tie.Need-loop-smaller invariant-loop decreases-loop
 loop-less c = search rules
 
 loop-again : tie.Need-loop-preserved invariant-loop decreases-loop
-loop-again c = clearing-turn c.before.before.before.before.before.before.loop.invariant c.before.before.before.before.before.loop-test.true c.before.before.before.cell.ensures.0 c.before.before.put-cell.ensures
+loop-again c = clearing_turn c.before.before.before.before.before.before.loop.invariant c.before.before.before.before.before.loop-test.true c.before.before.before.cell.ensures.0 c.before.before.put-cell.ensures
 
 same_length : tie.Need-same-length invariant-loop decreases-loop
 same_length c = c.before.loop.invariant.size
 
 returns : tie.Need-returns invariant-loop decreases-loop
-returns c = clearing-end c.before.loop.invariant c.loop-test.false
+returns c = clearing_end c.before.loop.invariant c.loop-test.false
 
 pub clear_spec : {M : Type 1} → statement M
 clear_spec =

@@ -1,5 +1,5 @@
 use borrow.Author.Rules.{rules}
-use Rattle.partners.proofs.Chaining.{LinkingIn, linking-in, linking-in-turn, linking-in-end}
+use Rattle.partners.proofs.Chaining.{LinkingIn, linking_in, linking_in_turn, linking_in_end}
 use native.Mathlib.Omega.{arith}
 use Rattle.partners.proofs.link.Statement.{statement}
 use Rattle.partners.proofs.link.Tie as tie
@@ -11,7 +11,7 @@ abbrev decreases-loop : tie.decreases-loop
 decreases-loop own m others n heads₀ links₀ j₀ heads links j = j
 
 loop-holds : tie.Need-loop-init invariant-loop decreases-loop
-loop-holds c = linking-in c.before.before.before.before.requires.3
+loop-holds c = linking_in c.before.before.before.before.requires.3
 
 sub-j : tie.Need-overflow-sub-j invariant-loop decreases-loop
 sub-j c = search rules
@@ -38,7 +38,7 @@ loop-less : tie.Need-loop-smaller invariant-loop decreases-loop
 loop-less c = search rules
 
 loop-again : tie.Need-loop-preserved invariant-loop decreases-loop
-loop-again c = linking-in-turn c.before.before.before.before.before.before.before.before.before.before.before.before.before.before.before.before.before.requires.2 c.before.before.before.before.before.before.before.before.before.before.before.before.before.before.before.before.before.requires.1 c.before.before.before.before.before.before.before.before.before.before.before.before.loop.invariant c.before.before.before.before.before.before.before.before.before.before.before.loop-test.true c.before.before.before.before.before.before.before.before.before.before.cell.ensures.0 c.before.before.before.before.before.before.before.cell2.ensures.0 c.before.before.before.before.before.before.put-cell.ensures c.before.before.put-cell2.ensures
+loop-again c = linking_in_turn c.before.before.before.before.before.before.before.before.before.before.before.before.before.before.before.before.before.requires.2 c.before.before.before.before.before.before.before.before.before.before.before.before.before.before.before.before.before.requires.1 c.before.before.before.before.before.before.before.before.before.before.before.before.loop.invariant c.before.before.before.before.before.before.before.before.before.before.before.loop-test.true c.before.before.before.before.before.before.before.before.before.before.cell.ensures.0 c.before.before.before.before.before.before.before.cell2.ensures.0 c.before.before.before.before.before.before.put-cell.ensures c.before.before.put-cell2.ensures
 
 same_length : tie.Need-same-length invariant-loop decreases-loop
 same_length c = c.before.loop.invariant.linking.size
@@ -47,10 +47,10 @@ same-length-2 : tie.Need-same-length-2 invariant-loop decreases-loop
 same-length-2 c = c.before.loop.invariant.size
 
 returns : tie.Need-returns invariant-loop decreases-loop
-returns c = linking-in-end c.before.loop.invariant (omega arith)
+returns c = linking_in_end c.before.loop.invariant (omega arith)
 
-pub link-spec : {M : Type 1} → statement M
-link-spec =
+pub link_spec : {M : Type 1} → statement M
+link_spec =
     tie.close
     (tie.spec
     invariant-loop

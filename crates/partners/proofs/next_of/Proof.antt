@@ -1,4 +1,4 @@
-use Rattle.partners.proofs.Chaining.{next-there}
+use Rattle.partners.proofs.Chaining.{next_there}
 use lib.Seq.{get_or-drop}
 use mathlib.Core.Path.{sym, ◌∙◌}
 use Prim.Native.Nat.{◌-◌}
@@ -23,7 +23,7 @@ cell-requires c κs = search rules
 returns-2 : tie.Need-returns-2
 returns-2 c =
     let o = c.before.before.before.args in
-    (c.cell.ensures.0 ∙ sym (get_or-drop 131072 o.links.now (o.h - 1) 0) ∙ next-there (drop 131072 o.links.now) o.h (omega arith), c.cell.ensures.1)
+    (c.cell.ensures.0 ∙ sym (get_or-drop 131072 o.links.now (o.h - 1) 0) ∙ next_there (drop 131072 o.links.now) o.h (omega arith), c.cell.ensures.1)
 
-pub next-of-spec : {M : Type 1} → statement M
-next-of-spec = tie.close (tie.spec returns sub-cell add-cell cell-requires returns-2)
+pub next_of_spec : {M : Type 1} → statement M
+next_of_spec = tie.close (tie.spec returns sub-cell add-cell cell-requires returns-2)

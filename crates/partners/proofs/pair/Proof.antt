@@ -1,4 +1,4 @@
-use Rattle.partners.proofs.Chaining.{paired-first}
+use Rattle.partners.proofs.Chaining.{paired_first}
 use native.Mathlib.Omega.{arith}
 use borrow.Author.Rules.{rules}
 use Rattle.partners.proofs.pair.Statement.{statement}
@@ -24,7 +24,7 @@ same-length-2 : tie.Need-same-length-2
 same-length-2 c = search rules
 
 returns : tie.Need-returns
-returns c = paired-first (omega (arith, c.before.before.before.before.before.before.before.before.before.before.before.before.before.before.before.before.before.before.before.before.before.before.requires.2)) c.before.before.before.before.before.before.before.before.before.before.before.link.ensures.1 c.before.before.before.before.take.ensures
+returns c = paired_first (omega (arith, c.before.before.before.before.before.before.before.before.before.before.before.before.before.before.before.before.before.before.before.before.before.before.requires.2)) c.before.before.before.before.before.before.before.before.before.before.before.link.ensures.1 c.before.before.before.before.take.ensures
 
 pub pair_spec : {M : Type 1} → statement M
 pair_spec =

@@ -1,5 +1,5 @@
 use borrow.Author.Rules.{rules}
-use Rattle.partners.proofs.Chaining.{TakingIn, taking-in, taking-in-turn, taking-in-end}
+use Rattle.partners.proofs.Chaining.{TakingIn, taking_in, taking_in_turn, taking_in_end}
 use Prim.Native.Nat.{◌-◌}
 use Rattle.partners.proofs.take.Statement.{statement}
 use Rattle.partners.proofs.take.Tie as tie
@@ -11,7 +11,7 @@ abbrev decreases-loop : tie.decreases-loop
 decreases-loop own m others n heads₀ links₀ at i₀ heads links i = m - i
 
 loop-holds : tie.Need-loop-init invariant-loop decreases-loop
-loop-holds c = taking-in c.before.before.before.before.requires.3
+loop-holds c = taking_in c.before.before.before.before.requires.3
 
 cell-requires : tie.Need-cell-requires invariant-loop decreases-loop
 cell-requires c κs = search rules
@@ -38,7 +38,7 @@ loop-less : tie.Need-loop-smaller invariant-loop decreases-loop
 loop-less c = search rules
 
 loop-again : tie.Need-loop-preserved invariant-loop decreases-loop
-loop-again c = taking-in-turn c.before.before.before.before.before.before.before.before.before.before.before.before.before.before.before.before.before.before.before.requires.0 c.before.before.before.before.before.before.before.before.before.before.before.before.before.before.before.before.before.before.before.requires.1 c.before.before.before.before.before.before.before.before.before.before.before.before.before.before.before.before.before.before.before.requires.2 c.before.before.before.before.before.before.before.before.before.before.before.before.before.before.loop.invariant c.before.before.before.before.before.before.before.before.before.before.before.before.before.loop-test.true c.before.before.before.before.before.before.before.before.before.before.before.before.cell.ensures.0 c.before.before.before.before.before.before.before.before.before.before.cell2.ensures.0 c.before.before.before.before.before.before.before.before.put-cell.ensures c.before.before.before.next_of.ensures.0 c.before.before.put-cell2.ensures
+loop-again c = taking_in_turn c.before.before.before.before.before.before.before.before.before.before.before.before.before.before.before.before.before.before.before.requires.0 c.before.before.before.before.before.before.before.before.before.before.before.before.before.before.before.before.before.before.before.requires.1 c.before.before.before.before.before.before.before.before.before.before.before.before.before.before.before.before.before.before.before.requires.2 c.before.before.before.before.before.before.before.before.before.before.before.before.before.before.loop.invariant c.before.before.before.before.before.before.before.before.before.before.before.before.before.loop-test.true c.before.before.before.before.before.before.before.before.before.before.before.before.cell.ensures.0 c.before.before.before.before.before.before.before.before.before.before.cell2.ensures.0 c.before.before.before.before.before.before.before.before.put-cell.ensures c.before.before.before.next_of.ensures.0 c.before.before.put-cell2.ensures
 
 same_length : tie.Need-same-length invariant-loop decreases-loop
 same_length c = c.before.loop.invariant.taking.size
@@ -47,7 +47,7 @@ same-length-2 : tie.Need-same-length-2 invariant-loop decreases-loop
 same-length-2 c = c.before.loop.invariant.size
 
 returns : tie.Need-returns invariant-loop decreases-loop
-returns c = taking-in-end c.before.loop.invariant c.loop-test.false
+returns c = taking_in_end c.before.loop.invariant c.loop-test.false
 
 pub take_spec : {M : Type 1} → statement M
 take_spec =

@@ -9,5 +9,5 @@ returns c = rw c.before.if1.true c.chained-covers-within.ensures
 returns-2 : tie.Need-returns-2
 returns-2 c = rw c.before.if1.false c.plain-covers-within.ensures
 
-pub covers-within-spec : {M : Type 1} → statement M
-covers-within-spec = tie.close (tie.spec (λ c κs. search rules) returns (λ c κs. search rules) returns-2)
+pub covers_within_spec : {M : Type 1} → statement M
+covers_within_spec = tie.close (tie.spec (λ c κs. search rules) returns (λ c κs. search rules) returns-2)

@@ -2,7 +2,7 @@
 use Prim.Native.Nat.{◌-◌}
 use native.Mathlib.Omega.{arith}
 use borrow.Author.Rules.{rules}
-use Rattle.records.specs.Crowded.{Counting, counting-all, counting-next, counting-end}
+use Rattle.records.specs.Crowded.{Counting, counting_all, counting_next, counting_end}
 use Rattle.records.proofs.members.Statement.{statement}
 use Rattle.records.proofs.members.Tie as tie
 
@@ -13,7 +13,7 @@ abbrev decreases-loop : tie.decreases-loop
 decreases-loop src slot n total₀ i₀ total i = n - i
 
 loop-holds : tie.Need-loop-init invariant-loop decreases-loop
-loop-holds c = counting-all
+loop-holds c = counting_all
 
 add_total : tie.Need-overflow-add-total invariant-loop decreases-loop
 add_total c = omega (arith, c.before.before.before.loop.invariant.few)
@@ -22,13 +22,13 @@ loop-again : tie.Need-loop-preserved invariant-loop decreases-loop
 loop-again c =
     let w = c.before in
     let l = w.before in
-    counting-next l.before.loop.invariant l.loop-test.true w.word_at.ensures.0 c.word-at2.ensures
+    counting_next l.before.loop.invariant l.loop-test.true w.word_at.ensures.0 c.word-at2.ensures
 
 returns : tie.Need-returns invariant-loop decreases-loop
-returns c = counting-end c.before.loop.invariant c.loop-test.false c.before.before.before.requires.1
+returns c = counting_end c.before.loop.invariant c.loop-test.false c.before.before.before.requires.1
 
-pub members-spec : {M : Type 1} → statement M
-members-spec =
+pub members_spec : {M : Type 1} → statement M
+members_spec =
     tie.close
     (tie.spec
     invariant-loop

@@ -8,8 +8,8 @@ returns : tie.Need-returns
 unfolding limit
 returns c = refl
 
-pub too-long-spec : {M : Type 1} → statement M
-too-long-spec =
+pub too_long_spec : {M : Type 1} → statement M
+too_long_spec =
     tie.close
     (tie.spec
     returns)

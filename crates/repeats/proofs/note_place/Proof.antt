@@ -1,4 +1,4 @@
-use Rattle.known_blocks.proofs.Further.{no_place, place-noted}
+use Rattle.known_blocks.proofs.Further.{no_place, place_noted}
 use native.Mathlib.Omega.{arith}
 use borrow.Author.Rules.{rules}
 use Rattle.repeats.proofs.note_place.Statement.{statement}
@@ -14,10 +14,10 @@ returns-3 : tie.Need-returns-3
 returns-3 c = no_place
 
 returns-4 : tie.Need-returns-4
-returns-4 c = place-noted c.before.before.before.before.before.before.before.before.before.before.before.before.before.last.ensures c.before.before.before.before.before.before.before.before.before.before.before.cell2.ensures.0 (omega (arith, c.before.before.before.before.before.before.before.before.before.before.before.before.before.before.before.cell.ensures.0)) c.before.before.before.before.before.before.put-cell.ensures c.before.before.put-cell2.ensures
+returns-4 c = place_noted c.before.before.before.before.before.before.before.before.before.before.before.before.before.last.ensures c.before.before.before.before.before.before.before.before.before.before.before.cell2.ensures.0 (omega (arith, c.before.before.before.before.before.before.before.before.before.before.before.before.before.before.before.cell.ensures.0)) c.before.before.before.before.before.before.put-cell.ensures c.before.before.put-cell2.ensures
 
-pub note-place-spec : {M : Type 1} → statement M
-note-place-spec =
+pub note_place_spec : {M : Type 1} → statement M
+note_place_spec =
     tie.close
     (tie.spec
     (λ c κs. search rules)

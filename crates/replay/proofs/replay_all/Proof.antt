@@ -1,5 +1,5 @@
 use borrow.Author.Rules.{rules}
-use Rattle.replay.proofs.Refused.{no-list, list-good, faulty, ready, short, trace-good, unnamed, plays}
+use Rattle.replay.proofs.Refused.{no_list, list_good, faulty, ready, short, trace_good, unnamed, plays}
 use Rattle.replay.proofs.replay_all.Statement.{statement}
 use Rattle.replay.proofs.replay_all.Tie as tie
 
@@ -7,13 +7,13 @@ returns : tie.Need-returns
 returns c =
     let g = c.before.before in
     let a = g.before.before.before.before.args in
-    no-list a.list.now a.buffer.now a.trace.now g.good-list.ensures c.before.if1.true c.refusing.ensures
+    no_list a.list.now a.buffer.now a.trace.now g.good-list.ensures c.before.if1.true c.refusing.ensures
 
 check-lookups-requires : tie.Need-check-lookups-requires
 check-lookups-requires c κs =
     let g = c.before in
     let a = g.before.before.before.before.args in
-    list-good a.list.now a.buffer.now a.trace.now g.good-list.ensures c.if1.false
+    list_good a.list.now a.buffer.now a.trace.now g.good-list.ensures c.if1.false
 
 returns-2 : tie.Need-returns-2
 returns-2 c =
@@ -36,7 +36,7 @@ all-named-requires c κs =
     let k = t.before.before.before in
     let g = k.before.before in
     let a = g.before.before.before.before.args in
-    list-good a.list.now a.buffer.now a.trace.now g.good-list.ensures k.before.if1.false
+    list_good a.list.now a.buffer.now a.trace.now g.good-list.ensures k.before.if1.false
 
 returns-4 : tie.Need-returns-4
 returns-4 c =
@@ -54,7 +54,7 @@ play-runs-requires c κs =
     let k = t.before.before.before in
     let g = k.before.before in
     let a = g.before.before.before.before.args in
-    (ready a.list.now a.buffer.now a.trace.now g.good-list.ensures k.before.if1.false _ k.check-lookups.ensures t.before.enum_told.given.1, trace-good a.list.now a.buffer.now a.trace.now g.good-list.ensures k.before.if1.false _ k.check-lookups.ensures t.before.enum_told.given.1 t.good-trace.ensures n.before.if2.false)
+    (ready a.list.now a.buffer.now a.trace.now g.good-list.ensures k.before.if1.false _ k.check-lookups.ensures t.before.enum_told.given.1, trace_good a.list.now a.buffer.now a.trace.now g.good-list.ensures k.before.if1.false _ k.check-lookups.ensures t.before.enum_told.given.1 t.good-trace.ensures n.before.if2.false)
 
 returns-5 : tie.Need-returns-5
 returns-5 c =
@@ -65,8 +65,8 @@ returns-5 c =
     let a = g.before.before.before.before.args in
     plays a.list.now a.buffer.now a.trace.now g.good-list.ensures k.before.if1.false _ k.check-lookups.ensures t.before.enum_told.given.1 t.good-trace.ensures n.before.if2.false n.all_named.ensures c.before.if3.false c.play-runs.ensures
 
-pub replay-all-spec : {M : Type 1} → statement M
-replay-all-spec =
+pub replay_all_spec : {M : Type 1} → statement M
+replay_all_spec =
     tie.close
     (tie.spec
     (λ c κs. search rules)

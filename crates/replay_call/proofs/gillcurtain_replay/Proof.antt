@@ -1,7 +1,7 @@
 use native.Mathlib.Omega.{arith}
 use borrow.Author.Rules.{rules}
 use Rattle.replay_call.proofs.Writing.{given, small_by}
-use Rattle.replay_call.proofs.Reach.{answer-small}
+use Rattle.replay_call.proofs.Reach.{answer_small}
 use Rattle.replay_call.proofs.gillcurtain_replay.Statement.{statement}
 use Rattle.replay_call.proofs.gillcurtain_replay.Tie as tie
 
@@ -10,7 +10,7 @@ one-number-requires c κs =
     let r = c.before.before.before.before in
     let k = r.before.before.before in
     let a = k.before.before.args in
-    small_by r.replay-all.result r.replay-all.ensures (answer-small a.list.now a.buffer.now a.trace.now (λ i. omega (arith, k.shared-slice-known2.given i)))
+    small_by r.replay-all.result r.replay-all.ensures (answer_small a.list.now a.buffer.now a.trace.now (λ i. omega (arith, k.shared-slice-known2.given i)))
 
 returns : tie.Need-returns
 returns c =
@@ -18,10 +18,10 @@ returns c =
     let r = p.before.before in
     let k = r.before.before.before in
     let a = k.before.before.args in
-    given r.replay-all.result r.replay-all.ensures (answer-small a.list.now a.buffer.now a.trace.now (λ i. omega (arith, k.shared-slice-known2.given i))).1 c.one_number.ensures p.put-tally.ensures
+    given r.replay-all.result r.replay-all.ensures (answer_small a.list.now a.buffer.now a.trace.now (λ i. omega (arith, k.shared-slice-known2.given i))).1 c.one_number.ensures p.put-tally.ensures
 
-pub gillcurtain-replay-spec : {M : Type 1} → statement M
-gillcurtain-replay-spec =
+pub gillcurtain_replay_spec : {M : Type 1} → statement M
+gillcurtain_replay_spec =
     tie.close
     (tie.spec
     (λ c κs. search rules)

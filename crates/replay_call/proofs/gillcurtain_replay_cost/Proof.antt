@@ -1,8 +1,8 @@
 use mathlib.Core.List.{[]}
 use native.Mathlib.Omega.{arith}
 use borrow.Author.Rules.{rules}
-use Rattle.replay_call.proofs.Writing.{cost-given, cost-small, cost-small-by}
-use Rattle.replay_call.proofs.Reach.{answer-small}
+use Rattle.replay_call.proofs.Writing.{cost_given, cost_small, cost_small_by}
+use Rattle.replay_call.proofs.Reach.{answer_small}
 use Rattle.replay_call.proofs.gillcurtain_replay_cost.Statement.{statement}
 use Rattle.replay_call.proofs.gillcurtain_replay_cost.Tie as tie
 
@@ -11,7 +11,7 @@ one-number-requires c κs =
     let r = c.before.before.before.before in
     let k = r.before.before in
     let a = k.before.before.args in
-    cost-small-by r.replay-cost.result r.replay-cost.ensures (cost-small a.list.now a.buffer.now (answer-small a.list.now a.buffer.now [] (λ i. omega (arith, k.shared-slice-known2.given i))))
+    cost_small_by r.replay-cost.result r.replay-cost.ensures (cost_small a.list.now a.buffer.now (answer_small a.list.now a.buffer.now [] (λ i. omega (arith, k.shared-slice-known2.given i))))
 
 returns : tie.Need-returns
 returns c =
@@ -19,9 +19,9 @@ returns c =
     let r = p.before.before in
     let k = r.before.before in
     let a = k.before.before.args in
-    cost-given r.replay-cost.result r.replay-cost.ensures (cost-small a.list.now a.buffer.now (answer-small a.list.now a.buffer.now [] (λ i. omega (arith, k.shared-slice-known2.given i)))).1 c.one_number.ensures p.put-eight.ensures.1
+    cost_given r.replay-cost.result r.replay-cost.ensures (cost_small a.list.now a.buffer.now (answer_small a.list.now a.buffer.now [] (λ i. omega (arith, k.shared-slice-known2.given i)))).1 c.one_number.ensures p.put-eight.ensures.1
 
-pub gillcurtain-replay-cost-spec : {M : Type 1} → statement M
-gillcurtain-replay-cost-spec =
+pub gillcurtain_replay_cost_spec : {M : Type 1} → statement M
+gillcurtain_replay_cost_spec =
     tie.close
     (tie.spec (λ c κs. search rules) (λ c κs. search rules) one-number-requires (λ c. search rules) returns)

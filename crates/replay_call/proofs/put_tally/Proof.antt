@@ -1,5 +1,5 @@
 use borrow.Author.Rules.{rules}
-use Rattle.replay_call.proofs.Writing.{tally-written}
+use Rattle.replay_call.proofs.Writing.{tally_written}
 use Rattle.replay_call.proofs.put_tally.Statement.{statement}
 use Rattle.replay_call.proofs.put_tally.Tie as tie
 
@@ -9,10 +9,10 @@ returns c =
     let q = r.before.before.before.before in
     let p = q.before.before.before.before in
     let a = p.before.before.before.args in
-    tally-written a.out.now a.tally p.put-eight.ensures q.put-eight2.ensures r.put-eight3.ensures.1
+    tally_written a.out.now a.tally p.put-eight.ensures q.put-eight2.ensures r.put-eight3.ensures.1
 
-pub put-tally-spec : {M : Type 1} → statement M
-put-tally-spec =
+pub put_tally_spec : {M : Type 1} → statement M
+put_tally_spec =
     tie.close
     (tie.spec
     (λ c κs. search rules)

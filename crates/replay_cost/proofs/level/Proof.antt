@@ -4,7 +4,7 @@ use mathlib.Core.Path.{◌≡◌, refl}
 use lib.ListN.{length}
 use borrow.Author.Rules.{rules}
 use Rattle.member_steps.proofs.Sums.{limit_is}
-use Rattle.replay_cost.proofs.Depths.{Filling, filling-all, filling-next, filling-end}
+use Rattle.replay_cost.proofs.Depths.{Filling, filling_all, filling_next, filling_end}
 use Rattle.replay_cost.proofs.level.Statement.{statement}
 use Rattle.replay_cost.proofs.level.Tie as tie
 
@@ -15,7 +15,7 @@ abbrev decreases-loop : tie.decreases-loop
 decreases-loop list buffer steps next₀ many lookup₀ next lookup = many - lookup
 
 loop-holds : tie.Need-loop-init invariant-loop decreases-loop
-loop-holds c = (refl, filling-all)
+loop-holds c = (refl, filling_all)
 
 listed-steps-requires : tie.Need-listed-steps-requires invariant-loop decreases-loop
 listed-steps-requires c κs =
@@ -32,13 +32,13 @@ loop-again c =
     let s = a.before.before in
     let t = s.before in
     let l = t.before.loop.invariant in
-    (l.0, filling-next l.1 t.loop-test.true s.listed-steps.ensures a.add-steps.ensures.0 p.put-steps.ensures (search rules))
+    (l.0, filling_next l.1 t.loop-test.true s.listed-steps.ensures a.add-steps.ensures.0 p.put-steps.ensures (search rules))
 
 returns : tie.Need-returns invariant-loop decreases-loop
-returns c = filling-end c.before.loop.invariant.1 c.loop-test.false
+returns c = filling_end c.before.loop.invariant.1 c.loop-test.false
 
-pub level-spec : {M : Type 1} → statement M
-level-spec =
+pub level_spec : {M : Type 1} → statement M
+level_spec =
     tie.close
     (tie.spec
     invariant-loop

@@ -9,5 +9,5 @@ returns-2 c =
     let a = c.before.args in
     sym (set_out a.steps.now a.at a.n c.if1.false)
 
-pub put-steps-spec : {M : Type 1} → statement M
-put-steps-spec = tie.close (tie.spec (λ c. search rules) (λ c. search rules) (λ c. search rules) (λ c. search rules) returns-2)
+pub put_steps_spec : {M : Type 1} → statement M
+put_steps_spec = tie.close (tie.spec (λ c. search rules) (λ c. search rules) (λ c. search rules) (λ c. search rules) returns-2)

@@ -1,7 +1,7 @@
 -- `replay_job::good_file` meets its contract: the tests in order, each made where those before it are passed. Assumes nothing.
 use Rattle.faults.specs.Reached.{refused, passed}
 use borrow.Author.Rules.{rules}
-use Rattle.replay_job.proofs.Files.{too_short, too_long, no-tag, no-list, no_buffer, all-but-trace}
+use Rattle.replay_job.proofs.Files.{too_short, too_long, no_tag, no_list, no_buffer, all_but_trace}
 use Rattle.replay_job.proofs.good_file.Statement.{statement}
 use Rattle.replay_job.proofs.good_file.Tie as tie
 
@@ -17,14 +17,14 @@ returns-3 : tie.Need-returns-3
 returns-3 c =
     let b = c.before.before in
     let a = b.before in
-    no-tag a.before.before.args.file.now a.if1.false b.if2.false c.before.long-at.ensures.0 c.if3.true
+    no_tag a.before.before.args.file.now a.if1.false b.if2.false c.before.long-at.ensures.0 c.if3.true
 
 returns-4 : tie.Need-returns-4
 returns-4 c =
     let t = c.before.before in
     let b = t.before.before in
     let a = b.before in
-    no-list a.before.before.args.file.now a.if1.false b.if2.false t.before.long-at.ensures.0 t.if3.false (refused c.before.ends_by.ensures c.if4.true)
+    no_list a.before.before.args.file.now a.if1.false b.if2.false t.before.long-at.ensures.0 t.if3.false (refused c.before.ends_by.ensures c.if4.true)
 
 returns-5 : tie.Need-returns-5
 returns-5 c =
@@ -42,11 +42,11 @@ returns-6 c =
     let t = d.before.before in
     let b = t.before.before in
     let a = b.before in
-    all-but-trace a.before.before.args.file.now a.if1.false b.if2.false t.before.long-at.ensures.0 t.if3.false (passed d.before.ends_by.ensures d.if4.false)
+    all_but_trace a.before.before.args.file.now a.if1.false b.if2.false t.before.long-at.ensures.0 t.if3.false (passed d.before.ends_by.ensures d.if4.false)
     (passed e.before.ends-by2.ensures e.if5.false) c.ends-by3.ensures
 
-pub good-file-spec : {M : Type 1} → statement M
-good-file-spec =
+pub good_file_spec : {M : Type 1} → statement M
+good_file_spec =
     tie.close
     (tie.spec
     returns

@@ -1,22 +1,22 @@
 -- `replay_job::main` meets its contract: what was read is lent, and what is printed is a part of the text. Assumes nothing.
 use borrow.Author.Rules.{rules}
-use Rattle.input.proofs.Reading.{read-within, read-part}
-use Rattle.replay_job.proofs.Lines.{answered-part}
+use Rattle.input.proofs.Reading.{read_within, read_part}
+use Rattle.replay_job.proofs.Lines.{answered_part}
 use Rattle.replay_job.proofs.main.Statement.{statement}
 use Rattle.replay_job.proofs.main.Tie as tie
 
 array-share-prefix-file : tie.Need-array-share-prefix-file
 array-share-prefix-file c =
     let read = c.before.before.before.before in
-    read-within read.read-input.result read.read-input.ensures c.before.n.given.1
+    read_within read.read-input.result read.read-input.ensures c.before.n.given.1
 
 slice-aggregate-answer : tie.Need-slice-aggregate-answer
 slice-aggregate-answer c =
     let read = c.before.before.before.before.before in
-    read-part read.read-input.result read.read-input.new.0 read.read-input.ensures c.before.before.n.given.1
+    read_part read.read-input.result read.read-input.new.0 read.read-input.ensures c.before.before.n.given.1
 
 slice-aggregate-write-all-2 : tie.Need-slice-aggregate-write-all-2
-slice-aggregate-write-all-2 c = answered-part c.before.before.answer.new.1.0 c.before.before.answer.ensures.1
+slice-aggregate-write-all-2 c = answered_part c.before.before.answer.new.1.0 c.before.before.answer.ensures.1
 
 pub main_spec : {M : Type 1} → statement M
 main_spec =

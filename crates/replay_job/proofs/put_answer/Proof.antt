@@ -2,9 +2,9 @@
 use native.Mathlib.Omega.{arith}
 use borrow.Author.Rules.{rules}
 use Rattle.meaning.specs.Job.{ascii}
-use Rattle.tallies.specs.Counting.{replayedOf}
-use Rattle.report_lines.specs.Lengths.{line-near}
-use Rattle.replay_job.proofs.Lines.{lines-whole}
+use Rattle.tallies.specs.Counting.{replayed_of}
+use Rattle.report_lines.specs.Lengths.{line_near}
+use Rattle.replay_job.proofs.Lines.{lines_whole}
 use Rattle.replay_job.proofs.put_answer.Statement.{statement}
 use Rattle.replay_job.proofs.put_answer.Tie as tie
 
@@ -13,7 +13,7 @@ unfolding ascii
 put-line-requires-2 c κs =
     let p1 = c.before.before.before.before in
     let r = p1.before.before.before.before.args.r in
-    omega (arith, line-near (ascii "answer ") r.number p1.put-line.ensures)
+    omega (arith, line_near (ascii "answer ") r.number p1.put-line.ensures)
 
 put-line-requires-3 : tie.Need-put-line-requires-3
 unfolding ascii
@@ -21,7 +21,7 @@ put-line-requires-3 c κs =
     let p2 = c.before.before.before.before in
     let p1 = p2.before.before.before.before.before in
     let r = p1.before.before.before.before.args.r in
-    omega (arith, line-near (ascii "answer ") r.number p1.put-line.ensures, line-near (ascii "place ") r.place p2.put-line2.ensures)
+    omega (arith, line_near (ascii "answer ") r.number p1.put-line.ensures, line_near (ascii "place ") r.place p2.put-line2.ensures)
 
 put-line-requires-4 : tie.Need-put-line-requires-4
 unfolding ascii
@@ -30,7 +30,7 @@ put-line-requires-4 c κs =
     let p2 = p3.before.before.before.before.before in
     let p1 = p2.before.before.before.before.before in
     let r = p1.before.before.before.before.args.r in
-    omega (arith, line-near (ascii "answer ") r.number p1.put-line.ensures, line-near (ascii "place ") r.place p2.put-line2.ensures, line-near (ascii "runs ") r.tally.runs p3.put-line3.ensures)
+    omega (arith, line_near (ascii "answer ") r.number p1.put-line.ensures, line_near (ascii "place ") r.place p2.put-line2.ensures, line_near (ascii "runs ") r.tally.runs p3.put-line3.ensures)
 
 put-line-requires-5 : tie.Need-put-line-requires-5
 unfolding ascii
@@ -40,7 +40,7 @@ put-line-requires-5 c κs =
     let p2 = p3.before.before.before.before.before in
     let p1 = p2.before.before.before.before.before in
     let r = p1.before.before.before.before.args.r in
-    omega (arith, line-near (ascii "answer ") r.number p1.put-line.ensures, line-near (ascii "place ") r.place p2.put-line2.ensures, line-near (ascii "runs ") r.tally.runs p3.put-line3.ensures, line-near (ascii "agreed ") r.tally.agreements p4.put-line4.ensures)
+    omega (arith, line_near (ascii "answer ") r.number p1.put-line.ensures, line_near (ascii "place ") r.place p2.put-line2.ensures, line_near (ascii "runs ") r.tally.runs p3.put-line3.ensures, line_near (ascii "agreed ") r.tally.agreements p4.put-line4.ensures)
 
 returns : tie.Need-returns
 unfolding ascii
@@ -50,10 +50,10 @@ returns c =
     let p3 = p4.before.before.before.before.before in
     let p2 = p3.before.before.before.before.before in
     let p1 = p2.before.before.before.before.before in
-    lines-whole (replayedOf p1.before.before.before.before.args.r) p1.put-line.ensures p2.put-line2.ensures p3.put-line3.ensures p4.put-line4.ensures p5.put-line5.ensures
+    lines_whole (replayed_of p1.before.before.before.before.args.r) p1.put-line.ensures p2.put-line2.ensures p3.put-line3.ensures p4.put-line4.ensures p5.put-line5.ensures
 
-pub put-answer-spec : {M : Type 1} → statement M
-put-answer-spec =
+pub put_answer_spec : {M : Type 1} → statement M
+put_answer_spec =
     tie.close
     (tie.spec
     (λ c. search rules)

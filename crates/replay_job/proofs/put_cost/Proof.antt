@@ -2,21 +2,21 @@
 use borrow.Author.Rules.{rules}
 use Rattle.meaning.specs.Job.{ascii}
 use Rattle.faults.specs.Reached.{refused, passed}
-use Rattle.replay_job.proofs.Files.{asked-good}
-use Rattle.replay_job.proofs.Lines.{cost-none, cost-put}
+use Rattle.replay_job.proofs.Files.{asked_good}
+use Rattle.replay_job.proofs.Lines.{cost_none, cost_put}
 use Rattle.replay_job.proofs.put_cost.Statement.{statement}
 use Rattle.replay_job.proofs.put_cost.Tie as tie
 
 returns : tie.Need-returns
 returns c =
     let a = c.before in
-    cost-none a.before.before.before.args.file.now (refused a.asks-cost.ensures c.if1.true)
+    cost_none a.before.before.before.args.file.now (refused a.asks-cost.ensures c.if1.true)
 
 file-steps-requires : tie.Need-file-steps-requires
 file-steps-requires c κs =
     let i = c.before.before in
     let a = i.before in
-    asked-good a.before.before.before.args.file.now (passed a.asks-cost.ensures i.if1.false)
+    asked_good a.before.before.before.args.file.now (passed a.asks-cost.ensures i.if1.false)
 
 returns-2 : tie.Need-returns-2
 unfolding ascii
@@ -25,10 +25,10 @@ returns-2 c =
     let s = p.before in
     let i = s.before.before.before in
     let a = i.before in
-    cost-put a.before.before.before.args.file.now (passed a.asks-cost.ensures i.if1.false) s.file-steps.ensures p.put-line.ensures
+    cost_put a.before.before.before.args.file.now (passed a.asks-cost.ensures i.if1.false) s.file-steps.ensures p.put-line.ensures
 
-pub put-cost-spec : {M : Type 1} → statement M
-put-cost-spec =
+pub put_cost_spec : {M : Type 1} → statement M
+put_cost_spec =
     tie.close
     (tie.spec
     (λ c κs. search rules)

@@ -4,25 +4,25 @@ use mathlib.Core.Bool.{true}
 use native.Mathlib.Omega.{arith}
 use borrow.Author.Rules.{rules}
 use Rattle.faults.specs.Reached.{refused, passed}
-use Rattle.replay_job.specs.ReplayFile.{goodFile}
-use Rattle.replay_job.proofs.Files.{File, is-file, replay-faulty, replay-whole}
+use Rattle.replay_job.specs.ReplayFile.{good_file}
+use Rattle.replay_job.proofs.Files.{File, is_file, replay_faulty, replay_whole}
 use Rattle.replay_job.proofs.replay_file.Statement.{statement}
 use Rattle.replay_job.proofs.replay_file.Tie as tie
 
 -- past the test the file is good
-good : (c : tie.Else1) → goodFile c.before.before.before.args.file.now ≡ true
+good : (c : tie.Else1) → good_file c.before.before.before.args.file.now ≡ true
 good c = passed c.before.good-file.ensures c.if1.false
 
 file : (c : tie.Else1) → File c.before.before.before.args.file.now
-file c = is-file c.before.before.before.args.file.now (good c)
+file c = is_file c.before.before.before.args.file.now (good c)
 
 returns : tie.Need-returns
 returns c =
     let g = c.before.before in
-    replay-faulty g.before.before.args.file.now (refused g.good-file.ensures c.before.if1.true) c.refusing.ensures
+    replay_faulty g.before.before.args.file.now (refused g.good-file.ensures c.before.if1.true) c.refusing.ensures
 
 sub_at : tie.Need-overflow-sub-at
-sub_at c = omega (arith, (file c).long-enough)
+sub_at c = omega (arith, (file c).long_enough)
 
 part-at-requires : tie.Need-part-at-requires
 part-at-requires c κs = (omega (arith, (file c).short), (file c).list)
@@ -39,10 +39,10 @@ returns-2 c =
     let b = t.before in
     let l = b.before in
     let e = l.before in
-    replay-whole e.before.before.before.args.file.now (good e) l.part_at.ensures b.part-at2.ensures t.part-at3.ensures c.replay-all.ensures
+    replay_whole e.before.before.before.args.file.now (good e) l.part_at.ensures b.part-at2.ensures t.part-at3.ensures c.replay-all.ensures
 
-pub replay-file-spec : {M : Type 1} → statement M
-replay-file-spec =
+pub replay_file_spec : {M : Type 1} → statement M
+replay_file_spec =
     tie.close
     (tie.spec
     (λ c κs. search rules)

@@ -40,7 +40,7 @@ use denote.Triple.Table.{entered, cited}
 use denote.Triple.Walked.{says, Stays, stay_ref, stay_none_slice, walk_of, AllGo, Goes-none_slice, Goes-ref, Walks, ends_at, walked, walk_Meets}
 use denote.Exit.{yes}
 use Rattle.replaying.specs.Replay.{replay as replayed}
-use Rattle.tallies.specs.Counting.{replayedOf}
+use Rattle.tallies.specs.Counting.{replayed_of}
 use Rattle.tallies.specs.declared.Tally.{Tally}
 use Rattle.tallies.specs.declared.Replayed.{Replayed}
 use Rattle.replay.specs.contracts.replay_all as replay-all
@@ -107,14 +107,14 @@ module _ {M : Type 1} {𝓤 : Ura M} (𝓛 : Logic 𝓤) (at_mem : Memory → SP
   Slices = owns (ShrSlice (named 0) κ₁ u8 ∷ ShrSlice (named 1) κ₂ u8 ∷ ShrSlice (named 2) κ₃ u8 ∷ []) (s₁, (s₂, (s₃, tt))) (v₁ ∷ [], (v₂ ∷ [], (v₃ ∷ [], tt)))
 
   -- the call of `replay_all`
-  abbrev to-all : (All 𝓛 at_mem run).Ghost
-  to-all = (((κ₁, (κ₂, (κ₃, tt))), (q₁, (q₂, (q₃, tt))), tt, (s₁, (s₂, (s₃, tt))), (v₁ ∷ [], (v₂ ∷ [], (v₃ ∷ [], tt)))), tt)
+  abbrev to_all : (All 𝓛 at_mem run).Ghost
+  to_all = (((κ₁, (κ₂, (κ₃, tt))), (q₁, (q₂, (q₃, tt))), tt, (s₁, (s₂, (s₃, tt))), (v₁ ∷ [], (v₂ ∷ [], (v₃ ∷ [], tt)))), tt)
 
-  goes-all : ent 𝓤 (⋆ 𝓛 ((‵ (flft κ₁ q₁) ⊛ (‵ (flft κ₂ q₂) ⊛ (‵ (flft κ₃ q₃) ⊛ ‵ ftrue))) ∷ ‵ Slices ∷ [])) ((All 𝓛 at_mem run).pre to-all)
-  goes-all = qed 𝓛 ((‵ (flft κ₁ q₁) ⊛ (‵ (flft κ₂ q₂) ⊛ (‵ (flft κ₃ q₃) ⊛ ‵ ftrue))) ∷ ‵ Slices ∷ []) ∵ join ! $ frame ! $ done !
+  goes_all : ent 𝓤 (⋆ 𝓛 ((‵ (flft κ₁ q₁) ⊛ (‵ (flft κ₂ q₂) ⊛ (‵ (flft κ₃ q₃) ⊛ ‵ ftrue))) ∷ ‵ Slices ∷ [])) ((All 𝓛 at_mem run).pre to_all)
+  goes_all = qed 𝓛 ((‵ (flft κ₁ q₁) ⊛ (‵ (flft κ₂ q₂) ⊛ (‵ (flft κ₃ q₃) ⊛ ‵ ftrue))) ∷ ‵ Slices ∷ []) ∵ join ! $ frame ! $ done !
 
   abbrev Says : Replayed → Type 0
-  Says r = replayedOf r ≡ replayed s₁.now s₂.now s₃.now
+  Says r = replayed_of r ≡ replayed s₁.now s₂.now s₃.now
 
   said : (r : Replayed) → ent 𝓤 (ensured 𝓛 replay-all.ended (replay-all.clauses 𝓛 at_mem run) (κ₁, (κ₂, (κ₃, tt))) (s₁, (s₂, (s₃, tt))) tt r) (fact 𝓤 (Says r))
   said r = ex_e 𝓤 _ (λ ws. snd∗ 𝓤 (sem 𝓛 (lasts replay-all.ended (κ₁, (κ₂, (κ₃, tt))) (s₁, (s₂, (s₃, tt))) ws)) (fact 𝓤 (Says r)))
@@ -124,7 +124,7 @@ module _ {M : Type 1} {𝓤 : Ura M} (𝓛 : Logic 𝓤) (at_mem : Memory → SP
   Lent = sep 𝓤 (A.obs γ ((T.the_row).coded.code h)) (sep 𝓤 (A.bor κ (Body (mem T.the_row) b o γ)) (A.lft κ q))
 
   -- what the callee asks, and what is kept
-  apart : ent 𝓤 (on_entry 𝓛 f.signature (κ₁, (κ₂, (κ₃, (κ, tt)))) (q₁, (q₂, (q₃, (q, tt)))) (s₁, (s₂, (s₃, (lent, tt)))) at) (sep 𝓤 ((All 𝓛 at_mem run).pre to-all) (sep 𝓤 (sem 𝓛 Slices) Lent))
+  apart : ent 𝓤 (on_entry 𝓛 f.signature (κ₁, (κ₂, (κ₃, (κ, tt)))) (q₁, (q₂, (q₃, (q, tt)))) (s₁, (s₂, (s₃, (lent, tt)))) at) (sep 𝓤 ((All 𝓛 at_mem run).pre to_all) (sep 𝓤 (sem 𝓛 Slices) Lent))
   apart =
       qed 𝓛 ((‵ (flft κ₁ q₁) ⊛ (‵ (flft κ₂ q₂) ⊛ (‵ (flft κ₃ q₃) ⊛ (‵ (flft κ q) ⊛ ‵ ftrue)))) ∷ ‵ (owns (ShrSlice (named 0) κ₁ u8 ∷ ShrSlice (named 1) κ₂ u8 ∷ ShrSlice (named 2) κ₃ u8 ∷ MutRef (named 3) κ T.the_row ∷ []) (s₁, (s₂, (s₃, (lent, tt)))) at) ∷ []) ∵
       split ! $ move ! (1 ∷ []) $ split ! $ move ! (1 ∷ []) $ split ! $ move ! (1 ∷ []) $ split ! $ move ! (1 ∷ []) $ drop ! $
@@ -138,17 +138,17 @@ module _ {M : Type 1} {𝓤 : Ura M} (𝓛 : Logic 𝓤) (at_mem : Memory → SP
       move ! (4 ∷ 3 ∷ []) $ fjoin ! $ move ! (4 ∷ 0 ∷ []) $ fjoin ! $ move ! (4 ∷ 0 ∷ []) $ fjoin ! $
       -- [the slices; the slices; obs; the borrow; κ; κ₃; κ₂; κ₁]
       nothing ! $ move ! (6 ∷ 0 ∷ []) $ join ! $ move ! (6 ∷ 0 ∷ []) $ join ! $ move ! (6 ∷ 0 ∷ []) $ join ! $
-      use2 𝓛 (raw ((All 𝓛 at_mem run).pre to-all)) goes-all $ frame ! $ frame ! $ frame ! $ frame ! $ done !
+      use2 𝓛 (raw ((All 𝓛 at_mem run).pre to_all)) goes_all $ frame ! $ frame ! $ frame ! $ frame ! $ done !
 
   -- the call of `tally_of`, at what came back, with the machine value u
-  abbrev to-of : Replayed → Val → (Of 𝓛 at_mem run).Ghost
-  to-of r u = ((tt, tt, tt, (r, tt), (u ∷ [], tt)), tt)
+  abbrev to_of : Replayed → Val → (Of 𝓛 at_mem run).Ghost
+  to_of r u = ((tt, tt, tt, (r, tt), (u ∷ [], tt)), tt)
 
-  goes_of : (r : Replayed) (u : Val) → ent 𝓤 (sem 𝓛 ((R.the_row).own_val r (u ∷ []))) ((Of 𝓛 at_mem run).pre (to-of r u))
+  goes_of : (r : Replayed) (u : Val) → ent 𝓤 (sem 𝓛 ((R.the_row).own_val r (u ∷ []))) ((Of 𝓛 at_mem run).pre (to_of r u))
   goes_of r u = qed 𝓛 (‵ ((R.the_row).own_val r (u ∷ [])) ∷ []) ∵ nothing ! $ move ! (1 ∷ 0 ∷ []) $ fjoin ! $ nothing ! $ join ! $ frame ! $ done !
 
-  of-said : (r : Replayed) (t : Tally) → ent 𝓤 (ensured 𝓛 tally-of.ended (tally-of.clauses 𝓛 at_mem run) tt (r, tt) tt t) (fact 𝓤 (t ≡ r.tally))
-  of-said r t = ex_e 𝓤 _ (λ ws. snd∗ 𝓤 (sem 𝓛 (lasts tally-of.ended tt (r, tt) ws)) (fact 𝓤 (t ≡ r.tally)))
+  of_said : (r : Replayed) (t : Tally) → ent 𝓤 (ensured 𝓛 tally-of.ended (tally-of.clauses 𝓛 at_mem run) tt (r, tt) tt t) (fact 𝓤 (t ≡ r.tally))
+  of_said r t = ex_e 𝓤 _ (λ ws. snd∗ 𝓤 (sem 𝓛 (lasts tally-of.ended tt (r, tt) ws)) (fact 𝓤 (t ≡ r.tally)))
 
   exits : (r : Replayed) (t : Tally) (u : Val) → Says r → t ≡ r.tally
       → ent 𝓤 (⋆ 𝓛 (‵ (fobs γ ((T.the_row).coded.code t)) ∷ ‵ (fbor κ (Body (mem T.the_row) b o γ)) ∷ ‵ (flft κ q) ∷ ‵ Slices ∷ ‵ ((R.the_row).own_val r (u ∷ [])) ∷ (‵ (flft κ₁ q₁) ⊛ (‵ (flft κ₂ q₂) ⊛ (‵ (flft κ₃ q₃) ⊛ ‵ ftrue))) ∷ [])) (Post u)
@@ -170,17 +170,17 @@ module _ {M : Type 1} {𝓤 : Ura M} (𝓛 : Logic 𝓤) (at_mem : Memory → SP
         alloc1 ! (λ l₀. alloc1 ! (λ l₁. alloc1 ! (λ l₂. alloc1 ! (λ l₃. alloc1 ! (λ l₄. alloc1 ! (λ l₅. alloc1 ! (λ l₆. alloc0 ! $ params1 ! $
         pass1 ! (init ! 10 refl ((shr_slice_Lawful 𝓛 (named 0) κ₁ u8).typed s₁ (v₁ ∷ []) p₁).0) $ pass1 ! (init ! 8 refl ((shr_slice_Lawful 𝓛 (named 1) κ₂ u8).typed s₂ (v₂ ∷ []) p₂).0) $
         pass1 ! (init ! 6 refl ((shr_slice_Lawful 𝓛 (named 2) κ₃ u8).typed s₃ (v₃ ∷ []) p₃).0) $ pass1 ! (init ! 4 refl (tt, tt)) $ pass0 ! $
-        move ! (14 ∷ []) $ use1 𝓛 (raw ((All 𝓛 at_mem run).pre to-all) ⊛ (‵ Slices ⊛ (‵ (fobs γ ((T.the_row).coded.code h)) ⊛ (‵ (fbor κ (Body (mem T.the_row) b o γ)) ⊛ ‵ (flft κ q))))) apart $ split ! $
-        calls_at ! fm (All 𝓛 at_mem run) known to-all (and_then ! (load ! (from ! (stop !)) (look ! 12 refl)) (and_then ! (load ! (from ! (stop !)) (look ! 10 refl)) (and_then ! (load ! (from ! (stop !)) (look ! 8 refl)) (no_more !)))) (λ u.
+        move ! (14 ∷ []) $ use1 𝓛 (raw ((All 𝓛 at_mem run).pre to_all) ⊛ (‵ Slices ⊛ (‵ (fobs γ ((T.the_row).coded.code h)) ⊛ (‵ (fbor κ (Body (mem T.the_row) b o γ)) ⊛ ‵ (flft κ q))))) apart $ split ! $
+        calls_at ! fm (All 𝓛 at_mem run) known to_all (and_then ! (load ! (from ! (stop !)) (look ! 12 refl)) (and_then ! (load ! (from ! (stop !)) (look ! 10 refl)) (and_then ! (load ! (from ! (stop !)) (look ! 8 refl)) (no_more !)))) (λ u.
         use1 𝓛 (later (some (λ (r : Replayed). ((‵ (flft κ₁ q₁) ⊛ (‵ (flft κ₂ q₂) ⊛ (‵ (flft κ₃ q₃) ⊛ ‵ ftrue))) ⊛ ‵ ((R.the_row).own_val r (u ∷ []))) ⊛ raw (ensured 𝓛 replay-all.ended (replay-all.clauses 𝓛 at_mem run) (κ₁, (κ₂, (κ₃, tt))) (s₁, (s₂, (s₃, tt))) tt r)))) (id⊢ 𝓤 _) $ await ! tt $ pick ! (λ r.
         split ! $ move ! (1 ∷ []) $ use1 𝓛 (raw (fact 𝓤 (Says r))) (said r) $ heard ! (Says r) (λ e. split ! $ move ! (1 ∷ []) $
         -- [what came back; the tokens; what is kept; room for _6; …; room for _5; …; _4; …; _3; …; _2; …; _1; …; room for _0; …]
         peeks ! R.the_row (Is R.the_row) (shows 𝓛 R.the_row) r (u ∷ []) (λ is. land ! (from ! (stop !)) (init ! 5 refl ((LL.lawful R.the_type R'.the_laws 𝓛).typed r _ is).0) $
         use1 𝓛 (‵ ((R.the_row).own_val r (u ∷ [])) ⊛ ‵ ((R.the_row).own_val r (u ∷ []))) ((LL.copy R.the_type R'.the_copy 𝓛).twice r (u ∷ [])) $ split ! $
-        use1 𝓛 (raw ((Of 𝓛 at_mem run).pre (to-of r u))) (goes_of r u) $
-        calls_at ! fm (Of 𝓛 at_mem run) Known-of (to-of r u) (and_then ! (load ! (from ! (stop !)) (look ! 6 refl)) (no_more !)) (λ w.
+        use1 𝓛 (raw ((Of 𝓛 at_mem run).pre (to_of r u))) (goes_of r u) $
+        calls_at ! fm (Of 𝓛 at_mem run) Known-of (to_of r u) (and_then ! (load ! (from ! (stop !)) (look ! 6 refl)) (no_more !)) (λ w.
         use1 𝓛 (later (some (λ (t : Tally). (‵ ftrue ⊛ ‵ ((T.the_row).own_val t (w ∷ []))) ⊛ raw (ensured 𝓛 tally-of.ended (tally-of.clauses 𝓛 at_mem run) tt (r, tt) tt t)))) (id⊢ 𝓤 _) $ await ! tt $ pick ! (λ t.
-        split ! $ move ! (1 ∷ []) $ use1 𝓛 (raw (fact 𝓤 (t ≡ r.tally))) (of-said r t) $ heard ! (t ≡ r.tally) (λ eq. split ! $ drop ! $
+        split ! $ move ! (1 ∷ []) $ use1 𝓛 (raw (fact 𝓤 (t ≡ r.tally))) (of_said r t) $ heard ! (t ≡ r.tally) (λ eq. split ! $ drop ! $
         -- [the tally; what came back; the tokens; what is kept; room for _6; …; _5; …]
         peeks ! T.the_row (Is T.the_row) (shows 𝓛 T.the_row) t (w ∷ []) (λ is'. land ! (from ! (stop !)) (init ! 4 refl ((LL.lawful T.the_type T'.the_laws 𝓛).typed t _ is').0) $
         move ! (3 ∷ []) $ split ! $ move ! (1 ∷ []) $ split ! $ move ! (1 ∷ []) $ split ! $ move ! (2 ∷ 0 ∷ 1 ∷ []) $
@@ -199,9 +199,9 @@ module _ {M : Type 1} {𝓤 : Ura M} (𝓛 : Logic 𝓤) (at_mem : Memory → SP
 module _ {M : Type 1} {𝓤 : Ura M} (𝓛 : Logic 𝓤) (at_mem : Memory → SProp 𝓤) (run : Routine → Fun 𝓤) where
   open 𝓛 use {H}
 
-  replay-walks : (C : Calls 𝓤 H) (Λ : Loops 𝓤 H) → FmC 𝓤 H 𝓛.laws C → Triple 𝓤 (C #replay·replay-all) (All 𝓛 at_mem run) → Triple 𝓤 (C #replay-lent·tally-of) (Of 𝓛 at_mem run)
+  replay_walks : (C : Calls 𝓤 H) (Λ : Loops 𝓤 H) → FmC 𝓤 H 𝓛.laws C → Triple 𝓤 (C #replay·replay-all) (All 𝓛 at_mem run) → Triple 𝓤 (C #replay-lent·tally-of) (Of 𝓛 at_mem run)
       → Walks 𝓛 f.ended stayed (WpFn 𝓤 H C Λ code.function) (f.clauses 𝓛 at_mem run)
-  replay-walks C Λ fm known Known-of =
+  replay_walks C Λ fm known Known-of =
       walked 𝓛 f.ended stayed (f.clauses 𝓛 at_mem run) (WpFn 𝓤 H C Λ code.function) (λ κs. (shr_slice_vals, (shr_slice_vals, (shr_slice_vals, (shr_vals, tt)))))
       (λ κs. (shr_slice_Tells (named 0) κs.0 u8, (shr_slice_Tells (named 1) κs.1.0 u8, (shr_slice_Tells (named 2) κs.1.1.0 u8, (mut_Tells (named 3) κs.1.1.1.0 T.the_row, tt)))))
       (λ κs qs bounds a g are. via 𝓤 _ (fst∗ 𝓤 _ (emp 𝓤))
@@ -211,18 +211,18 @@ module _ {M : Type 1} {𝓤 : Ura M} (𝓛 : Logic 𝓤) (at_mem : Memory → SP
   goes : AllGo 𝓛 4 (f.signature).params (f.ended).kept stayed
   goes = (Goes-none_slice 𝓛 4 (0 ∷ []) tt (plain (λ _. u8)) yes, (Goes-none_slice 𝓛 4 (1 ∷ []) tt (plain (λ _. u8)) yes, (Goes-none_slice 𝓛 4 (2 ∷ []) tt (plain (λ _. u8)) yes, (Goes-ref 𝓛 4 3 tt (plain (λ _. T.the_row)), tt))))
 
-replay-meets : {M : Type 1} {𝓤 : Ura M} (𝓛 : Logic 𝓤) (at_mem : Memory → SProp 𝓤) (run : Routine → Fun 𝓤) (𝓣 : Tables 𝓤 𝓛.H)
+replay_meets : {M : Type 1} {𝓤 : Ura M} (𝓛 : Logic 𝓤) (at_mem : Memory → SProp 𝓤) (run : Routine → Fun 𝓤) (𝓣 : Tables 𝓤 𝓛.H)
     → Triple 𝓤 (𝓣.C #replay·replay-all) (All 𝓛 at_mem run) → Triple 𝓤 (𝓣.C #replay-lent·tally-of) (Of 𝓛 at_mem run)
     → Meets 𝓛 f.signature (WpFn 𝓤 𝓛.H 𝓣.C 𝓣.Λ code.function) (f.spec 𝓛 at_mem run)
-replay-meets {𝓤 = 𝓤} 𝓛 at_mem run 𝓣 known Known-of =
+replay_meets {𝓤 = 𝓤} 𝓛 at_mem run 𝓣 known Known-of =
     walk_Meets 𝓛 f.ended stayed (goes 𝓛 at_mem run) (f.clauses 𝓛 at_mem run) (WpFn 𝓤 𝓛.H 𝓣.C 𝓣.Λ code.function) (WpFn-mono 𝓤 𝓛.H 𝓛.laws 𝓣 code.function)
-    (replay-walks 𝓛 at_mem run 𝓣.C 𝓣.Λ (fm_of 𝓤 𝓛.H 𝓛.laws 𝓣) known Known-of)
+    (replay_walks 𝓛 at_mem run 𝓣.C 𝓣.Λ (fm_of 𝓤 𝓛.H 𝓛.laws 𝓣) known Known-of)
 
-pub replay-spec : {M : Type 1} → stated.statement M
+pub replay_spec : {M : Type 1} → stated.statement M
 unfolding code.routine tables_of
-replay-spec 𝓤 𝓛 𝓜 𝓡 =
+replay_spec 𝓤 𝓛 𝓜 𝓡 =
     entered 𝓤 𝓛.H (triple_of 𝓛 f.signature (f.spec 𝓛 𝓜.mem 𝓡.run))
     (tables 𝓤 𝓛.H 𝓜 𝓡 code.env).C (tables 𝓤 𝓛.H 𝓜 𝓡 code.env).Λ #replay-lent·replay code.function (code.unfolded 𝓤 𝓛.H 𝓜 𝓡)
-    (replay-meets 𝓛 𝓜.mem 𝓡.run (tables_of 𝓤 𝓛.H 𝓜 (tables 𝓤 𝓛.H 𝓜 𝓡 code.env))
+    (replay_meets 𝓛 𝓜.mem 𝓡.run (tables_of 𝓤 𝓛.H 𝓜 (tables 𝓤 𝓛.H 𝓜 𝓡 code.env))
     (cited 𝓤 𝓛.H (All 𝓛 𝓜.mem 𝓡.run) 𝓜 𝓡 code.env #replay·replay-all replay-all-def.routine code.calls-replay::replay-all (replay-all-thm.met 𝓤 𝓛 𝓜 𝓡))
     (cited 𝓤 𝓛.H (Of 𝓛 𝓜.mem 𝓡.run) 𝓜 𝓡 code.env #replay-lent·tally-of tally-of-def.routine code.calls-replay-lent::tally-of (tally-of-thm.met 𝓤 𝓛 𝓜 𝓡)))

@@ -3,7 +3,7 @@ use Prim.Native.Nat.{◌-◌}
 use native.Mathlib.Omega.{arith}
 use lib.ListN.{length}
 use borrow.Author.Rules.{rules}
-use Rattle.report_lines.proofs.Writing.{Copying, copying-all, copying-turn, copying-end, copying-near, put-length}
+use Rattle.report_lines.proofs.Writing.{Copying, copying_all, copying_turn, copying_end, copying_near, put_length}
 use Rattle.report.proofs.put_text.Statement.{statement}
 use Rattle.report.proofs.put_text.Tie as tie
 
@@ -14,22 +14,22 @@ abbrev decreases-loop : tie.decreases-loop
 decreases-loop text₀ at s p₀ i₀ text p i = length s - i
 
 loop-holds : tie.Need-loop-init invariant-loop decreases-loop
-loop-holds c = copying-all
+loop-holds c = copying_all
 
 put-one-requires : tie.Need-put-one-requires invariant-loop decreases-loop
-put-one-requires c κs = (omega (arith, copying-near c.before.before.before.loop.invariant), search rules)
+put-one-requires c κs = (omega (arith, copying_near c.before.before.before.loop.invariant), search rules)
 
 loop-again : tie.Need-loop-preserved invariant-loop decreases-loop
-loop-again c = copying-turn c.before.before.before.before.before.before.loop.invariant c.before.before.before.before.before.loop-test.true c.before.before.before.byte.ensures.0 c.before.before.put_one.ensures
+loop-again c = copying_turn c.before.before.before.before.before.before.loop.invariant c.before.before.before.before.before.loop-test.true c.before.before.before.byte.ensures.0 c.before.before.put_one.ensures
 
 same_length : tie.Need-same-length invariant-loop decreases-loop
-same_length c = put-length (copying-end c.before.loop.invariant c.loop-test.false)
+same_length c = put_length (copying_end c.before.loop.invariant c.loop-test.false)
 
 returns : tie.Need-returns invariant-loop decreases-loop
-returns c = copying-end c.before.loop.invariant c.loop-test.false
+returns c = copying_end c.before.loop.invariant c.loop-test.false
 
-pub put-text-spec : {M : Type 1} → statement M
-put-text-spec =
+pub put_text_spec : {M : Type 1} → statement M
+put_text_spec =
     tie.close
     (tie.spec
     invariant-loop

@@ -3,28 +3,28 @@ use mathlib.Core.Path.{sym}
 use native.Mathlib.Omega.{arith}
 use borrow.Author.Rules.{rules}
 use Rattle.meaning.specs.Job.{ascii}
-use Rattle.report.proofs.Whole.{kept-length, printed-kept, printed-refused}
+use Rattle.report.proofs.Whole.{kept_length, printed_kept, printed_refused}
 use Rattle.report.proofs.report.Statement.{statement}
 use Rattle.report.proofs.report.Tie as tie
 
 slice-aggregate-put-kept : tie.Need-slice-aggregate-put-kept
-slice-aggregate-put-kept c = sym (kept-length c.before.before.before.before.before.requires c.before.before.if1.true)
+slice-aggregate-put-kept c = sym (kept_length c.before.before.before.before.before.requires c.before.before.if1.true)
 
 put-kept-requires : tie.Need-put-kept-requires
-put-kept-requires c κs = omega (arith, kept-length c.before.before.before.before.before.requires c.before.before.if1.true, c.before.before.before.before.before.requires.small, c.before.before.before.before.before.requires.within c.before.before.if1.true)
+put-kept-requires c κs = omega (arith, kept_length c.before.before.before.before.before.requires c.before.before.if1.true, c.before.before.before.before.before.requires.small, c.before.before.before.before.before.requires.within c.before.before.if1.true)
 
 returns : tie.Need-returns
-returns c = printed-kept c.before.before.before.before.before.before.before.before.requires c.before.before.before.before.before.if1.true c.before.before.put-kept.ensures
+returns c = printed_kept c.before.before.before.before.before.before.before.before.requires c.before.before.before.before.before.if1.true c.before.before.put_kept.ensures
 
 returns-2 : tie.Need-returns-2
 unfolding ascii
 returns-2 c =
     let line = c.before.before in
     let otherwise = line.before.before.before in
-    printed-refused otherwise.before.before.before.requires otherwise.if1.false line.put-line.ensures
+    printed_refused otherwise.before.before.before.requires otherwise.if1.false line.put-line.ensures
 
-pub report-spec : {M : Type 1} → statement M
-report-spec =
+pub report_spec : {M : Type 1} → statement M
+report_spec =
     tie.close
     (tie.spec
     slice-aggregate-put-kept

@@ -1,4 +1,4 @@
-use Rattle.rule_differences.proofs.Ranking.{no-left, some_left}
+use Rattle.rule_differences.proofs.Ranking.{no_left, some_left}
 use native.Mathlib.Omega.{arith}
 use borrow.Author.Rules.{rules}
 use Rattle.rule_differences.proofs.list_left.Statement.{statement}
@@ -7,7 +7,7 @@ use Rattle.rule_differences.proofs.list_left.Tie as tie
 returns : tie.Need-returns
 returns c =
     let a = c.before.before.before.args in
-    no-left a.partners.now a.m a.g a.i c.if1.true
+    no_left a.partners.now a.m a.g a.i c.if1.true
 
 returns-2 : tie.Need-returns-2
 returns-2 c =
@@ -16,7 +16,7 @@ returns-2 c =
     let a = t.before.before.before.args in
     some_left a.partners.now a.m a.g a.i (omega arith) l.before.cell.ensures.0 l.put-left.ensures
 
-pub list-left-spec : {M : Type 1} → statement M
-list-left-spec =
+pub list_left_spec : {M : Type 1} → statement M
+list_left_spec =
     tie.close
     (tie.spec returns (λ c κs. search rules) (λ c κs. search rules) (λ c. search rules) returns-2)

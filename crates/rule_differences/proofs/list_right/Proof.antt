@@ -1,4 +1,4 @@
-use Rattle.rule_differences.proofs.Ranking.{no-right, some_right}
+use Rattle.rule_differences.proofs.Ranking.{no_right, some_right}
 use native.Mathlib.Omega.{arith}
 use borrow.Author.Rules.{rules}
 use Rattle.rule_differences.proofs.list_right.Statement.{statement}
@@ -7,7 +7,7 @@ use Rattle.rule_differences.proofs.list_right.Tie as tie
 returns : tie.Need-returns
 returns c =
     let a = c.before.before.before.args in
-    no-right a.partners.now a.n a.g a.i c.if1.true
+    no_right a.partners.now a.n a.g a.i c.if1.true
 
 returns-2 : tie.Need-returns-2
 returns-2 c =
@@ -16,7 +16,7 @@ returns-2 c =
     let a = t.before.before.before.args in
     some_right a.partners.now a.n a.g a.i (omega arith) l.before.cell.ensures.0 l.put_right.ensures
 
-pub list-right-spec : {M : Type 1} → statement M
-list-right-spec =
+pub list_right_spec : {M : Type 1} → statement M
+list_right_spec =
     tie.close
     (tie.spec returns (λ c κs. search rules) (λ c κs. search rules) (λ c. search rules) returns-2)

@@ -15,5 +15,5 @@ returns : tie.Need-returns
 unfolding mix
 returns c = (refl, omega arith)
 
-pub mix-spec : {M : Type 1} → statement M
-mix-spec = tie.close (tie.spec mul-result add-result returns)
+pub mix_spec : {M : Type 1} → statement M
+mix_spec = tie.close (tie.spec mul-result add-result returns)

@@ -15,5 +15,5 @@ word-at-requires-2 c κs = search rules
 returns-2 : tie.Need-returns-2
 returns-2 c = let a = c.before.before.before.before.args in (rw (side_right a.side a.left.now a.right.now c.before.if1.false) c.word-at2.ensures.0, c.word-at2.ensures.1)
 
-pub word-of-spec : {M : Type 1} → statement M
-word-of-spec = tie.close (tie.spec word-at-requires returns word-at-requires-2 returns-2)
+pub word_of_spec : {M : Type 1} → statement M
+word_of_spec = tie.close (tie.spec word-at-requires returns word-at-requires-2 returns-2)

@@ -1,6 +1,6 @@
 use mathlib.Core.Path.{refl}
 use borrow.Author.Rules.{rules}
-use Rattle.rule_says.proofs.Saying.{ligature-part}
+use Rattle.rule_says.proofs.Saying.{ligature_part}
 use Rattle.rule_says.proofs.ligature_parts.Statement.{statement}
 use Rattle.rule_says.proofs.ligature_parts.Tie as tie
 
@@ -17,8 +17,8 @@ after-first-requires : tie.Need-after-first-requires
 after-first-requires c κs = search rules
 
 returns : tie.Need-returns
-returns c = let a = c.before.before.before.args in ligature-part a.src.now a.at c.before.before.before.requires c.before.word_at.ensures.0 c.before.word_at.ensures.1 c.after_first.ensures refl
+returns c = let a = c.before.before.before.args in ligature_part a.src.now a.at c.before.before.before.requires c.before.word_at.ensures.0 c.before.word_at.ensures.1 c.after_first.ensures refl
 
-pub ligature-parts-spec : {M : Type 1} → statement M
-ligature-parts-spec =
+pub ligature_parts_spec : {M : Type 1} → statement M
+ligature_parts_spec =
     tie.close (tie.spec add-word-at word-at-requires add-t5 after-first-requires returns)

@@ -16,5 +16,5 @@ parts-at-requires-2 c κs = search rules
 returns-2 : tie.Need-returns-2
 returns-2 c = let a = c.before.before.before.before.args in rw (side_right (a.code % 2) a.left.now a.right.now c.before.if1.false) c.parts-at2.ensures
 
-pub parts-of-spec : {M : Type 1} → statement M
-parts-of-spec = tie.close (tie.spec parts-at-requires returns parts-at-requires-2 returns-2)
+pub parts_of_spec : {M : Type 1} → statement M
+parts_of_spec = tie.close (tie.spec parts-at-requires returns parts-at-requires-2 returns-2)

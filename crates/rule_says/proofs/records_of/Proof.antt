@@ -7,5 +7,5 @@ returns : tie.Need-returns
 unfolding base_of
 returns c = refl
 
-pub records-of-spec : {M : Type 1} → statement M
-records-of-spec = tie.close (tie.spec returns)
+pub records_of_spec : {M : Type 1} → statement M
+records_of_spec = tie.close (tie.spec returns)

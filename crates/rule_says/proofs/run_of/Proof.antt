@@ -11,5 +11,5 @@ base-of-requires c κs = search rules
 returns : tie.Need-returns
 returns c = rw c.base-of.ensures.0
 
-pub run-of-spec : {M : Type 1} → statement M
-run-of-spec = tie.close (tie.spec add-base-of base-of-requires returns)
+pub run_of_spec : {M : Type 1} → statement M
+run_of_spec = tie.close (tie.spec add-base-of base-of-requires returns)

@@ -14,5 +14,5 @@ same-row-requires c κs = search rules
 returns-2 : tie.Need-returns-2
 returns-2 c = let e : c.before.before.before.before.before.args.m ≡ c.before.before.before.before.before.args.n = omega arith in rw e c.same_row.ensures
 
-pub same-part-spec : {M : Type 1} → statement M
-same-part-spec = tie.close (tie.spec returns same-row-requires returns-2)
+pub same_part_spec : {M : Type 1} → statement M
+same_part_spec = tie.close (tie.spec returns same-row-requires returns-2)

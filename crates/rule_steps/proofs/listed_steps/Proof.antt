@@ -1,35 +1,35 @@
 use native.Mathlib.Omega.{arith}
 use borrow.Author.Rules.{rules}
-use Rattle.lookup_list.proofs.Parts.{listed-source}
-use Rattle.lookup_list.proofs.Readying.{list-short, part-inside}
-use Rattle.member_steps.proofs.Tables.{source-taken}
+use Rattle.lookup_list.proofs.Parts.{listed_source}
+use Rattle.lookup_list.proofs.Readying.{list_short, part_inside}
+use Rattle.member_steps.proofs.Tables.{source_taken}
 use Rattle.rule_steps.proofs.listed_steps.Statement.{statement}
 use Rattle.rule_steps.proofs.listed_steps.Tie as tie
 
 long-at-requires : tie.Need-long-at-requires
 long-at-requires c κs =
     let t = c.before.before.before in
-    omega (arith, list-short t.args.list.now t.args.buffer.now t.requires.0, t.requires.1)
+    omega (arith, list_short t.args.list.now t.args.buffer.now t.requires.0, t.requires.1)
 
 long-at-requires-2 : tie.Need-long-at-requires-2
 long-at-requires-2 c κs =
     let t = c.before.before.before.before in
-    omega (arith, list-short t.args.list.now t.args.buffer.now t.requires.0, t.requires.1)
+    omega (arith, list_short t.args.list.now t.args.buffer.now t.requires.0, t.requires.1)
 
 part-requires : tie.Need-part-requires
 part-requires c κs =
     let t = c.before.before.before.before.before in
-    part-inside t.args.list.now t.args.buffer.now t.requires.0 t.args.lookup t.requires.1 c.before.long-at.ensures.0 c.long-at2.ensures.0
+    part_inside t.args.list.now t.args.buffer.now t.requires.0 t.args.lookup t.requires.1 c.before.long-at.ensures.0 c.long-at2.ensures.0
 
 returns : tie.Need-returns
 returns c =
     let p = c.before.before in
     let t = p.before.before.before.before.before.before in
     let a = t.args in
-    source-taken a.steps.now a.list.now a.buffer.now a.lookup (listed-source a.list.now a.buffer.now a.lookup p.before.before.long-at.ensures.0 p.before.long-at2.ensures.0 p.part.ensures) c.before.word_at.ensures.0 c.table-steps.ensures
+    source_taken a.steps.now a.list.now a.buffer.now a.lookup (listed_source a.list.now a.buffer.now a.lookup p.before.before.long-at.ensures.0 p.before.long-at2.ensures.0 p.part.ensures) c.before.word_at.ensures.0 c.table-steps.ensures
 
-pub listed-steps-spec : {M : Type 1} → statement M
-listed-steps-spec =
+pub listed_steps_spec : {M : Type 1} → statement M
+listed_steps_spec =
     tie.close
     (tie.spec
     (λ c. search rules)

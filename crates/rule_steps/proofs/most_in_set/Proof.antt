@@ -1,7 +1,7 @@
 use native.Mathlib.Omega.{arith}
 use Prim.Native.Nat.{◌-◌}
 use borrow.Author.Rules.{rules}
-use Rattle.member_steps.proofs.Most.{InSet, set_all, set-null, set-rule, set-end}
+use Rattle.member_steps.proofs.Most.{InSet, set_all, set_null, set_rule, set_end}
 use Rattle.rule_steps.proofs.most_in_set.Statement.{statement}
 use Rattle.rule_steps.proofs.most_in_set.Tie as tie
 
@@ -18,7 +18,7 @@ loop-again : tie.Need-loop-preserved invariant-loop decreases-loop
 loop-again c =
     let w = c.before in
     let t = w.before in
-    set-null t.before.loop.invariant t.loop-test.true w.word-at2.ensures.0 c.if1.true
+    set_null t.before.loop.invariant t.loop-test.true w.word-at2.ensures.0 c.if1.true
 
 most-once-requires : tie.Need-most-once-requires invariant-loop decreases-loop
 most-once-requires c κs =
@@ -33,13 +33,13 @@ loop-again-2 c =
     let z = o.before.before in
     let w = z.before in
     let t = w.before in
-    set-rule t.before.loop.invariant t.loop-test.true w.word-at2.ensures.0 z.if1.false o.most-once.ensures (search rules)
+    set_rule t.before.loop.invariant t.loop-test.true w.word-at2.ensures.0 z.if1.false o.most-once.ensures (search rules)
 
 returns : tie.Need-returns invariant-loop decreases-loop
-returns c = set-end c.before.loop.invariant c.loop-test.false c.before.before.word_at.ensures.0
+returns c = set_end c.before.loop.invariant c.loop-test.false c.before.before.word_at.ensures.0
 
-pub most-in-set-spec : {M : Type 1} → statement M
-most-in-set-spec =
+pub most_in_set_spec : {M : Type 1} → statement M
+most_in_set_spec =
     tie.close
     (tie.spec
     invariant-loop

@@ -1,6 +1,6 @@
 use Prim.Native.Nat.{◌-◌}
 use borrow.Author.Rules.{rules}
-use Rattle.member_steps.proofs.Most.{InSets, sets-all, sets-null, sets-set, sets_end}
+use Rattle.member_steps.proofs.Most.{InSets, sets_all, sets_null, sets_set, sets_end}
 use Rattle.rule_steps.proofs.most_in_sets.Statement.{statement}
 use Rattle.rule_steps.proofs.most_in_sets.Tie as tie
 
@@ -11,13 +11,13 @@ abbrev decreases-loop : tie.decreases-loop
 decreases-loop chained src slot n steps marks₀ top₀ i₀ marks top i = n - i
 
 loop-holds : tie.Need-loop-init invariant-loop decreases-loop
-loop-holds c = sets-all c.before.before.before.requires.2
+loop-holds c = sets_all c.before.before.before.requires.2
 
 loop-again : tie.Need-loop-preserved invariant-loop decreases-loop
 loop-again c =
     let w = c.before in
     let t = w.before in
-    sets-null t.before.loop.invariant t.loop-test.true w.word_at.ensures.0 c.if1.true
+    sets_null t.before.loop.invariant t.loop-test.true w.word_at.ensures.0 c.if1.true
 
 most-in-set-requires : tie.Need-most-in-set-requires invariant-loop decreases-loop
 most-in-set-requires c κs =
@@ -30,13 +30,13 @@ loop-again-2 c =
     let z = o.before.before in
     let w = z.before in
     let t = w.before in
-    sets-set t.before.loop.invariant t.loop-test.true w.word_at.ensures.0 z.if1.false o.most-in-set.ensures (search rules)
+    sets_set t.before.loop.invariant t.loop-test.true w.word_at.ensures.0 z.if1.false o.most-in-set.ensures (search rules)
 
 returns : tie.Need-returns invariant-loop decreases-loop
 returns c = sets_end c.before.loop.invariant c.loop-test.false
 
-pub most-in-sets-spec : {M : Type 1} → statement M
-most-in-sets-spec =
+pub most_in_sets_spec : {M : Type 1} → statement M
+most_in_sets_spec =
     tie.close
     (tie.spec
     invariant-loop

@@ -2,7 +2,7 @@
 use Prim.Native.Nat.{◌-◌}
 use native.Mathlib.Omega.{arith}
 use borrow.Author.Rules.{rules}
-use Rattle.rules.proofs.Within.{Below, below_all, below_next, below-past, below_end}
+use Rattle.rules.proofs.Within.{Below, below_all, below_next, below_past, below_end}
 use Rattle.rules.proofs.indexes_below.Statement.{statement}
 use Rattle.rules.proofs.indexes_below.Tie as tie
 
@@ -18,7 +18,7 @@ loop-holds c = below_all
 returns : tie.Need-returns invariant-loop decreases-loop
 returns c =
     let w = c.before in
-    below-past w.before.before.loop.invariant w.before.loop-test.true w.word_at.ensures.0 c.if1.true
+    below_past w.before.before.loop.invariant w.before.loop-test.true w.word_at.ensures.0 c.if1.true
 
 loop-again : tie.Need-loop-preserved invariant-loop decreases-loop
 loop-again c =
@@ -28,8 +28,8 @@ loop-again c =
 returns-2 : tie.Need-returns-2 invariant-loop decreases-loop
 returns-2 c = below_end c.before.loop.invariant c.loop-test.false
 
-pub indexes-below-spec : {M : Type 1} → statement M
-indexes-below-spec =
+pub indexes_below_spec : {M : Type 1} → statement M
+indexes_below_spec =
     tie.close
     (tie.spec
     invariant-loop

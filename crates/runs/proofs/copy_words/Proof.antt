@@ -1,6 +1,6 @@
 use Prim.Native.Nat.{◌-◌}
 use borrow.Author.Rules.{rules}
-use Rattle.runs.proofs.Copying.{Copied, copied_none, copied-turn, copied_all}
+use Rattle.runs.proofs.Copying.{Copied, copied_none, copied_turn, copied_all}
 use Rattle.runs.proofs.copy_words.Statement.{statement}
 use Rattle.runs.proofs.copy_words.Tie as tie
 
@@ -39,7 +39,7 @@ loop-again c =
     let p = c.before.before in
     let w = p.before in
     let l = w.before.before.before in
-    copied-turn l.loop.invariant w.before.before.loop-test.true l.before.before.before.requires.1.fits w.word_at.ensures p.put.ensures.1
+    copied_turn l.loop.invariant w.before.before.loop-test.true l.before.before.before.requires.1.fits w.word_at.ensures p.put.ensures.1
 
 same_length : tie.Need-same-length invariant-loop decreases-loop
 same_length c = c.before.loop.invariant.long
@@ -47,8 +47,8 @@ same_length c = c.before.loop.invariant.long
 returns : tie.Need-returns invariant-loop decreases-loop
 returns c = copied_all c.before.loop.invariant c.loop-test.false
 
-pub copy-words-spec : {M : Type 1} → statement M
-copy-words-spec =
+pub copy_words_spec : {M : Type 1} → statement M
+copy_words_spec =
     tie.close
     (tie.spec
     invariant-loop

@@ -1,6 +1,6 @@
 use borrow.Author.Rules.{rules}
-use Rattle.replaying.specs.Listed.{lookupsOf}
-use Rattle.runs.proofs.Verdicts.{run-deep, run-agrees, run-differs}
+use Rattle.replaying.specs.Listed.{lookups_of}
+use Rattle.runs.proofs.Verdicts.{run_deep, run_agrees, run_differs}
 use Rattle.runs.proofs.replay_run.Statement.{statement}
 use Rattle.runs.proofs.replay_run.Tie as tie
 
@@ -28,7 +28,7 @@ returns c =
     let k = r.before.before.before in
     let w = k.before.before in
     let a = w.before.before.before.before.args in
-    run-deep (lookupsOf a.list.now a.buffer.now) a.trace.now a.at w.word_at.ensures.0 k.copy-words.new.1.1.0 k.copy-words.ensures r.run-lookups.result r.run-lookups.new.1.1.0 r.run-lookups.ensures c.if1.true
+    run_deep (lookups_of a.list.now a.buffer.now) a.trace.now a.at w.word_at.ensures.0 k.copy-words.new.1.1.0 k.copy-words.ensures r.run-lookups.result r.run-lookups.new.1.1.0 r.run-lookups.ensures c.if1.true
 
 slice-aggregate-same-words : tie.Need-slice-aggregate-same-words
 slice-aggregate-same-words c = search rules
@@ -51,7 +51,7 @@ returns-2 c =
     let k = r.before.before.before in
     let w = k.before.before in
     let a = w.before.before.before.before.args in
-    run-agrees (lookupsOf a.list.now a.buffer.now) a.trace.now a.at w.word_at.ensures.0 k.copy-words.new.1.1.0 k.copy-words.ensures r.run-lookups.result r.run-lookups.new.1.1.0 r.run-lookups.ensures c.before.before.before.if1.false c.before.same-words.ensures c.if2.true
+    run_agrees (lookups_of a.list.now a.buffer.now) a.trace.now a.at w.word_at.ensures.0 k.copy-words.new.1.1.0 k.copy-words.ensures r.run-lookups.result r.run-lookups.new.1.1.0 r.run-lookups.ensures c.before.before.before.if1.false c.before.same_words.ensures c.if2.true
 
 returns-3 : tie.Need-returns-3
 returns-3 c =
@@ -59,10 +59,10 @@ returns-3 c =
     let k = r.before.before.before in
     let w = k.before.before in
     let a = w.before.before.before.before.args in
-    run-differs (lookupsOf a.list.now a.buffer.now) a.trace.now a.at w.word_at.ensures.0 k.copy-words.new.1.1.0 k.copy-words.ensures r.run-lookups.result r.run-lookups.new.1.1.0 r.run-lookups.ensures c.before.before.before.if1.false c.before.same-words.ensures c.if2.false
+    run_differs (lookups_of a.list.now a.buffer.now) a.trace.now a.at w.word_at.ensures.0 k.copy-words.new.1.1.0 k.copy-words.ensures r.run-lookups.result r.run-lookups.new.1.1.0 r.run-lookups.ensures c.before.before.before.if1.false c.before.same_words.ensures c.if2.false
 
-pub replay-run-spec : {M : Type 1} → statement M
-replay-run-spec =
+pub replay_run_spec : {M : Type 1} → statement M
+replay_run_spec =
     tie.close
     (tie.spec
     word-at-requires

@@ -1,6 +1,6 @@
 use Prim.Native.Nat.{◌-◌}
 use borrow.Author.Rules.{rules}
-use Rattle.runs.proofs.Copying.{Alike, alike_all, alike-not, alike-turn, alike_end}
+use Rattle.runs.proofs.Copying.{Alike, alike_all, alike_not, alike_turn, alike_end}
 use Rattle.runs.proofs.same_words.Statement.{statement}
 use Rattle.runs.proofs.same_words.Tie as tie
 
@@ -34,7 +34,7 @@ word-at-requires-2 c κs = search rules
 returns : tie.Need-returns invariant-loop decreases-loop
 returns c =
     let w = c.before.before in
-    alike-not w.before.before.loop.invariant w.before.loop-test.true w.word_at.ensures.0 c.before.word-at2.ensures.0 c.if1.true
+    alike_not w.before.before.loop.invariant w.before.loop-test.true w.word_at.ensures.0 c.before.word-at2.ensures.0 c.if1.true
 
 add-i : tie.Need-overflow-add-i invariant-loop decreases-loop
 add-i c = search rules
@@ -45,13 +45,13 @@ loop-less c = search rules
 loop-again : tie.Need-loop-preserved invariant-loop decreases-loop
 loop-again c =
     let w = c.before.before in
-    alike-turn w.before.before.loop.invariant w.before.loop-test.true w.word_at.ensures.0 c.before.word-at2.ensures.0 c.if1.false
+    alike_turn w.before.before.loop.invariant w.before.loop-test.true w.word_at.ensures.0 c.before.word-at2.ensures.0 c.if1.false
 
 returns-2 : tie.Need-returns-2 invariant-loop decreases-loop
 returns-2 c = alike_end c.before.loop.invariant c.loop-test.false
 
-pub same-words-spec : {M : Type 1} → statement M
-same-words-spec =
+pub same_words_spec : {M : Type 1} → statement M
+same_words_spec =
     tie.close
     (tie.spec
     invariant-loop

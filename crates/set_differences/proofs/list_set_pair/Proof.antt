@@ -1,4 +1,4 @@
-use Rattle.set_differences.proofs.Pairs.{known-listed, remembered}
+use Rattle.set_differences.proofs.Pairs.{known_listed, remembered}
 use mathlib.Core.Path.{refl, ap}
 use Prim.Native.Nat.{◌+◌}
 use lib.Seq.{sets}
@@ -21,7 +21,7 @@ same_length c = search rules
 returns : tie.Need-returns
 returns c =
     let o = c.before.before.before.before.before.before.before.before.before.before.before.before.before in
-    let k = known-listed o.args.sets.first o.requires.4 (rw c.before.before.before.if1.true at c.before.before.before.before.is_known.ensures) (ap (λ x. o.args.sets.pos + x) c.before.cell.ensures.0) in
+    let k = known_listed o.args.sets.first o.requires.4 (rw c.before.before.before.if1.true at c.before.before.before.before.is_known.ensures) (ap (λ x. o.args.sets.pos + x) c.before.cell.ensures.0) in
     (k.0, k.1, o.requires.4)
 
 list-sets-requires : tie.Need-list-sets-requires
@@ -51,8 +51,8 @@ returns-2 c =
     let l = c.before.before.before.before.before.before.before.before.before.before.before.before.before.list-sets in
     (l.ensures.0, l.ensures.1, remembered o.args.sets.first l.ensures refl c.before.before.remember.ensures)
 
-pub list-set-pair-spec : {M : Type 1} → statement M
-list-set-pair-spec =
+pub list_set_pair_spec : {M : Type 1} → statement M
+list_set_pair_spec =
     tie.close
     (tie.spec
     is-known-requires

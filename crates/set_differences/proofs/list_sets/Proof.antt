@@ -1,6 +1,6 @@
 use lib.ListN.{drop, length-drop}
 use lib.Seq.{take_all}
-use Rattle.set_differences.proofs.Pairs.{numbers-below, rows-gathered, rows-listed}
+use Rattle.set_differences.proofs.Pairs.{numbers_below, rows_gathered, rows_listed}
 use Prim.Native.Nat.{◌-◌}
 use native.Mathlib.Omega.{arith}
 use lib.ListN.{length}
@@ -20,7 +20,7 @@ pair-rows-requires c κs =
     let o = c.before.before.before.before.before.before.before.before.before.before.before.before.before.before.before.before.before.before in
     let f = o.requires.3 in
     let h = length o.args.heads.now in
-    rows-gathered c.before.before.before.before.before.before.before.before.before.gather.ensures c.before.before.before.before.before.gather2.ensures (numbers-below o.args.num.now o.args.left.now 0 o.args.sets.left h f.below) (numbers-below o.args.num.now o.args.right.now 1 o.args.sets.right h f.below) (omega (arith, f.rows)) (omega (arith, f.linked))
+    rows_gathered c.before.before.before.before.before.before.before.before.before.gather.ensures c.before.before.before.before.before.gather2.ensures (numbers_below o.args.num.now o.args.left.now 0 o.args.sets.left h f.below) (numbers_below o.args.num.now o.args.right.now 1 o.args.sets.right h f.below) (omega (arith, f.rows)) (omega (arith, f.linked))
 
 sub-list-ranks : tie.Need-overflow-sub-list-ranks
 sub-list-ranks c = search rules
@@ -49,10 +49,10 @@ same-length-4 c = search rules
 returns : tie.Need-returns
 returns c =
     let s = c.before.before.before.before.before.before.before.before.before.before.pair-rows.new.1.1.1.0 in
-    rows-listed c.before.before.before.before.before.before.before.before.before.before.before.before.before.before.before.before.before.before.before.before.gather.ensures c.before.before.before.before.before.before.before.before.before.before.before.before.before.before.before.before.gather2.ensures c.before.before.before.before.before.before.before.before.before.before.before.before.before.before.before.before.before.before.before.before.before.before.before.before.before.before.before.before.before.args.sets.first c.before.before.before.before.before.before.before.before.before.before.pair-rows.ensures (take_all (length s - 65536) (drop 65536 s) (omega (arith, length-drop 65536 s))) c.before.before.list-ranks.ensures
+    rows_listed c.before.before.before.before.before.before.before.before.before.before.before.before.before.before.before.before.before.before.before.before.gather.ensures c.before.before.before.before.before.before.before.before.before.before.before.before.before.before.before.before.gather2.ensures c.before.before.before.before.before.before.before.before.before.before.before.before.before.before.before.before.before.before.before.before.before.before.before.before.before.before.before.before.before.args.sets.first c.before.before.before.before.before.before.before.before.before.before.pair-rows.ensures (take_all (length s - 65536) (drop 65536 s) (omega (arith, length-drop 65536 s))) c.before.before.list-ranks.ensures
 
-pub list-sets-spec : {M : Type 1} → statement M
-list-sets-spec =
+pub list_sets_spec : {M : Type 1} → statement M
+list_sets_spec =
     tie.close
     (tie.spec
     gather-requires

@@ -1,6 +1,6 @@
 use lib.ListN.{drop, length-drop}
 use lib.Seq.{take_all}
-use Rattle.set_differences.proofs.Pairs.{rows-paired}
+use Rattle.set_differences.proofs.Pairs.{rows_paired}
 use Prim.Native.Nat.{◌-◌}
 use native.Mathlib.Omega.{arith}
 use lib.ListN.{length}
@@ -25,7 +25,7 @@ pair-requires-2 c κs =
     let o = c.before.before.before.before.before.before.before.before.before.before.before.before.before in
     let s = o.args.nums.now in
     let e = take_all (length s - 65536) (drop 65536 s) (omega (arith, length-drop 65536 s)) in
-    (o.requires.rights, o.requires.lefts, omega arith, omega (arith, o.requires.linked, o.requires.lefts), rw e (record { below = λ k h. omega (arith, o.requires.right-below.below k h) }))
+    (o.requires.rights, o.requires.lefts, omega arith, omega (arith, o.requires.linked, o.requires.lefts), rw e (record { below = λ k h. omega (arith, o.requires.right_below.below k h) }))
 
 same_length : tie.Need-same-length
 same_length c = search rules
@@ -37,10 +37,10 @@ returns : tie.Need-returns
 returns c =
     let o = c.before.before.before.before.before.before.before.before.before.before.before.before.before.before.before.before.before.before in
     let s = o.args.nums.now in
-    rows-paired o.requires.lefts (take_all (length s - 65536) (drop 65536 s) (omega (arith, length-drop 65536 s))) c.before.before.before.before.before.before.before.before.before.before.before.pair.ensures c.before.before.before.before.pair2.ensures
+    rows_paired o.requires.lefts (take_all (length s - 65536) (drop 65536 s) (omega (arith, length-drop 65536 s))) c.before.before.before.before.before.before.before.before.before.before.before.pair.ensures c.before.before.before.before.pair2.ensures
 
-pub pair-rows-spec : {M : Type 1} → statement M
-pair-rows-spec =
+pub pair_rows_spec : {M : Type 1} → statement M
+pair_rows_spec =
     tie.close
     (tie.spec
     sub-rights

@@ -18,7 +18,7 @@ same_length c = search rules
 returns : tie.Need-returns
 returns c = remembers c.before.before.before.before.before.before.before.before.before.before.before.before.before.args.nums.now c.before.before.before.before.before.before.before.before.before.before.before.before.before.requires.0 c.before.before.before.before.before.before.before.before.before.before.put-cell.ensures c.before.before.before.before.before.before.put-cell2.ensures c.before.before.put-cell3.ensures
 
-pub remember-spec : {M : Type 1} → statement M
-remember-spec =
+pub remember_spec : {M : Type 1} → statement M
+remember_spec =
     tie.close
     (tie.spec put-cell-requires put-cell-requires-2 put-cell-requires-3 same_length returns)

@@ -1,6 +1,6 @@
 use borrow.Author.Rules.{rules}
-use Rattle.coverage.specs.Sound.{cover-sound, cover-faulty}
-use Rattle.single_checks.proofs.Checking.{count-null, count-faulty, count-sound}
+use Rattle.coverage.specs.Sound.{cover_sound, cover_faulty}
+use Rattle.single_checks.proofs.Checking.{count_null, count_faulty, count_sound}
 use Rattle.single_checks.proofs.equal_count.Statement.{statement}
 use Rattle.single_checks.proofs.equal_count.Tie as tie
 
@@ -8,20 +8,20 @@ returns : tie.Need-returns
 returns c =
     let w = c.before in
     let a = w.before.before.args in
-    count-null a.src.now a.n w.subtable-place.ensures.0 c.if1.true
+    count_null a.src.now a.n w.subtable-place.ensures.0 c.if1.true
 
 returns-2 : tie.Need-returns-2
 returns-2 c =
     let k = c.before.before in
     let w = k.before.before in
     let a = w.before.before.args in
-    count-faulty a.src.now a.n w.subtable-place.ensures.0 k.before.if1.false (cover-faulty a.src.now w.subtable-place.result k.check.ensures c.enum-told2.given.1)
+    count_faulty a.src.now a.n w.subtable-place.ensures.0 k.before.if1.false (cover_faulty a.src.now w.subtable-place.result k.check.ensures c.enum-told2.given.1)
 
 count-requires : tie.Need-count-requires
 count-requires c κs =
     let k = c.before.before in
     let w = k.before.before in
-    cover-sound w.before.before.args.src.now w.subtable-place.result k.check.ensures c.enum_told.given.1
+    cover_sound w.before.before.args.src.now w.subtable-place.result k.check.ensures c.enum_told.given.1
 
 returns-3 : tie.Need-returns-3
 returns-3 c =
@@ -29,7 +29,7 @@ returns-3 c =
     let k = t.before.before in
     let w = k.before.before in
     let a = w.before.before.args in
-    count-sound a.src.now a.n w.subtable-place.ensures.0 k.before.if1.false (cover-sound a.src.now w.subtable-place.result k.check.ensures t.enum_told.given.1) c.count.ensures.number
+    count_sound a.src.now a.n w.subtable-place.ensures.0 k.before.if1.false (cover_sound a.src.now w.subtable-place.result k.check.ensures t.enum_told.given.1) c.count.ensures.number
 
-pub equal-count-spec : {M : Type 1} → statement M
-equal-count-spec = tie.close (tie.spec (λ c κs. search rules) returns (λ c κs. search rules) (λ c. search rules) (λ c. search rules) returns-2 count-requires returns-3)
+pub equal_count_spec : {M : Type 1} → statement M
+equal_count_spec = tie.close (tie.spec (λ c κs. search rules) returns (λ c κs. search rules) (λ c. search rules) (λ c. search rules) returns-2 count-requires returns-3)

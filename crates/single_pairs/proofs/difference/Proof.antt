@@ -1,4 +1,4 @@
-use Rattle.single_pairs.proofs.Keeping.{wraps-back}
+use Rattle.single_pairs.proofs.Keeping.{wraps_back}
 use Rattle.std.proofs.Common.{arith, rules}
 use Rattle.single_pairs.proofs.difference.Statement.{statement}
 use Rattle.single_pairs.proofs.difference.Tie as tie
@@ -14,10 +14,10 @@ cast-wrapping-sub-u16 c =
 returns : tie.Need-returns
 returns c =
     let g = c.before.shared-slice-known2.given c.before.before.before.args.i in
-    wraps-back _ _ _ (omega arith) (omega (arith, g)) (omega arith) c.wrapping-sub-u16.ensures
+    wraps_back _ _ _ (omega arith) (omega (arith, g)) (omega arith) c.wrapping-sub-u16.ensures
 
-pub difference-spec : {M : Type 1} → statement M
-difference-spec =
+pub difference_spec : {M : Type 1} → statement M
+difference_spec =
     tie.close
     (tie.spec
     (λ c. search rules)

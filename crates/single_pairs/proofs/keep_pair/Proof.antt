@@ -1,4 +1,4 @@
-use Rattle.single_pairs.proofs.Keeping.{kept-one, kept-none}
+use Rattle.single_pairs.proofs.Keeping.{kept_one, kept_none}
 use Rattle.std.proofs.Common.{◌+◌, refl, arith, rules}
 use Rattle.single_pairs.proofs.keep_pair.Statement.{statement}
 use Rattle.single_pairs.proofs.keep_pair.Tie as tie
@@ -9,14 +9,14 @@ cast-note c =
 
 returns : tie.Need-returns
 returns c =
-    kept-one _ _ _ _ _ _ refl c.before.before.before.substitute.ensures c.before.entry.ensures.0 refl c.if1.true
+    kept_one _ _ _ _ _ _ refl c.before.before.before.substitute.ensures c.before.entry.ensures.0 refl c.if1.true
 
 returns-2 : tie.Need-returns-2
 returns-2 c =
-    kept-none _ _ _ _ _ _ refl c.before.before.before.substitute.ensures c.before.entry.ensures.0 refl c.if1.false
+    kept_none _ _ _ _ _ _ refl c.before.before.before.substitute.ensures c.before.entry.ensures.0 refl c.if1.false
 
-pub keep-pair-spec : {M : Type 1} → statement M
-keep-pair-spec =
+pub keep_pair_spec : {M : Type 1} → statement M
+keep_pair_spec =
     tie.close
     (tie.spec
     (λ c. search rules)

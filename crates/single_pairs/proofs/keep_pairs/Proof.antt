@@ -1,5 +1,5 @@
 use Rattle.std.proofs.Common.{◌-◌, rules}
-use Rattle.single_pairs.proofs.Keeping.{Keeping, keeping_all, keeping-asks, still-asks, keeping-turn, keeping-end}
+use Rattle.single_pairs.proofs.Keeping.{Keeping, keeping_all, keeping_asks, still_asks, keeping_turn, keeping_end}
 use Rattle.single_pairs.proofs.keep_pairs.Statement.{statement}
 use Rattle.single_pairs.proofs.keep_pairs.Tie as tie
 
@@ -14,11 +14,11 @@ loop-holds c = keeping_all
 
 keep-pair-requires : tie.Need-keep-pair-requires invariant-loop decreases-loop
 keep-pair-requires c κs =
-    keeping-asks c.before.before.before.before.before.requires c.before.before.loop.invariant c.before.loop-test.true
+    keeping_asks c.before.before.before.before.before.requires c.before.before.loop.invariant c.before.loop-test.true
 
 still-agree-requires : tie.Need-still-agree-requires invariant-loop decreases-loop
 still-agree-requires c κs =
-    still-asks c.before.before.before.before.before.before.before.before.before.requires c.before.before.before.before.before.before.loop.invariant c.before.before.before.before.before.loop-test.true c.before.before.before.keep_pair.ensures
+    still_asks c.before.before.before.before.before.before.before.before.before.requires c.before.before.before.before.before.before.loop.invariant c.before.before.before.before.before.loop-test.true c.before.before.before.keep_pair.ensures
 
 add-i : tie.Need-overflow-add-i invariant-loop decreases-loop
 add-i c =
@@ -30,7 +30,7 @@ loop-less c =
 
 loop-again : tie.Need-loop-preserved invariant-loop decreases-loop
 loop-again c =
-    keeping-turn c.before.before.before.before.before.before.before.before.before.before.requires c.before.before.before.before.before.before.before.loop.invariant c.before.before.before.before.before.before.loop-test.true c.before.before.before.before.keep_pair.ensures c.still-agree.ensures
+    keeping_turn c.before.before.before.before.before.before.before.before.before.before.requires c.before.before.before.before.before.before.before.loop.invariant c.before.before.before.before.before.before.loop-test.true c.before.before.before.before.keep_pair.ensures c.still-agree.ensures
 
 same_length : tie.Need-same-length invariant-loop decreases-loop
 same_length c =
@@ -38,10 +38,10 @@ same_length c =
 
 returns : tie.Need-returns invariant-loop decreases-loop
 returns c =
-    keeping-end c.before.loop.invariant c.loop-test.false
+    keeping_end c.before.loop.invariant c.loop-test.false
 
-pub keep-pairs-spec : {M : Type 1} → statement M
-keep-pairs-spec =
+pub keep_pairs_spec : {M : Type 1} → statement M
+keep_pairs_spec =
     tie.close
     (tie.spec
     invariant-loop

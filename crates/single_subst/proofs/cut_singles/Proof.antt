@@ -1,16 +1,16 @@
 use mathlib.Core.Path.{refl}
 use native.Mathlib.Omega.{arith}
 use borrow.Author.Rules.{rules}
-use Rattle.laws.specs.SoundGood.{bytes-all}
-use Rattle.single_checks.proofs.Checking.{good-table}
-use Rattle.single_subst.proofs.Cutting.{met-cover, counts, meets, keeps, writes, cut-tries}
+use Rattle.laws.specs.SoundGood.{bytes_all}
+use Rattle.single_checks.proofs.Checking.{good_table}
+use Rattle.single_subst.proofs.Cutting.{met_cover, counts, meets, keeps, writes, cut_tries}
 use Rattle.single_subst.proofs.cut_singles.Statement.{statement}
 use Rattle.single_subst.proofs.cut_singles.Tie as tie
 
 word-inside-requires : tie.Need-word-inside-requires
 word-inside-requires c κs =
     let a = c.before.before.before.before.before in
-    omega (arith, (good-table a.args.src.now a.requires.0.sound a.requires.1.cover).head)
+    omega (arith, (good_table a.args.src.now a.requires.0.sound a.requires.1.cover).head)
 
 most-requires : tie.Need-most-requires
 most-requires c κs =
@@ -25,21 +25,21 @@ meet-requires c κs =
 keep-pairs-requires : tie.Need-keep-pairs-requires
 keep-pairs-requires c κs =
     let a = c.before.before.before.before.before.before.before.before.before.before.before.before.before.before in
-    keeps a.requires.0 a.requires.1 refl (met-cover a.args.src.now c.before.before.before.before.before.before.before.before.word-inside.ensures.0 c.before.before.before.meet.ensures)
+    keeps a.requires.0 a.requires.1 refl (met_cover a.args.src.now c.before.before.before.before.before.before.before.before.word-inside.ensures.0 c.before.before.before.meet.ensures)
 
 lay-pairs-requires : tie.Need-lay-pairs-requires
 lay-pairs-requires c κs =
     let a = c.before.before.before.before.before.before.before.before.before.before.before.before.before.before.before.before.before.before.before.before in
-    writes a.requires.0 a.requires.1 refl (met-cover a.args.src.now c.before.before.before.before.before.before.before.before.before.before.before.before.before.before.word-inside.ensures.0 c.before.before.before.before.before.before.before.before.before.meet.ensures) c.before.before.before.before.before.keep-pairs.ensures (bytes-all a.args.src.now (λ i. omega (arith, c.before.before.before.before.before.before.before.before.before.before.before.before.before.before.before.before.before.before.before.shared-slice-known.given i)))
+    writes a.requires.0 a.requires.1 refl (met_cover a.args.src.now c.before.before.before.before.before.before.before.before.before.before.before.before.before.before.word-inside.ensures.0 c.before.before.before.before.before.before.before.before.before.meet.ensures) c.before.before.before.before.before.keep-pairs.ensures (bytes_all a.args.src.now (λ i. omega (arith, c.before.before.before.before.before.before.before.before.before.before.before.before.before.before.before.before.before.before.before.shared-slice-known.given i)))
 
 returns-2 : tie.Need-returns-2
 returns-2 c =
     let a = c.before.before.before.before.before.before.before.before.before.before.before.before.before.before.before.before.before.before.before.before.before.before.before.before.before in
     let k = c.before.before.before.before.lay-pairs in
-    cut-tries a.requires.0 a.requires.1 refl (met-cover a.args.src.now c.before.before.before.before.before.before.before.before.before.before.before.before.before.before.before.before.before.before.before.word-inside.ensures.0 c.before.before.before.before.before.before.before.before.before.before.before.before.before.before.meet.ensures) c.before.before.before.before.before.before.before.before.before.before.keep-pairs.ensures k.result a.args.area.now a.args.out.now k.new.1.1.1.1.0 k.ensures
+    cut_tries a.requires.0 a.requires.1 refl (met_cover a.args.src.now c.before.before.before.before.before.before.before.before.before.before.before.before.before.before.before.before.before.before.before.word-inside.ensures.0 c.before.before.before.before.before.before.before.before.before.before.before.before.before.before.meet.ensures) c.before.before.before.before.before.before.before.before.before.before.keep-pairs.ensures k.result a.args.area.now a.args.out.now k.new.1.1.1.1.0 k.ensures
 
-pub cut-singles-spec : {M : Type 1} → statement M
-cut-singles-spec =
+pub cut_singles_spec : {M : Type 1} → statement M
+cut_singles_spec =
     tie.close
     (tie.spec
     word-inside-requires

@@ -1,6 +1,6 @@
 use borrow.Author.Rules.{rules}
-use Rattle.single_tables.proofs.Laying.{Listing, listing-all, listing-turn, listing-end}
-use Rattle.laws.specs.Written.{wrote-length}
+use Rattle.single_tables.proofs.Laying.{Listing, listing_all, listing_turn, listing_end}
+use Rattle.laws.specs.Written.{wrote_length}
 use mathlib.Core.Path.{refl}
 use Prim.Native.Nat.{◌+◌, ◌-◌}
 use native.Mathlib.Omega.{arith}
@@ -14,7 +14,7 @@ abbrev decreases-loop : tie.decreases-loop
 decreases-loop t at n area₀ to p₀ i₀ area p i = n - i
 
 loop-holds : tie.Need-loop-init invariant-loop decreases-loop
-loop-holds c = listing-all
+loop-holds c = listing_all
 
 cast-put : tie.Need-overflow-cast-put invariant-loop decreases-loop
 cast-put c =
@@ -22,16 +22,16 @@ cast-put c =
 
 loop-again : tie.Need-loop-preserved invariant-loop decreases-loop
 loop-again c =
-    listing-turn c.before.before.before.before.before.before.loop.invariant c.before.before.before.before.before.loop-test.true refl c.before.before.put.ensures
+    listing_turn c.before.before.before.before.before.before.loop.invariant c.before.before.before.before.before.loop-test.true refl c.before.before.put.ensures
 
 same_length : tie.Need-same-length invariant-loop decreases-loop
-same_length c = wrote-length (listing-end c.before.loop.invariant c.loop-test.false)
+same_length c = wrote_length (listing_end c.before.loop.invariant c.loop-test.false)
 
 returns : tie.Need-returns invariant-loop decreases-loop
-returns c = listing-end c.before.loop.invariant c.loop-test.false
+returns c = listing_end c.before.loop.invariant c.loop-test.false
 
-pub put-substitutes-spec : {M : Type 1} → statement M
-put-substitutes-spec =
+pub put_substitutes_spec : {M : Type 1} → statement M
+put_substitutes_spec =
     tie.close
     (tie.spec
     invariant-loop

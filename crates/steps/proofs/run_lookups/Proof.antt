@@ -1,19 +1,19 @@
 use Prim.Native.Nat.{◌-◌}
 use native.Mathlib.Omega.{arith}
 use borrow.Author.Rules.{rules}
-use Rattle.replaying.specs.Listed.{lookupsOf}
-use Rattle.steps.proofs.Sweeping.{Ordering, ordering-all, ordering-turn, ordering-deep, ordering-end}
+use Rattle.replaying.specs.Listed.{lookups_of}
+use Rattle.steps.proofs.Sweeping.{Ordering, ordering_all, ordering_turn, ordering_deep, ordering_end}
 use Rattle.steps.proofs.run_lookups.Statement.{statement}
 use Rattle.steps.proofs.run_lookups.Tie as tie
 
 abbrev invariant-loop : tie.invariant-loop
-invariant-loop list buffer string₀ n many lookup₀ string lookup = Ordering (lookupsOf list buffer) many n string₀ string lookup
+invariant-loop list buffer string₀ n many lookup₀ string lookup = Ordering (lookups_of list buffer) many n string₀ string lookup
 
 abbrev decreases-loop : tie.decreases-loop
 decreases-loop list buffer string₀ n many lookup₀ string lookup = many - lookup
 
 loop-holds : tie.Need-loop-init invariant-loop decreases-loop
-loop-holds c = ordering-all c.before.before.before.args.list.now c.before.before.before.args.buffer.now
+loop-holds c = ordering_all c.before.before.before.args.list.now c.before.before.before.args.buffer.now
 
 sweep-lookup-requires : tie.Need-sweep-lookup-requires invariant-loop decreases-loop
 sweep-lookup-requires c κs =
@@ -28,7 +28,7 @@ returns : tie.Need-returns invariant-loop decreases-loop
 returns c =
     let k = c.before.before.before in
     let l = k.before.before.before in
-    ordering-deep l.loop.invariant k.before.before.loop-test.true k.sweep-lookup.result k.sweep-lookup.new.1.1.0 k.sweep-lookup.ensures c.if1.true
+    ordering_deep l.loop.invariant k.before.before.loop-test.true k.sweep-lookup.result k.sweep-lookup.new.1.1.0 k.sweep-lookup.ensures c.if1.true
 
 add-lookup : tie.Need-overflow-add-lookup invariant-loop decreases-loop
 add-lookup c = search rules
@@ -40,16 +40,16 @@ loop-again : tie.Need-loop-preserved invariant-loop decreases-loop
 loop-again c =
     let k = c.before.before.before in
     let l = k.before.before.before in
-    ordering-turn l.loop.invariant k.before.before.loop-test.true k.sweep-lookup.result k.sweep-lookup.new.1.1.0 k.sweep-lookup.ensures k.sweep-lookup.auto.1.1.0 c.if1.false
+    ordering_turn l.loop.invariant k.before.before.loop-test.true k.sweep-lookup.result k.sweep-lookup.new.1.1.0 k.sweep-lookup.ensures k.sweep-lookup.auto.1.1.0 c.if1.false
 
 same-length-2 : tie.Need-same-length-2 invariant-loop decreases-loop
 same-length-2 c = search rules
 
 returns-2 : tie.Need-returns-2 invariant-loop decreases-loop
-returns-2 c = ordering-end c.before.loop.invariant c.loop-test.false
+returns-2 c = ordering_end c.before.loop.invariant c.loop-test.false
 
-pub run-lookups-spec : {M : Type 1} → statement M
-run-lookups-spec =
+pub run_lookups_spec : {M : Type 1} → statement M
+run_lookups_spec =
     tie.close
     (tie.spec
     invariant-loop

@@ -2,20 +2,20 @@ use Prim.Native.Nat.{◌-◌}
 use native.Mathlib.Omega.{arith}
 use borrow.Author.Rules.{rules}
 use Rattle.meaning.specs.Words.{words}
-use Rattle.replaying.specs.Listed.{lookupsOf}
+use Rattle.replaying.specs.Listed.{lookups_of}
 use Rattle.replaying.specs.Applying.{apply}
-use Rattle.steps.proofs.Sweeping.{Sweeping, sweeping-all, sweeping-turn, sweeping-deep, sweeping-end, took-small}
+use Rattle.steps.proofs.Sweeping.{Sweeping, sweeping_all, sweeping_turn, sweeping_deep, sweeping_end, took_small}
 use Rattle.steps.proofs.sweep_lookup.Statement.{statement}
 use Rattle.steps.proofs.sweep_lookup.Tie as tie
 
 abbrev invariant-loop : tie.invariant-loop
-invariant-loop list buffer string₀ n lookup place₀ string place = Sweeping (lookupsOf list buffer) lookup n string₀ string place
+invariant-loop list buffer string₀ n lookup place₀ string place = Sweeping (lookups_of list buffer) lookup n string₀ string place
 
 abbrev decreases-loop : tie.decreases-loop
 decreases-loop list buffer string₀ n lookup place₀ string place = n - place
 
 loop-holds : tie.Need-loop-init invariant-loop decreases-loop
-loop-holds c = sweeping-all
+loop-holds c = sweeping_all
 
 lookup-step-requires : tie.Need-lookup-step-requires invariant-loop decreases-loop
 lookup-step-requires c κs =
@@ -36,7 +36,7 @@ returns : tie.Need-returns invariant-loop decreases-loop
 returns c =
     let k = c.before.before.before.before in
     let l = k.before.before.before in
-    sweeping-deep l.loop.invariant k.before.before.loop-test.true k.lookup-step.new.1.1.0 k.lookup-step.ensures c.enum_told.given.1
+    sweeping_deep l.loop.invariant k.before.before.loop-test.true k.lookup-step.new.1.1.0 k.lookup-step.ensures c.enum_told.given.1
 
 onward-requires : tie.Need-onward-requires invariant-loop decreases-loop
 onward-requires c κs =
@@ -44,7 +44,7 @@ onward-requires c κs =
     let k = w.before.before.before.before in
     let l = k.before.before.before in
     let a = l.before.before.before.before.args in
-    took-small (apply 8 (lookupsOf a.list.now a.buffer.now) a.lookup (words l.loop.string 0 a.n) l.loop.place) a.n k.lookup-step.new.1.1.0 k.lookup-step.ensures w.took.given.1
+    took_small (apply 8 (lookups_of a.list.now a.buffer.now) a.lookup (words l.loop.string 0 a.n) l.loop.place) a.n k.lookup-step.new.1.1.0 k.lookup-step.ensures w.took.given.1
 
 add-place : tie.Need-overflow-add-place invariant-loop decreases-loop
 add-place c = search rules
@@ -57,16 +57,16 @@ loop-again c =
     let w = c.before.before in
     let k = w.before.before.before.before in
     let l = k.before.before.before in
-    sweeping-turn l.loop.invariant k.before.before.loop-test.true k.lookup-step.ensures k.lookup-step.auto.1.1.0 w.took.given.1 c.onward.ensures
+    sweeping_turn l.loop.invariant k.before.before.loop-test.true k.lookup-step.ensures k.lookup-step.auto.1.1.0 w.took.given.1 c.onward.ensures
 
 same-length-2 : tie.Need-same-length-2 invariant-loop decreases-loop
 same-length-2 c = search rules
 
 returns-2 : tie.Need-returns-2 invariant-loop decreases-loop
-returns-2 c = sweeping-end c.before.loop.invariant c.loop-test.false
+returns-2 c = sweeping_end c.before.loop.invariant c.loop-test.false
 
-pub sweep-lookup-spec : {M : Type 1} → statement M
-sweep-lookup-spec =
+pub sweep_lookup_spec : {M : Type 1} → statement M
+sweep_lookup_spec =
     tie.close
     (tie.spec
     invariant-loop

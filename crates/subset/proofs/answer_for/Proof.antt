@@ -11,8 +11,8 @@ returns-3 c = sym (ap answer_of c.before.laid.given.1)
 returns-4 : tie.Need-returns-4
 returns-4 c = sym (ap answer_of c.before.laid2.given.1)
 
-pub answer-for-spec : {M : Type 1} → statement M
-answer-for-spec =
+pub answer_for_spec : {M : Type 1} → statement M
+answer_for_spec =
     tie.close
     (tie.spec
     (λ c. search rules)

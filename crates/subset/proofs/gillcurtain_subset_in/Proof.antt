@@ -3,7 +3,7 @@ use Prim.Native.Nat.{ℕ, ◌<◌}
 use native.Mathlib.Omega.{arith}
 use lib.ListN.{get_or}
 use borrow.Author.Rules.{rules}
-use Rattle.answer_numbers.proofs.Coded.{length_most, code-says}
+use Rattle.answer_numbers.proofs.Coded.{length_most, code_says}
 use Rattle.subset.proofs.gillcurtain_subset_in.Statement.{statement}
 use Rattle.subset.proofs.gillcurtain_subset_in.Tie as tie
 
@@ -21,10 +21,10 @@ returns : tie.Need-returns
 returns c =
     let s = c.before.before.before.before.before.before.before in
     let a = s.before.before.before.before.before.before.before.before.before.before.args in
-    code-says a.kind a.form a.layout a.source.now a.glyphs.now a.lookups.now a.out.now s.subset-in.result s.subset-in.ensures (source-bytes s) c.one_number.ensures
+    code_says a.kind a.form a.layout a.source.now a.glyphs.now a.lookups.now a.out.now s.subset-in.result s.subset-in.ensures (source-bytes s) c.one_number.ensures
 
-pub gillcurtain-subset-in-spec : {M : Type 1} → statement M
-gillcurtain-subset-in-spec =
+pub gillcurtain_subset_in_spec : {M : Type 1} → statement M
+gillcurtain_subset_in_spec =
     tie.close
     (tie.spec
     (λ c κs. search rules)

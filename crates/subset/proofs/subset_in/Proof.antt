@@ -1,6 +1,6 @@
 -- `subset::subset_in` meets its contract: the answer that refuses the call, or what was laid with lent scratch. Assumes nothing.
 use borrow.Author.Rules.{rules}
-use Rattle.refusals.proofs.Tested.{is-refused, is-sound, cut-outcome}
+use Rattle.refusals.proofs.Tested.{is_refused, is_sound, cut_outcome}
 use Rattle.subset.proofs.subset_in.Statement.{statement}
 use Rattle.subset.proofs.subset_in.Tie as tie
 
@@ -8,14 +8,14 @@ returns : tie.Need-returns
 returns c =
     let t = c.before.before.before in
     let a = t.before.before.before.before.before.before.before.args in
-    is-refused a.marks.kind a.marks.form a.marks.layout a.source.now a.glyphs.now a.lookups.now t.refusal.result t.refusal.ensures c.before.answer.given.1 a.out.now
+    is_refused a.marks.kind a.marks.form a.marks.layout a.source.now a.glyphs.now a.lookups.now t.refusal.result t.refusal.ensures c.before.answer.given.1 a.out.now
 
 cut-lent-requires : tie.Need-cut-lent-requires
 cut-lent-requires c κs =
     let e = c.before.before.before in
     let t = e.before.before in
     let a = t.before.before.before.before.before.before.before.args in
-    (is-sound a.marks.kind a.marks.form a.marks.layout a.source.now a.glyphs.now a.lookups.now t.refusal.result t.refusal.ensures e.enum_told.given.1).sound
+    (is_sound a.marks.kind a.marks.form a.marks.layout a.source.now a.glyphs.now a.lookups.now t.refusal.result t.refusal.ensures e.enum_told.given.1).sound
 
 returns-2 : tie.Need-returns-2
 returns-2 c =
@@ -23,10 +23,10 @@ returns-2 c =
     let e = i.before.before.before.before in
     let t = e.before.before in
     let a = t.before.before.before.before.before.before.before.args in
-    cut-outcome (is-sound a.marks.kind a.marks.form a.marks.layout a.source.now a.glyphs.now a.lookups.now t.refusal.result t.refusal.ensures e.enum_told.given.1) a.out.now i.cut-lent.result i.cut-lent.ensures c.answer-for.ensures
+    cut_outcome (is_sound a.marks.kind a.marks.form a.marks.layout a.source.now a.glyphs.now a.lookups.now t.refusal.result t.refusal.ensures e.enum_told.given.1) a.out.now i.cut-lent.result i.cut-lent.ensures c.answer-for.ensures
 
-pub subset-in-spec : {M : Type 1} → statement M
-subset-in-spec =
+pub subset_in_spec : {M : Type 1} → statement M
+subset_in_spec =
     tie.close
     (tie.spec
     (λ c κs. search rules)

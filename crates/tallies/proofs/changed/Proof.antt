@@ -18,5 +18,5 @@ first-out-requires c κs = search rules
 returns-2 : tie.Need-returns-2
 returns-2 c = differed c.before.before.before.args.tally c.before.before.before.args.agrees c.before.if1.false c.first_out.ensures
 
-pub changed-spec : {M : Type 1} → statement M
-changed-spec = tie.close (tie.spec add-runs add-t5 returns first-out-requires returns-2)
+pub changed_spec : {M : Type 1} → statement M
+changed_spec = tie.close (tie.spec add-runs add-t5 returns first-out-requires returns-2)

@@ -9,5 +9,5 @@ returns c = sym (rw (eq-eqb c.before.args.first 0 c.if1.true) refl)
 returns-2 : tie.Need-returns-2
 returns-2 c = sym (rw (ne_eqb c.before.args.first 0 c.if1.false) refl)
 
-pub first-out-spec : {M : Type 1} → statement M
-first-out-spec = tie.close (tie.spec returns returns-2)
+pub first_out_spec : {M : Type 1} → statement M
+first_out_spec = tie.close (tie.spec returns returns-2)

@@ -9,5 +9,5 @@ returns-4 c =
     let e : c.before.args.i ≡ 3 = omega arith in
     (rw e, refl)
 
-pub field-bit-spec : {M : Type 1} → statement M
-field-bit-spec = tie.close (tie.spec (λ c. search rules) (λ c. search rules) (λ c. search rules) returns-4)
+pub field_bit_spec : {M : Type 1} → statement M
+field_bit_spec = tie.close (tie.spec (λ c. search rules) (λ c. search rules) (λ c. search rules) returns-4)

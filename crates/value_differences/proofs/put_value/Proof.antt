@@ -1,4 +1,4 @@
-use Rattle.value_differences.proofs.Values.{value_same, value-differs}
+use Rattle.value_differences.proofs.Values.{value_same, value_differs}
 use borrow.Author.Rules.{rules}
 use Rattle.value_differences.proofs.put_value.Statement.{statement}
 use Rattle.value_differences.proofs.put_value.Tie as tie
@@ -11,7 +11,7 @@ returns c =
 returns-2 : tie.Need-returns-2
 returns-2 c =
     let a = c.before.before.before.before.before.before.args in
-    value-differs a.g a.second a.i c.before.before.before.before.if1.false c.before.before.put-listed.ensures
+    value_differs a.g a.second a.i c.before.before.before.before.if1.false c.before.before.put-listed.ensures
 
-pub put-value-spec : {M : Type 1} → statement M
-put-value-spec = tie.close (tie.spec returns (λ c κs. search rules) (λ c. search rules) returns-2)
+pub put_value_spec : {M : Type 1} → statement M
+put_value_spec = tie.close (tie.spec returns (λ c κs. search rules) (λ c. search rules) returns-2)

@@ -11,8 +11,8 @@ slice-aggregate-agrees c =
     let f = c.before.before.before.before.before in
     sym (length-take-le f.args.room (replicate 65682 0) f.requires)
 
-pub agreed-spec : {M : Type 1} → statement M
-agreed-spec =
+pub agreed_spec : {M : Type 1} → statement M
+agreed_spec =
     tie.close
     (tie.spec
     (λ c. search rules)

@@ -11,8 +11,8 @@ invariant-loop out kept i₀ i = Unit {0}
 abbrev decreases-loop : tie.decreases-loop
 decreases-loop out kept i₀ i = length out - i
 
-pub holds-spec : {M : Type 1} → statement M
-holds-spec =
+pub holds_spec : {M : Type 1} → statement M
+holds_spec =
     tie.close
     (tie.spec
     invariant-loop

@@ -87,17 +87,17 @@ module _ {M : Type 1} {𝓤 : Ura M} (𝓛 : Logic 𝓤) (mem : Memory → SProp
 module _ {M : Type 1} {𝓤 : Ura M} (𝓛 : Logic 𝓤) (mem : Memory → SProp 𝓤) (run : Routine → Fun 𝓤) where
   open 𝓛 use {H}
 
-  at-front-walks : (C : Calls 𝓤 H) (Λ : Loops 𝓤 H) → Walks 𝓛 at_front.ended stayed (WpFn 𝓤 H C Λ code.function) (at_front.clauses 𝓛 mem run)
-  at-front-walks C Λ = walked 𝓛 at_front.ended stayed (at_front.clauses 𝓛 mem run) (WpFn 𝓤 H C Λ code.function) (λ κs. (shr_slice_vals, tt)) (λ κs. (shr_slice_Tells (named 0) κs.0 u8, tt))
+  at_front_walks : (C : Calls 𝓤 H) (Λ : Loops 𝓤 H) → Walks 𝓛 at_front.ended stayed (WpFn 𝓤 H C Λ code.function) (at_front.clauses 𝓛 mem run)
+  at_front_walks C Λ = walked 𝓛 at_front.ended stayed (at_front.clauses 𝓛 mem run) (WpFn 𝓤 H C Λ code.function) (λ κs. (shr_slice_vals, tt)) (λ κs. (shr_slice_Tells (named 0) κs.0 u8, tt))
       (λ κs qs bounds a g are. via 𝓤 _ (fst∗ 𝓤 _ (emp 𝓤)) (walk 𝓛 mem run κs.0 qs.0 a.0 C Λ are.0))
 
-at-front-meets : {M : Type 1} {𝓤 : Ura M} (𝓛 : Logic 𝓤) → (mem : Memory → SProp 𝓤) (run : Routine → Fun 𝓤) (𝓣 : Tables 𝓤 𝓛.H)
+at_front_meets : {M : Type 1} {𝓤 : Ura M} (𝓛 : Logic 𝓤) → (mem : Memory → SProp 𝓤) (run : Routine → Fun 𝓤) (𝓣 : Tables 𝓤 𝓛.H)
     → Meets 𝓛 at_front.signature (WpFn 𝓤 𝓛.H 𝓣.C 𝓣.Λ code.function) (at_front.spec 𝓛 mem run)
-at-front-meets {𝓤 = 𝓤} 𝓛 mem run 𝓣 = walk_Meets 𝓛 at_front.ended stayed (Goes-none_slice 𝓛 1 (0 ∷ []) tt (plain (λ _. u8)) yes, tt) (at_front.clauses 𝓛 mem run) (WpFn 𝓤 𝓛.H 𝓣.C 𝓣.Λ code.function) (WpFn-mono 𝓤 𝓛.H 𝓛.laws 𝓣 code.function) (at-front-walks 𝓛 mem run 𝓣.C 𝓣.Λ)
+at_front_meets {𝓤 = 𝓤} 𝓛 mem run 𝓣 = walk_Meets 𝓛 at_front.ended stayed (Goes-none_slice 𝓛 1 (0 ∷ []) tt (plain (λ _. u8)) yes, tt) (at_front.clauses 𝓛 mem run) (WpFn 𝓤 𝓛.H 𝓣.C 𝓣.Λ code.function) (WpFn-mono 𝓤 𝓛.H 𝓛.laws 𝓣 code.function) (at_front_walks 𝓛 mem run 𝓣.C 𝓣.Λ)
 
-pub at-front-spec : {M : Type 1} → stated.statement M
+pub at_front_spec : {M : Type 1} → stated.statement M
 unfolding code.routine tables_of
-at-front-spec 𝓤 𝓛 𝓜 𝓡 =
+at_front_spec 𝓤 𝓛 𝓜 𝓡 =
     entered 𝓤 𝓛.H (triple_of 𝓛 at_front.signature (at_front.spec 𝓛 𝓜.mem 𝓡.run))
     (tables 𝓤 𝓛.H 𝓜 𝓡 code.env).C (tables 𝓤 𝓛.H 𝓜 𝓡 code.env).Λ #view·at-front code.function (code.unfolded 𝓤 𝓛.H 𝓜 𝓡)
-    (at-front-meets 𝓛 𝓜.mem 𝓡.run (tables_of 𝓤 𝓛.H 𝓜 (tables 𝓤 𝓛.H 𝓜 𝓡 code.env)))
+    (at_front_meets 𝓛 𝓜.mem 𝓡.run (tables_of 𝓤 𝓛.H 𝓜 (tables 𝓤 𝓛.H 𝓜 𝓡 code.env)))

@@ -110,14 +110,14 @@ module _ {M : Type 1} {𝓤 : Ura M} (𝓛 : Logic 𝓤) (mem : Memory → SProp
   abbrev passed : Vals field_at.signature (κ, tt)
   passed = (v ∷ [], (vint w64 d.at ∷ [], (vint w64 n ∷ [], tt)))
 
-  abbrev to-field-at : (FieldAt 𝓛 mem run).Ghost
-  to-field-at = (((κ, tt), (q, tt), tt, (d.src, (d.at, (n, tt))), passed), tt)
+  abbrev to_field_at : (FieldAt 𝓛 mem run).Ghost
+  to_field_at = (((κ, tt), (q, tt), tt, (d.src, (d.at, (n, tt))), passed), tt)
 
-  asked : ent 𝓤 (on_entry 𝓛 field_at.signature (κ, tt) (q, tt) (d.src, (d.at, (n, tt))) passed) ((FieldAt 𝓛 mem run).pre to-field-at)
+  asked : ent 𝓤 (on_entry 𝓛 field_at.signature (κ, tt) (q, tt) (d.src, (d.at, (n, tt))) passed) ((FieldAt 𝓛 mem run).pre to_field_at)
   asked = qed 𝓛 ((‵ (flft κ q) ⊛ ‵ ftrue) ∷ ‵ (owns (ShrSlice (named 0) κ u8 ∷ usize ∷ usize ∷ []) (d.src, (d.at, (n, tt))) passed) ∷ []) ∵ join ! $ frame ! $ done !
 
   -- what the struct owns gives what the callee asks, and is kept
-  apart : d.at < 2 ^ 64 → ent 𝓤 (on_entry 𝓛 field.signature (κ, tt) (q, tt) (d, (n, tt)) at) (sep 𝓤 ((FieldAt 𝓛 mem run).pre to-field-at) (sem 𝓛 Keep))
+  apart : d.at < 2 ^ 64 → ent 𝓤 (on_entry 𝓛 field.signature (κ, tt) (q, tt) (d, (n, tt)) at) (sep 𝓤 ((FieldAt 𝓛 mem run).pre to_field_at) (sem 𝓛 Keep))
   apart fits =
       qed 𝓛 ((‵ (flft κ q) ⊛ ‵ ftrue) ∷ ‵ Keep ∷ []) ∵
       move ! (1 ∷ []) $ fsplit ! $ use1 𝓛 (‵ Own ⊛ ‵ Own) ((LL.copy D (T'.the_copy (named_lft 1 0 tt (κ, tt))) 𝓛).twice d (mach ∷ [])) $ split ! $ move ! (1 ∷ 2 ∷ []) $ fjoin ! $
@@ -125,7 +125,7 @@ module _ {M : Type 1} {𝓤 : Ura M} (𝓛 : Logic 𝓤) (mem : Memory → SProp
       move ! (1 ∷ []) $
       use1 𝓛 (given (mach ∷ [] ≡ mach ∷ []) (‵ (all_own D.parts L vd))) (own_open 𝓛 D L vd mach) $ learn ! (λ _. use1 𝓛 (‵ (field_own D.parts L 0 d.src) ⊛ ‵ (rest D.parts L 0 vd)) (own_out 𝓛 D.parts L 0 vd) $ split ! $
       move ! (1 ∷ []) $ drop ! $ nothing ! $ owned ! usize (Is usize) (uint_Makes 𝓛 w64) n _ (refl, ok) $ fjoin ! $ owned ! usize (Is usize) (uint_Makes 𝓛 w64) d.at _ (refl, fits) $ fjoin ! $ move ! (1 ∷ 0 ∷ []) $ fjoin ! $
-      move ! (2 ∷ 0 ∷ []) $ use2 𝓛 (raw ((FieldAt 𝓛 mem run).pre to-field-at)) asked $ frame ! $ done !)
+      move ! (2 ∷ 0 ∷ []) $ use2 𝓛 (raw ((FieldAt 𝓛 mem run).pre to_field_at)) asked $ frame ! $ done !)
 
   -- of the callee's `ensured`, the clause alone: it has no `&mut`, so what is said of last values is dropped
   said : (r : ℕ) → ent 𝓤 (ensured 𝓛 field_at.ended (field_at.clauses 𝓛 mem run) (κ, tt) (d.src, (d.at, (n, tt))) tt r) (fact 𝓤 (Says r))
@@ -144,8 +144,8 @@ module _ {M : Type 1} {𝓤 : Ura M} (𝓛 : Logic 𝓤) (mem : Memory → SProp
         alloc1 ! (λ l₀. alloc1 ! (λ l₁. alloc1 ! (λ l₂. alloc1 ! (λ l₃. alloc1 ! (λ l₄. alloc0 ! $ params1 ! $ pass1 ! (init ! 6 refl wt) $ pass1 ! (init ! 4 refl (tt, record { fits = ok })) $ pass0 ! $
         assigns ! (of_opd ! (load ! (from ! (fld ! refl (stop !))) (look_in ! 6 (sub ! 0 refl (whole !))))) (from ! (stop !)) (init ! 2 refl (tt, wt.1.0)) $
         assigns ! (of_opd ! (load ! (from ! (fld ! refl (stop !))) (look_in ! 6 (sub ! 1 refl (whole !))))) (from ! (stop !)) (init ! 0 refl (tt, wt.1.1.0)) $
-        move ! (10 ∷ []) $ use1 𝓛 (raw ((FieldAt 𝓛 mem run).pre to-field-at) ⊛ ‵ Keep) (apart wt.1.1.0.fits) $ split ! $
-        calls_at ! fm (FieldAt 𝓛 mem run) known to-field-at (and_then ! (load ! (from ! (stop !)) (look ! 4 refl)) (and_then ! (load ! (from ! (stop !)) (look ! 2 refl)) (and_then ! (load ! (from ! (stop !)) (look ! 6 refl)) (no_more !)))) (λ u.
+        move ! (10 ∷ []) $ use1 𝓛 (raw ((FieldAt 𝓛 mem run).pre to_field_at) ⊛ ‵ Keep) (apart wt.1.1.0.fits) $ split ! $
+        calls_at ! fm (FieldAt 𝓛 mem run) known to_field_at (and_then ! (load ! (from ! (stop !)) (look ! 4 refl)) (and_then ! (load ! (from ! (stop !)) (look ! 2 refl)) (and_then ! (load ! (from ! (stop !)) (look ! 6 refl)) (no_more !)))) (λ u.
         use1 𝓛 (later (some (λ (r : ℕ). ((‵ (flft κ q) ⊛ ‵ ftrue) ⊛ ‵ (usize.own_val r (u ∷ []))) ⊛ raw (ensured 𝓛 field_at.ended (field_at.clauses 𝓛 mem run) (κ, tt) (d.src, (d.at, (n, tt))) tt r)))) (id⊢ 𝓤 _) $ await ! tt $ pick ! (λ r.
         split ! $ move ! (1 ∷ []) $ use1 𝓛 (raw (fact 𝓤 (Says r))) (said r) $ heard ! (Says r) (λ e. split ! $ move ! (1 ∷ []) $
         -- [the result; the token; what the parameters own; _4; …; _3; …; _2; …; _1; …; room for _0; …]
@@ -157,21 +157,21 @@ module _ {M : Type 1} {𝓤 : Ura M} (𝓛 : Logic 𝓤) (mem : Memory → SProp
 module _ {M : Type 1} {𝓤 : Ura M} (𝓛 : Logic 𝓤) (mem : Memory → SProp 𝓤) (run : Routine → Fun 𝓤) where
   open 𝓛 use {H}
 
-  field-walks : (C : Calls 𝓤 H) (Λ : Loops 𝓤 H) → FmC 𝓤 H 𝓛.laws C → Triple 𝓤 (C #view·field-at) (FieldAt 𝓛 mem run)
+  field_walks : (C : Calls 𝓤 H) (Λ : Loops 𝓤 H) → FmC 𝓤 H 𝓛.laws C → Triple 𝓤 (C #view·field-at) (FieldAt 𝓛 mem run)
       → Walks 𝓛 field.ended stayed (WpFn 𝓤 H C Λ code.function) (field.clauses 𝓛 mem run)
-  field-walks C Λ fm known-field-at = walked 𝓛 field.ended stayed (field.clauses 𝓛 mem run) (WpFn 𝓤 H C Λ code.function) (λ κs. (LL.vals (T.the_type (named_lft 1 0 tt κs)) (T'.the_laws (named_lft 1 0 tt κs)), (uint_vals w64, tt))) (λ κs. (LL.tells (T.the_type (named_lft 1 0 tt κs)) (T'.the_laws (named_lft 1 0 tt κs)), (uint_Tells w64, tt)))
+  field_walks C Λ fm known-field-at = walked 𝓛 field.ended stayed (field.clauses 𝓛 mem run) (WpFn 𝓤 H C Λ code.function) (λ κs. (LL.vals (T.the_type (named_lft 1 0 tt κs)) (T'.the_laws (named_lft 1 0 tt κs)), (uint_vals w64, tt))) (λ κs. (LL.tells (T.the_type (named_lft 1 0 tt κs)) (T'.the_laws (named_lft 1 0 tt κs)), (uint_Tells w64, tt)))
       (λ κs qs bounds a g are. via 𝓤 _ (fst∗ 𝓤 _ (emp 𝓤)) (walk 𝓛 mem run κs.0 qs.0 a.0 a.1.0 are.1.0.1 C Λ fm known-field-at ((LL.lawful (T.the_type (named_lft 1 0 tt κs)) (T'.the_laws (named_lft 1 0 tt κs)) 𝓛).typed a.0 _ are.0).0))
 
-field-meets : {M : Type 1} {𝓤 : Ura M} (𝓛 : Logic 𝓤) (mem : Memory → SProp 𝓤) (run : Routine → Fun 𝓤) (𝓣 : Tables 𝓤 𝓛.H)
+field_meets : {M : Type 1} {𝓤 : Ura M} (𝓛 : Logic 𝓤) (mem : Memory → SProp 𝓤) (run : Routine → Fun 𝓤) (𝓣 : Tables 𝓤 𝓛.H)
     → Triple 𝓤 (𝓣.C #view·field-at) (FieldAt 𝓛 mem run)
     → Meets 𝓛 field.signature (WpFn 𝓤 𝓛.H 𝓣.C 𝓣.Λ code.function) (field.spec 𝓛 mem run)
-field-meets {𝓤 = 𝓤} 𝓛 mem run 𝓣 known-field-at = walk_Meets 𝓛 field.ended stayed (Goes-none 𝓛 1 B yes (λ κs x f. refl), (Goes-none 𝓛 1 (λ _. usize) yes (λ κs x f. refl), tt)) (field.clauses 𝓛 mem run) (WpFn 𝓤 𝓛.H 𝓣.C 𝓣.Λ code.function) (WpFn-mono 𝓤 𝓛.H 𝓛.laws 𝓣 code.function)
-    (field-walks 𝓛 mem run 𝓣.C 𝓣.Λ (fm_of 𝓤 𝓛.H 𝓛.laws 𝓣) known-field-at)
+field_meets {𝓤 = 𝓤} 𝓛 mem run 𝓣 known-field-at = walk_Meets 𝓛 field.ended stayed (Goes-none 𝓛 1 B yes (λ κs x f. refl), (Goes-none 𝓛 1 (λ _. usize) yes (λ κs x f. refl), tt)) (field.clauses 𝓛 mem run) (WpFn 𝓤 𝓛.H 𝓣.C 𝓣.Λ code.function) (WpFn-mono 𝓤 𝓛.H 𝓛.laws 𝓣 code.function)
+    (field_walks 𝓛 mem run 𝓣.C 𝓣.Λ (fm_of 𝓤 𝓛.H 𝓛.laws 𝓣) known-field-at)
 
-pub field-spec : {M : Type 1} → stated.statement M
+pub field_spec : {M : Type 1} → stated.statement M
 unfolding code.routine tables_of
-field-spec 𝓤 𝓛 𝓜 𝓡 =
+field_spec 𝓤 𝓛 𝓜 𝓡 =
     entered 𝓤 𝓛.H (triple_of 𝓛 field.signature (field.spec 𝓛 𝓜.mem 𝓡.run))
     (tables 𝓤 𝓛.H 𝓜 𝓡 code.env).C (tables 𝓤 𝓛.H 𝓜 𝓡 code.env).Λ #view·field code.function (code.unfolded 𝓤 𝓛.H 𝓜 𝓡)
-    (field-meets 𝓛 𝓜.mem 𝓡.run (tables_of 𝓤 𝓛.H 𝓜 (tables 𝓤 𝓛.H 𝓜 𝓡 code.env))
+    (field_meets 𝓛 𝓜.mem 𝓡.run (tables_of 𝓤 𝓛.H 𝓜 (tables 𝓤 𝓛.H 𝓜 𝓡 code.env))
     (cited 𝓤 𝓛.H (FieldAt 𝓛 𝓜.mem 𝓡.run) 𝓜 𝓡 code.env #view·field-at field-at-def.routine code.calls-view::field-at (field-at-thm.met 𝓤 𝓛 𝓜 𝓡)))

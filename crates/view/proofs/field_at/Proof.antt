@@ -2,21 +2,21 @@
 use Prim.Native.Nat.{◌+◌}
 use native.Mathlib.Omega.{arith}
 use borrow.Author.Rules.{rules}
-use Rattle.view.proofs.Past.{word-past}
+use Rattle.view.proofs.Past.{word_past}
 use Rattle.view.proofs.field_at.Statement.{statement}
 use Rattle.view.proofs.field_at.Tie as tie
 
 returns : tie.Need-returns
 returns c =
     let a = c.before.before.args in
-    let e = word-past a.src.now (a.at + a.i) (omega arith) in
+    let e = word_past a.src.now (a.at + a.i) (omega arith) in
     (omega (arith, e), omega arith)
 
 returns-2 : tie.Need-returns-2
 returns-2 c =
     let a = c.before.before.before.args in
-    let e = word-past a.src.now (a.at + a.i) (omega arith) in
+    let e = word_past a.src.now (a.at + a.i) (omega arith) in
     (omega (arith, e), omega arith)
 
-pub field-at-spec : {M : Type 1} → statement M
-field-at-spec = tie.close (tie.spec returns returns-2 (λ c. search rules) (λ c κs. search rules) (λ c. search rules))
+pub field_at_spec : {M : Type 1} → statement M
+field_at_spec = tie.close (tie.spec returns returns-2 (λ c. search rules) (λ c κs. search rules) (λ c. search rules))

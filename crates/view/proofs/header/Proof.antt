@@ -98,33 +98,33 @@ module _ {M : Type 1} {𝓤 : Ura M} (𝓛 : Logic 𝓤) (mem : Memory → SProp
   Keep = owns (ShrSlice (named 0) κ u8 ∷ usize ∷ []) (s, (i, tt)) at
 
   -- the call of `at_front`: what it is passed, what it asks, and what is known of its result
-  abbrev to-at-front : (AtFront 𝓛 mem run).Ghost
-  to-at-front = (((κ, tt), (q, tt), tt, (s, tt), (v ∷ [], tt)), tt)
+  abbrev to_at_front : (AtFront 𝓛 mem run).Ghost
+  to_at_front = (((κ, tt), (q, tt), tt, (s, tt), (v ∷ [], tt)), tt)
 
-  goes-at-front : ent 𝓤 (on_entry 𝓛 header.signature (κ, tt) (q, tt) (s, (i, tt)) at) (sep 𝓤 ((AtFront 𝓛 mem run).pre to-at-front) (sem 𝓛 Keep))
-  goes-at-front =
+  goes_at_front : ent 𝓤 (on_entry 𝓛 header.signature (κ, tt) (q, tt) (s, (i, tt)) at) (sep 𝓤 ((AtFront 𝓛 mem run).pre to_at_front) (sem 𝓛 Keep))
+  goes_at_front =
       qed 𝓛 ((‵ (flft κ q) ⊛ ‵ ftrue) ∷ ‵ Keep ∷ []) ∵
       move ! (1 ∷ []) $ fsplit ! $ use1 𝓛 (‵ Own ⊛ ‵ Own) ((shr_slice_copy 𝓛 (named 0) κ u8).twice s (v ∷ [])) $ split ! $ move ! (1 ∷ 2 ∷ []) $ fjoin ! $
-      nothing ! $ move ! (2 ∷ 0 ∷ []) $ fjoin ! $ move ! (2 ∷ 0 ∷ []) $ use2 𝓛 (raw ((AtFront 𝓛 mem run).pre to-at-front)) (qed 𝓛 ((‵ (flft κ q) ⊛ ‵ ftrue) ∷ ‵ (owns (ShrSlice (named 0) κ u8 ∷ []) (s, tt) (v ∷ [], tt)) ∷ []) ∵ join ! $ frame ! $ done !) $ frame ! $ done !
+      nothing ! $ move ! (2 ∷ 0 ∷ []) $ fjoin ! $ move ! (2 ∷ 0 ∷ []) $ use2 𝓛 (raw ((AtFront 𝓛 mem run).pre to_at_front)) (qed 𝓛 ((‵ (flft κ q) ⊛ ‵ ftrue) ∷ ‵ (owns (ShrSlice (named 0) κ u8 ∷ []) (s, tt) (v ∷ [], tt)) ∷ []) ∵ join ! $ frame ! $ done !) $ frame ! $ done !
 
   abbrev Front : View → Type 0
   Front r = (r.src ≡ s) × (r.at ≡ 0)
 
-  at-front-said : (r : View) → ent 𝓤 (ensured 𝓛 at_front.ended (at_front.clauses 𝓛 mem run) (κ, tt) (s, tt) tt r) (fact 𝓤 (Front r))
-  at-front-said r = ex_e 𝓤 _ (λ ws. snd∗ 𝓤 (sem 𝓛 (lasts at_front.ended (κ, tt) (s, tt) ws)) (fact 𝓤 (Front r)))
+  at_front_said : (r : View) → ent 𝓤 (ensured 𝓛 at_front.ended (at_front.clauses 𝓛 mem run) (κ, tt) (s, tt) tt r) (fact 𝓤 (Front r))
+  at_front_said r = ex_e 𝓤 _ (λ ws. snd∗ 𝓤 (sem 𝓛 (lasts at_front.ended (κ, tt) (s, tt) ws)) (fact 𝓤 (Front r)))
 
   -- the call of `field`, at the struct r with the machine value u
-  abbrev to-field : View → Val → (Field 𝓛 mem run).Ghost
-  to-field r u = (((κ, tt), (q, tt), tt, (r, (i, tt)), (u ∷ [], (vint w64 i ∷ [], tt))), tt)
+  abbrev to_field : View → Val → (Field 𝓛 mem run).Ghost
+  to_field r u = (((κ, tt), (q, tt), tt, (r, (i, tt)), (u ∷ [], (vint w64 i ∷ [], tt))), tt)
 
-  goes-field : (r : View) (u : Val) → ent 𝓤 (⋆ 𝓛 (‵ ((B (κ, tt)).own r (u ∷ [])) ∷ (‵ (flft κ q) ⊛ ‵ ftrue) ∷ [])) ((Field 𝓛 mem run).pre (to-field r u))
-  goes-field r u = qed 𝓛 (‵ ((B (κ, tt)).own r (u ∷ [])) ∷ (‵ (flft κ q) ⊛ ‵ ftrue) ∷ []) ∵ nothing ! $ owned ! usize (Is usize) (uint_Makes 𝓛 w64) i _ (refl, i-fits) $ fjoin ! $ move ! (1 ∷ 0 ∷ []) $ fjoin ! $ move ! (1 ∷ 0 ∷ []) $ join ! $ frame ! $ done !
+  goes_field : (r : View) (u : Val) → ent 𝓤 (⋆ 𝓛 (‵ ((B (κ, tt)).own r (u ∷ [])) ∷ (‵ (flft κ q) ⊛ ‵ ftrue) ∷ [])) ((Field 𝓛 mem run).pre (to_field r u))
+  goes_field r u = qed 𝓛 (‵ ((B (κ, tt)).own r (u ∷ [])) ∷ (‵ (flft κ q) ⊛ ‵ ftrue) ∷ []) ∵ nothing ! $ owned ! usize (Is usize) (uint_Makes 𝓛 w64) i _ (refl, i-fits) $ fjoin ! $ move ! (1 ∷ 0 ∷ []) $ fjoin ! $ move ! (1 ∷ 0 ∷ []) $ join ! $ frame ! $ done !
 
-  abbrev Says-field : View → ℕ → Type 0
-  Says-field r t = (t ≡ word r.src.now (r.at + i)) × (t < 65536)
+  abbrev Says_field : View → ℕ → Type 0
+  Says_field r t = (t ≡ word r.src.now (r.at + i)) × (t < 65536)
 
-  field-said : (r : View) (t : ℕ) → ent 𝓤 (ensured 𝓛 field.ended (field.clauses 𝓛 mem run) (κ, tt) (r, (i, tt)) tt t) (fact 𝓤 (Says-field r t))
-  field-said r t = ex_e 𝓤 _ (λ ws. snd∗ 𝓤 (sem 𝓛 (lasts field.ended (κ, tt) (r, (i, tt)) ws)) (fact 𝓤 (Says-field r t)))
+  field_said : (r : View) (t : ℕ) → ent 𝓤 (ensured 𝓛 field.ended (field.clauses 𝓛 mem run) (κ, tt) (r, (i, tt)) tt t) (fact 𝓤 (Says_field r t))
+  field_said r t = ex_e 𝓤 _ (λ ws. snd∗ 𝓤 (sem 𝓛 (lasts field.ended (κ, tt) (r, (i, tt)) ws)) (fact 𝓤 (Says_field r t)))
 
   exits : (t : ℕ) (u : Val) → (t ≡ found) × (t < 65536) → ent 𝓤 (⋆ 𝓛 (‵ (usize.own_val t (u ∷ [])) ∷ (‵ (flft κ q) ⊛ ‵ ftrue) ∷ ‵ Keep ∷ [])) (Post u)
   exits t u e =
@@ -133,8 +133,8 @@ module _ {M : Type 1} {𝓤 : Ura M} (𝓛 : Logic 𝓤) (mem : Memory → SProp
       move ! (1 ∷ []) $ frame ! $ move ! (1 ∷ []) $ frame ! $ done !
 
   -- a field of the table at the front is the source's word
-  at-found : (r : View) (t : ℕ) → Front r → Says-field r t → (t ≡ found) × (t < 65536)
-  at-found r t f e =
+  at_found : (r : View) (t : ℕ) → Front r → Says_field r t → (t ≡ found) × (t < 65536)
+  at_found r t f e =
       let z : 0 + i ≡ i = omega arith in
       (e.0 ∙ ap (λ (x : Bor (List ℕ)). word x.now (r.at + i)) f.0 ∙ ap (λ (k : ℕ). word s.now (k + i)) f.1 ∙ ap (word s.now) z, e.1)
 
@@ -143,42 +143,42 @@ module _ {M : Type 1} {𝓤 : Ura M} (𝓛 : Logic 𝓤) (mem : Memory → SProp
     walk p =
         qed 𝓛 (raw (on_entry 𝓛 header.signature (κ, tt) (q, tt) (s, (i, tt)) at) ∷ []) ∵ enter ! C Λ code.function (v ∷ vint w64 i ∷ []) _ $
         alloc1 ! (λ l₀. alloc1 ! (λ l₁. alloc1 ! (λ l₂. alloc1 ! (λ l₃. alloc0 ! $ params1 ! $ pass1 ! (init ! 4 refl ((shr_slice_Lawful 𝓛 (named 0) κ u8).typed s (v ∷ []) p).0) $ pass1 ! (init ! 2 refl (tt, record { fits = i-fits })) $ pass0 ! $
-        move ! (8 ∷ []) $ use1 𝓛 (raw ((AtFront 𝓛 mem run).pre to-at-front) ⊛ ‵ Keep) goes-at-front $ split ! $
-        calls_at ! fm (AtFront 𝓛 mem run) known-at-front to-at-front (and_then ! (load ! (from ! (stop !)) (look ! 6 refl)) (no_more !)) (λ u.
+        move ! (8 ∷ []) $ use1 𝓛 (raw ((AtFront 𝓛 mem run).pre to_at_front) ⊛ ‵ Keep) goes_at_front $ split ! $
+        calls_at ! fm (AtFront 𝓛 mem run) known-at-front to_at_front (and_then ! (load ! (from ! (stop !)) (look ! 6 refl)) (no_more !)) (λ u.
         use1 𝓛 (later (some (λ (r : View). ((‵ (flft κ q) ⊛ ‵ ftrue) ⊛ ‵ ((B (κ, tt)).own r (u ∷ []))) ⊛ raw (ensured 𝓛 at_front.ended (at_front.clauses 𝓛 mem run) (κ, tt) (s, tt) tt r)))) (id⊢ 𝓤 _) $ await ! tt $ pick ! (λ r.
-        split ! $ move ! (1 ∷ []) $ use1 𝓛 (raw (fact 𝓤 (Front r))) (at-front-said r) $ heard ! (Front r) (λ f. split ! $ move ! (1 ∷ []) $
+        split ! $ move ! (1 ∷ []) $ use1 𝓛 (raw (fact 𝓤 (Front r))) (at_front_said r) $ heard ! (Front r) (λ f. split ! $ move ! (1 ∷ []) $
         -- [what the view owns; the token; what the parameters own; room for _3; …; _2; …; _1; …; room for _0; …]
         peeks ! (B (κ, tt)) (Is (B (κ, tt))) (shows 𝓛 (B (κ, tt))) r (u ∷ []) (λ is.
         land ! (from ! (stop !)) (init ! 3 refl ((LL.lawful (T.the_type αᵉ) (T'.the_laws αᵉ) 𝓛).typed r _ is).0) $
-        use2 𝓛 (raw ((Field 𝓛 mem run).pre (to-field r u))) (goes-field r u) $
-        calls_at ! fm (Field 𝓛 mem run) known-field (to-field r u) (and_then ! (load ! (from ! (stop !)) (look ! 2 refl)) (and_then ! (load ! (from ! (stop !)) (look ! 4 refl)) (no_more !))) (λ w.
+        use2 𝓛 (raw ((Field 𝓛 mem run).pre (to_field r u))) (goes_field r u) $
+        calls_at ! fm (Field 𝓛 mem run) known-field (to_field r u) (and_then ! (load ! (from ! (stop !)) (look ! 2 refl)) (and_then ! (load ! (from ! (stop !)) (look ! 4 refl)) (no_more !))) (λ w.
         use1 𝓛 (later (some (λ (t : ℕ). ((‵ (flft κ q) ⊛ ‵ ftrue) ⊛ ‵ (usize.own_val t (w ∷ []))) ⊛ raw (ensured 𝓛 field.ended (field.clauses 𝓛 mem run) (κ, tt) (r, (i, tt)) tt t)))) (id⊢ 𝓤 _) $ await ! tt $ pick ! (λ t.
-        split ! $ move ! (1 ∷ []) $ use1 𝓛 (raw (fact 𝓤 (Says-field r t))) (field-said r t) $ heard ! (Says-field r t) (λ e. split ! $ move ! (1 ∷ []) $
+        split ! $ move ! (1 ∷ []) $ use1 𝓛 (raw (fact 𝓤 (Says_field r t))) (field_said r t) $ heard ! (Says_field r t) (λ e. split ! $ move ! (1 ∷ []) $
         -- [the result; the token; what the parameters own; _3; …; _2; …; _1; …; room for _0; …]
         peeks ! usize (Is usize) (shows 𝓛 usize) t (w ∷ []) (λ is'.
         land ! (from ! (stop !)) (init ! 9 refl ((uint_Lawful 𝓛 w64).typed t _ is').0) $
         returns ! (look ! 9 refl) $ forget ! 3 refl $ forget ! 5 refl $ forget ! 7 refl $ forget ! 9 refl $
-        move ! (9 ∷ 10 ∷ []) $ free1 ! $ move ! (7 ∷ 8 ∷ []) $ free1 ! $ move ! (5 ∷ 6 ∷ []) $ free1 ! $ move ! (3 ∷ 4 ∷ []) $ free1 ! $ free0 ! $ by ! (exits t w (at-found r t f e))))))))))))))
+        move ! (9 ∷ 10 ∷ []) $ free1 ! $ move ! (7 ∷ 8 ∷ []) $ free1 ! $ move ! (5 ∷ 6 ∷ []) $ free1 ! $ move ! (3 ∷ 4 ∷ []) $ free1 ! $ free0 ! $ by ! (exits t w (at_found r t f e))))))))))))))
 
 module _ {M : Type 1} {𝓤 : Ura M} (𝓛 : Logic 𝓤) (mem : Memory → SProp 𝓤) (run : Routine → Fun 𝓤) where
   open 𝓛 use {H}
 
-  header-walks : (C : Calls 𝓤 H) (Λ : Loops 𝓤 H) → FmC 𝓤 H 𝓛.laws C → Triple 𝓤 (C #view·at-front) (AtFront 𝓛 mem run) → Triple 𝓤 (C #view·field) (Field 𝓛 mem run)
+  header_walks : (C : Calls 𝓤 H) (Λ : Loops 𝓤 H) → FmC 𝓤 H 𝓛.laws C → Triple 𝓤 (C #view·at-front) (AtFront 𝓛 mem run) → Triple 𝓤 (C #view·field) (Field 𝓛 mem run)
       → Walks 𝓛 header.ended stayed (WpFn 𝓤 H C Λ code.function) (header.clauses 𝓛 mem run)
-  header-walks C Λ fm known-at-front known-field = walked 𝓛 header.ended stayed (header.clauses 𝓛 mem run) (WpFn 𝓤 H C Λ code.function) (λ κs. (shr_slice_vals, (uint_vals w64, tt))) (λ κs. (shr_slice_Tells (named 0) κs.0 u8, (uint_Tells w64, tt)))
+  header_walks C Λ fm known-at-front known-field = walked 𝓛 header.ended stayed (header.clauses 𝓛 mem run) (WpFn 𝓤 H C Λ code.function) (λ κs. (shr_slice_vals, (uint_vals w64, tt))) (λ κs. (shr_slice_Tells (named 0) κs.0 u8, (uint_Tells w64, tt)))
       (λ κs qs bounds a g are. via 𝓤 _ (fst∗ 𝓤 _ (emp 𝓤)) (walk 𝓛 mem run κs.0 qs.0 a.0 a.1.0 are.1.0.1 C Λ fm known-at-front known-field are.0))
 
-header-meets : {M : Type 1} {𝓤 : Ura M} (𝓛 : Logic 𝓤) (mem : Memory → SProp 𝓤) (run : Routine → Fun 𝓤) (𝓣 : Tables 𝓤 𝓛.H)
+header_meets : {M : Type 1} {𝓤 : Ura M} (𝓛 : Logic 𝓤) (mem : Memory → SProp 𝓤) (run : Routine → Fun 𝓤) (𝓣 : Tables 𝓤 𝓛.H)
     → Triple 𝓤 (𝓣.C #view·at-front) (AtFront 𝓛 mem run) → Triple 𝓤 (𝓣.C #view·field) (Field 𝓛 mem run)
     → Meets 𝓛 header.signature (WpFn 𝓤 𝓛.H 𝓣.C 𝓣.Λ code.function) (header.spec 𝓛 mem run)
-header-meets {𝓤 = 𝓤} 𝓛 mem run 𝓣 known-at-front known-field = walk_Meets 𝓛 header.ended stayed (Goes-none_slice 𝓛 1 (0 ∷ []) tt (plain (λ _. u8)) yes, (Goes-none 𝓛 1 (λ _. usize) yes (λ κs x f. refl), tt)) (header.clauses 𝓛 mem run) (WpFn 𝓤 𝓛.H 𝓣.C 𝓣.Λ code.function) (WpFn-mono 𝓤 𝓛.H 𝓛.laws 𝓣 code.function)
-    (header-walks 𝓛 mem run 𝓣.C 𝓣.Λ (fm_of 𝓤 𝓛.H 𝓛.laws 𝓣) known-at-front known-field)
+header_meets {𝓤 = 𝓤} 𝓛 mem run 𝓣 known-at-front known-field = walk_Meets 𝓛 header.ended stayed (Goes-none_slice 𝓛 1 (0 ∷ []) tt (plain (λ _. u8)) yes, (Goes-none 𝓛 1 (λ _. usize) yes (λ κs x f. refl), tt)) (header.clauses 𝓛 mem run) (WpFn 𝓤 𝓛.H 𝓣.C 𝓣.Λ code.function) (WpFn-mono 𝓤 𝓛.H 𝓛.laws 𝓣 code.function)
+    (header_walks 𝓛 mem run 𝓣.C 𝓣.Λ (fm_of 𝓤 𝓛.H 𝓛.laws 𝓣) known-at-front known-field)
 
-pub header-spec : {M : Type 1} → stated.statement M
+pub header_spec : {M : Type 1} → stated.statement M
 unfolding code.routine tables_of
-header-spec 𝓤 𝓛 𝓜 𝓡 =
+header_spec 𝓤 𝓛 𝓜 𝓡 =
     entered 𝓤 𝓛.H (triple_of 𝓛 header.signature (header.spec 𝓛 𝓜.mem 𝓡.run))
     (tables 𝓤 𝓛.H 𝓜 𝓡 code.env).C (tables 𝓤 𝓛.H 𝓜 𝓡 code.env).Λ #view·header code.function (code.unfolded 𝓤 𝓛.H 𝓜 𝓡)
-    (header-meets 𝓛 𝓜.mem 𝓡.run (tables_of 𝓤 𝓛.H 𝓜 (tables 𝓤 𝓛.H 𝓜 𝓡 code.env))
+    (header_meets 𝓛 𝓜.mem 𝓡.run (tables_of 𝓤 𝓛.H 𝓜 (tables 𝓤 𝓛.H 𝓜 𝓡 code.env))
     (cited 𝓤 𝓛.H (AtFront 𝓛 𝓜.mem 𝓡.run) 𝓜 𝓡 code.env #view·at-front at-front-def.routine code.calls-view::at-front (at-front-thm.met 𝓤 𝓛 𝓜 𝓡))
     (cited 𝓤 𝓛.H (Field 𝓛 𝓜.mem 𝓡.run) 𝓜 𝓡 code.env #view·field field-def.routine code.calls-view::field (field-thm.met 𝓤 𝓛 𝓜 𝓡)))

@@ -111,14 +111,14 @@ module _ {M : Type 1} {𝓤 : Ura M} (𝓛 : Logic 𝓤) (mem : Memory → SProp
   abbrev passed : Vals subtable-at.signature (κ, tt)
   passed = (v ∷ [], (vint w64 d.at ∷ [], (vint w64 n ∷ [], tt)))
 
-  abbrev to-subtable-at : (SubtableAt 𝓛 mem run).Ghost
-  to-subtable-at = (((κ, tt), (q, tt), tt, (d.src, (d.at, (n, tt))), passed), tt)
+  abbrev to_subtable_at : (SubtableAt 𝓛 mem run).Ghost
+  to_subtable_at = (((κ, tt), (q, tt), tt, (d.src, (d.at, (n, tt))), passed), tt)
 
-  asked : ent 𝓤 (on_entry 𝓛 subtable-at.signature (κ, tt) (q, tt) (d.src, (d.at, (n, tt))) passed) ((SubtableAt 𝓛 mem run).pre to-subtable-at)
+  asked : ent 𝓤 (on_entry 𝓛 subtable-at.signature (κ, tt) (q, tt) (d.src, (d.at, (n, tt))) passed) ((SubtableAt 𝓛 mem run).pre to_subtable_at)
   asked = qed 𝓛 ((‵ (flft κ q) ⊛ ‵ ftrue) ∷ ‵ (owns (ShrSlice (named 0) κ u8 ∷ usize ∷ usize ∷ []) (d.src, (d.at, (n, tt))) passed) ∷ []) ∵ join ! $ frame ! $ done !
 
   -- what the struct owns gives what the callee asks, and is kept
-  apart : d.at < 2 ^ 64 → ent 𝓤 (on_entry 𝓛 subtable.signature (κ, tt) (q, tt) (d, (n, tt)) at) (sep 𝓤 ((SubtableAt 𝓛 mem run).pre to-subtable-at) (sep 𝓤 (sem 𝓛 Own) (sem 𝓛 Keep)))
+  apart : d.at < 2 ^ 64 → ent 𝓤 (on_entry 𝓛 subtable.signature (κ, tt) (q, tt) (d, (n, tt)) at) (sep 𝓤 ((SubtableAt 𝓛 mem run).pre to_subtable_at) (sep 𝓤 (sem 𝓛 Own) (sem 𝓛 Keep)))
   apart fits =
       qed 𝓛 ((‵ (flft κ q) ⊛ ‵ ftrue) ∷ ‵ Keep ∷ []) ∵
       move ! (1 ∷ []) $ fsplit ! $ use1 𝓛 (‵ Own ⊛ ‵ Own) ((LL.copy D (T'.the_copy (named_lft 1 0 tt (κ, tt))) 𝓛).twice d (mach ∷ [])) $ split ! $
@@ -127,7 +127,7 @@ module _ {M : Type 1} {𝓤 : Ura M} (𝓛 : Logic 𝓤) (mem : Memory → SProp
       move ! (1 ∷ []) $
       use1 𝓛 (given (mach ∷ [] ≡ mach ∷ []) (‵ (all_own D.parts L vd))) (own_open 𝓛 D L vd mach) $ learn ! (λ _. use1 𝓛 (‵ (field_own D.parts L 0 d.src) ⊛ ‵ (rest D.parts L 0 vd)) (own_out 𝓛 D.parts L 0 vd) $ split ! $
       move ! (1 ∷ []) $ drop ! $ nothing ! $ owned ! usize (Is usize) (uint_Makes 𝓛 w64) n _ (refl, ok) $ fjoin ! $ owned ! usize (Is usize) (uint_Makes 𝓛 w64) d.at _ (refl, fits) $ fjoin ! $ move ! (1 ∷ 0 ∷ []) $ fjoin ! $
-      move ! (3 ∷ 0 ∷ []) $ use2 𝓛 (raw ((SubtableAt 𝓛 mem run).pre to-subtable-at)) asked $ frame ! $ move ! (1 ∷ []) $ frame ! $ done !)
+      move ! (3 ∷ 0 ∷ []) $ use2 𝓛 (raw ((SubtableAt 𝓛 mem run).pre to_subtable_at)) asked $ frame ! $ move ! (1 ∷ []) $ frame ! $ done !)
 
   -- of the callee's `ensured`, the clause alone: it has no `&mut`, so what is said of last values is dropped
   said : (r : ℕ) → ent 𝓤 (ensured 𝓛 subtable-at.ended (subtable-at.clauses 𝓛 mem run) (κ, tt) (d.src, (d.at, (n, tt))) tt r) (fact 𝓤 (Says r))
@@ -152,8 +152,8 @@ module _ {M : Type 1} {𝓤 : Ura M} (𝓛 : Logic 𝓤) (mem : Memory → SProp
         assigns ! (of_opd ! (load ! (from ! (fld ! refl (stop !))) (look_in ! 10 (sub ! 0 refl (whole !))))) (from ! (stop !)) (init ! 6 refl (tt, wt.1.0)) $
         assigns ! (of_opd ! (load ! (from ! (fld ! refl (stop !))) (look_in ! 10 (sub ! 0 refl (whole !))))) (from ! (stop !)) (init ! 2 refl (tt, wt.1.0)) $
         assigns ! (of_opd ! (load ! (from ! (fld ! refl (stop !))) (look_in ! 10 (sub ! 1 refl (whole !))))) (from ! (stop !)) (init ! 0 refl (tt, wt.1.1.0)) $
-        move ! (14 ∷ []) $ use1 𝓛 (raw ((SubtableAt 𝓛 mem run).pre to-subtable-at) ⊛ (‵ Own ⊛ ‵ Keep)) (apart wt.1.1.0.fits) $ split ! $
-        calls_at ! fm (SubtableAt 𝓛 mem run) known to-subtable-at (and_then ! (load ! (from ! (stop !)) (look ! 4 refl)) (and_then ! (load ! (from ! (stop !)) (look ! 2 refl)) (and_then ! (load ! (from ! (stop !)) (look ! 10 refl)) (no_more !)))) (λ u.
+        move ! (14 ∷ []) $ use1 𝓛 (raw ((SubtableAt 𝓛 mem run).pre to_subtable_at) ⊛ (‵ Own ⊛ ‵ Keep)) (apart wt.1.1.0.fits) $ split ! $
+        calls_at ! fm (SubtableAt 𝓛 mem run) known to_subtable_at (and_then ! (load ! (from ! (stop !)) (look ! 4 refl)) (and_then ! (load ! (from ! (stop !)) (look ! 2 refl)) (and_then ! (load ! (from ! (stop !)) (look ! 10 refl)) (no_more !)))) (λ u.
         use1 𝓛 (later (some (λ (r : ℕ). ((‵ (flft κ q) ⊛ ‵ ftrue) ⊛ ‵ (usize.own_val r (u ∷ []))) ⊛ raw (ensured 𝓛 subtable-at.ended (subtable-at.clauses 𝓛 mem run) (κ, tt) (d.src, (d.at, (n, tt))) tt r)))) (id⊢ 𝓤 _) $ await ! tt $ pick ! (λ r.
         split ! $ move ! (1 ∷ []) $ use1 𝓛 (raw (fact 𝓤 (Says r))) (said r) $ heard ! (Says r) (λ e. split ! $ move ! (1 ∷ []) $
         -- [the callee's result; the token; what the struct and the parameters own; _6; …; _5; …; room for _4; …; _3; …; _2; …; _1; …; room for _0; …]
@@ -167,21 +167,21 @@ module _ {M : Type 1} {𝓤 : Ura M} (𝓛 : Logic 𝓤) (mem : Memory → SProp
 module _ {M : Type 1} {𝓤 : Ura M} (𝓛 : Logic 𝓤) (mem : Memory → SProp 𝓤) (run : Routine → Fun 𝓤) where
   open 𝓛 use {H}
 
-  subtable-walks : (C : Calls 𝓤 H) (Λ : Loops 𝓤 H) → FmC 𝓤 H 𝓛.laws C → Triple 𝓤 (C #view·subtable-at) (SubtableAt 𝓛 mem run)
+  subtable_walks : (C : Calls 𝓤 H) (Λ : Loops 𝓤 H) → FmC 𝓤 H 𝓛.laws C → Triple 𝓤 (C #view·subtable-at) (SubtableAt 𝓛 mem run)
       → Walks 𝓛 subtable.ended stayed (WpFn 𝓤 H C Λ code.function) (subtable.clauses 𝓛 mem run)
-  subtable-walks C Λ fm known-subtable-at = walked 𝓛 subtable.ended stayed (subtable.clauses 𝓛 mem run) (WpFn 𝓤 H C Λ code.function) (λ κs. (LL.vals (T.the_type (named_lft 1 0 tt κs)) (T'.the_laws (named_lft 1 0 tt κs)), (uint_vals w64, tt))) (λ κs. (LL.tells (T.the_type (named_lft 1 0 tt κs)) (T'.the_laws (named_lft 1 0 tt κs)), (uint_Tells w64, tt)))
+  subtable_walks C Λ fm known-subtable-at = walked 𝓛 subtable.ended stayed (subtable.clauses 𝓛 mem run) (WpFn 𝓤 H C Λ code.function) (λ κs. (LL.vals (T.the_type (named_lft 1 0 tt κs)) (T'.the_laws (named_lft 1 0 tt κs)), (uint_vals w64, tt))) (λ κs. (LL.tells (T.the_type (named_lft 1 0 tt κs)) (T'.the_laws (named_lft 1 0 tt κs)), (uint_Tells w64, tt)))
       (λ κs qs bounds a g are. via 𝓤 _ (fst∗ 𝓤 _ (emp 𝓤)) (walk 𝓛 mem run κs.0 qs.0 a.0 a.1.0 are.1.0.1 C Λ fm known-subtable-at ((LL.lawful (T.the_type (named_lft 1 0 tt κs)) (T'.the_laws (named_lft 1 0 tt κs)) 𝓛).typed a.0 _ are.0).0))
 
-subtable-meets : {M : Type 1} {𝓤 : Ura M} (𝓛 : Logic 𝓤) (mem : Memory → SProp 𝓤) (run : Routine → Fun 𝓤) (𝓣 : Tables 𝓤 𝓛.H)
+subtable_meets : {M : Type 1} {𝓤 : Ura M} (𝓛 : Logic 𝓤) (mem : Memory → SProp 𝓤) (run : Routine → Fun 𝓤) (𝓣 : Tables 𝓤 𝓛.H)
     → Triple 𝓤 (𝓣.C #view·subtable-at) (SubtableAt 𝓛 mem run)
     → Meets 𝓛 subtable.signature (WpFn 𝓤 𝓛.H 𝓣.C 𝓣.Λ code.function) (subtable.spec 𝓛 mem run)
-subtable-meets {𝓤 = 𝓤} 𝓛 mem run 𝓣 known-subtable-at = walk_Meets 𝓛 subtable.ended stayed (Goes-none 𝓛 1 B yes (λ κs x f. refl), (Goes-none 𝓛 1 (λ _. usize) yes (λ κs x f. refl), tt)) (subtable.clauses 𝓛 mem run) (WpFn 𝓤 𝓛.H 𝓣.C 𝓣.Λ code.function) (WpFn-mono 𝓤 𝓛.H 𝓛.laws 𝓣 code.function)
-    (subtable-walks 𝓛 mem run 𝓣.C 𝓣.Λ (fm_of 𝓤 𝓛.H 𝓛.laws 𝓣) known-subtable-at)
+subtable_meets {𝓤 = 𝓤} 𝓛 mem run 𝓣 known-subtable-at = walk_Meets 𝓛 subtable.ended stayed (Goes-none 𝓛 1 B yes (λ κs x f. refl), (Goes-none 𝓛 1 (λ _. usize) yes (λ κs x f. refl), tt)) (subtable.clauses 𝓛 mem run) (WpFn 𝓤 𝓛.H 𝓣.C 𝓣.Λ code.function) (WpFn-mono 𝓤 𝓛.H 𝓛.laws 𝓣 code.function)
+    (subtable_walks 𝓛 mem run 𝓣.C 𝓣.Λ (fm_of 𝓤 𝓛.H 𝓛.laws 𝓣) known-subtable-at)
 
-pub subtable-spec : {M : Type 1} → stated.statement M
+pub subtable_spec : {M : Type 1} → stated.statement M
 unfolding code.routine tables_of
-subtable-spec 𝓤 𝓛 𝓜 𝓡 =
+subtable_spec 𝓤 𝓛 𝓜 𝓡 =
     entered 𝓤 𝓛.H (triple_of 𝓛 subtable.signature (subtable.spec 𝓛 𝓜.mem 𝓡.run))
     (tables 𝓤 𝓛.H 𝓜 𝓡 code.env).C (tables 𝓤 𝓛.H 𝓜 𝓡 code.env).Λ #view·subtable code.function (code.unfolded 𝓤 𝓛.H 𝓜 𝓡)
-    (subtable-meets 𝓛 𝓜.mem 𝓡.run (tables_of 𝓤 𝓛.H 𝓜 (tables 𝓤 𝓛.H 𝓜 𝓡 code.env))
+    (subtable_meets 𝓛 𝓜.mem 𝓡.run (tables_of 𝓤 𝓛.H 𝓜 (tables 𝓤 𝓛.H 𝓜 𝓡 code.env))
     (cited 𝓤 𝓛.H (SubtableAt 𝓛 𝓜.mem 𝓡.run) 𝓜 𝓡 code.env #view·subtable-at subtable-at-def.routine code.calls-view::subtable-at (subtable-at-thm.met 𝓤 𝓛 𝓜 𝓡)))

@@ -105,43 +105,43 @@ module _ {M : Type 1} {𝓤 : Ura M} (𝓛 : Logic 𝓤) (mem : Memory → SProp
   Keep = owns (ShrSlice (named 0) κ u8 ∷ usize ∷ []) (s, (i, tt)) at
 
   -- the call of `at_front`: what it is passed, what it asks, and what is known of its result
-  abbrev to-at-front : (AtFront 𝓛 mem run).Ghost
-  to-at-front = (((κ, tt), (q, tt), tt, (s, tt), (v ∷ [], tt)), tt)
+  abbrev to_at_front : (AtFront 𝓛 mem run).Ghost
+  to_at_front = (((κ, tt), (q, tt), tt, (s, tt), (v ∷ [], tt)), tt)
 
-  goes-at-front : ent 𝓤 (on_entry 𝓛 subtable-place.signature (κ, tt) (q, tt) (s, (i, tt)) at) (sep 𝓤 ((AtFront 𝓛 mem run).pre to-at-front) (sem 𝓛 Keep))
-  goes-at-front =
+  goes_at_front : ent 𝓤 (on_entry 𝓛 subtable-place.signature (κ, tt) (q, tt) (s, (i, tt)) at) (sep 𝓤 ((AtFront 𝓛 mem run).pre to_at_front) (sem 𝓛 Keep))
+  goes_at_front =
       qed 𝓛 ((‵ (flft κ q) ⊛ ‵ ftrue) ∷ ‵ Keep ∷ []) ∵
       move ! (1 ∷ []) $ fsplit ! $ use1 𝓛 (‵ Own ⊛ ‵ Own) ((shr_slice_copy 𝓛 (named 0) κ u8).twice s (v ∷ [])) $ split ! $ move ! (1 ∷ 2 ∷ []) $ fjoin ! $
-      nothing ! $ move ! (2 ∷ 0 ∷ []) $ fjoin ! $ move ! (2 ∷ 0 ∷ []) $ use2 𝓛 (raw ((AtFront 𝓛 mem run).pre to-at-front)) (qed 𝓛 ((‵ (flft κ q) ⊛ ‵ ftrue) ∷ ‵ (owns (ShrSlice (named 0) κ u8 ∷ []) (s, tt) (v ∷ [], tt)) ∷ []) ∵ join ! $ frame ! $ done !) $ frame ! $ done !
+      nothing ! $ move ! (2 ∷ 0 ∷ []) $ fjoin ! $ move ! (2 ∷ 0 ∷ []) $ use2 𝓛 (raw ((AtFront 𝓛 mem run).pre to_at_front)) (qed 𝓛 ((‵ (flft κ q) ⊛ ‵ ftrue) ∷ ‵ (owns (ShrSlice (named 0) κ u8 ∷ []) (s, tt) (v ∷ [], tt)) ∷ []) ∵ join ! $ frame ! $ done !) $ frame ! $ done !
 
   abbrev Front : View → Type 0
   Front r = (r.src ≡ s) × (r.at ≡ 0)
 
-  at-front-said : (r : View) → ent 𝓤 (ensured 𝓛 at_front.ended (at_front.clauses 𝓛 mem run) (κ, tt) (s, tt) tt r) (fact 𝓤 (Front r))
-  at-front-said r = ex_e 𝓤 _ (λ ws. snd∗ 𝓤 (sem 𝓛 (lasts at_front.ended (κ, tt) (s, tt) ws)) (fact 𝓤 (Front r)))
+  at_front_said : (r : View) → ent 𝓤 (ensured 𝓛 at_front.ended (at_front.clauses 𝓛 mem run) (κ, tt) (s, tt) tt r) (fact 𝓤 (Front r))
+  at_front_said r = ex_e 𝓤 _ (λ ws. snd∗ 𝓤 (sem 𝓛 (lasts at_front.ended (κ, tt) (s, tt) ws)) (fact 𝓤 (Front r)))
 
   -- the call of `subtable`, at the struct r with the machine value u
-  abbrev to-subtable : View → Val → (Subtable 𝓛 mem run).Ghost
-  to-subtable r u = (((κ, tt), (q, tt), tt, (r, (i, tt)), (u ∷ [], (vint w64 i ∷ [], tt))), tt)
+  abbrev to_subtable : View → Val → (Subtable 𝓛 mem run).Ghost
+  to_subtable r u = (((κ, tt), (q, tt), tt, (r, (i, tt)), (u ∷ [], (vint w64 i ∷ [], tt))), tt)
 
-  goes-subtable : (r : View) (u : Val) → ent 𝓤 (⋆ 𝓛 (‵ ((B (κ, tt)).own r (u ∷ [])) ∷ (‵ (flft κ q) ⊛ ‵ ftrue) ∷ [])) ((Subtable 𝓛 mem run).pre (to-subtable r u))
-  goes-subtable r u = qed 𝓛 (‵ ((B (κ, tt)).own r (u ∷ [])) ∷ (‵ (flft κ q) ⊛ ‵ ftrue) ∷ []) ∵ nothing ! $ owned ! usize (Is usize) (uint_Makes 𝓛 w64) i _ (refl, i-fits) $ fjoin ! $ move ! (1 ∷ 0 ∷ []) $ fjoin ! $ move ! (1 ∷ 0 ∷ []) $ join ! $ frame ! $ done !
+  goes_subtable : (r : View) (u : Val) → ent 𝓤 (⋆ 𝓛 (‵ ((B (κ, tt)).own r (u ∷ [])) ∷ (‵ (flft κ q) ⊛ ‵ ftrue) ∷ [])) ((Subtable 𝓛 mem run).pre (to_subtable r u))
+  goes_subtable r u = qed 𝓛 (‵ ((B (κ, tt)).own r (u ∷ [])) ∷ (‵ (flft κ q) ⊛ ‵ ftrue) ∷ []) ∵ nothing ! $ owned ! usize (Is usize) (uint_Makes 𝓛 w64) i _ (refl, i-fits) $ fjoin ! $ move ! (1 ∷ 0 ∷ []) $ fjoin ! $ move ! (1 ∷ 0 ∷ []) $ join ! $ frame ! $ done !
 
-  abbrev Says-subtable : View → View → Type 0
-  Says-subtable r t = (t.src ≡ r.src) × (t.at ≡ r.at + word r.src.now (r.at + i)) × (t.at < r.at + 65536)
+  abbrev Says_subtable : View → View → Type 0
+  Says_subtable r t = (t.src ≡ r.src) × (t.at ≡ r.at + word r.src.now (r.at + i)) × (t.at < r.at + 65536)
 
-  subtable-said : (r : View) (t : View) → ent 𝓤 (ensured 𝓛 subtable.ended (subtable.clauses 𝓛 mem run) (κ, tt) (r, (i, tt)) tt t) (fact 𝓤 (Says-subtable r t))
-  subtable-said r t = ex_e 𝓤 _ (λ ws. snd∗ 𝓤 (sem 𝓛 (lasts subtable.ended (κ, tt) (r, (i, tt)) ws)) (fact 𝓤 (Says-subtable r t)))
+  subtable_said : (r : View) (t : View) → ent 𝓤 (ensured 𝓛 subtable.ended (subtable.clauses 𝓛 mem run) (κ, tt) (r, (i, tt)) tt t) (fact 𝓤 (Says_subtable r t))
+  subtable_said r t = ex_e 𝓤 _ (λ ws. snd∗ 𝓤 (sem 𝓛 (lasts subtable.ended (κ, tt) (r, (i, tt)) ws)) (fact 𝓤 (Says_subtable r t)))
 
   -- the call of `place`, at the struct r with the machine value u
-  abbrev to-place : View → Val → (Place 𝓛 mem run).Ghost
-  to-place r u = (((κ, tt), (q, tt), tt, (r, tt), (u ∷ [], tt)), tt)
+  abbrev to_place : View → Val → (Place 𝓛 mem run).Ghost
+  to_place r u = (((κ, tt), (q, tt), tt, (r, tt), (u ∷ [], tt)), tt)
 
-  goes-place : (r : View) (u : Val) → ent 𝓤 (⋆ 𝓛 (‵ ((B (κ, tt)).own r (u ∷ [])) ∷ (‵ (flft κ q) ⊛ ‵ ftrue) ∷ [])) ((Place 𝓛 mem run).pre (to-place r u))
-  goes-place r u = qed 𝓛 (‵ ((B (κ, tt)).own r (u ∷ [])) ∷ (‵ (flft κ q) ⊛ ‵ ftrue) ∷ []) ∵ nothing ! $ move ! (1 ∷ 0 ∷ []) $ fjoin ! $ move ! (1 ∷ 0 ∷ []) $ join ! $ frame ! $ done !
+  goes_place : (r : View) (u : Val) → ent 𝓤 (⋆ 𝓛 (‵ ((B (κ, tt)).own r (u ∷ [])) ∷ (‵ (flft κ q) ⊛ ‵ ftrue) ∷ [])) ((Place 𝓛 mem run).pre (to_place r u))
+  goes_place r u = qed 𝓛 (‵ ((B (κ, tt)).own r (u ∷ [])) ∷ (‵ (flft κ q) ⊛ ‵ ftrue) ∷ []) ∵ nothing ! $ move ! (1 ∷ 0 ∷ []) $ fjoin ! $ move ! (1 ∷ 0 ∷ []) $ join ! $ frame ! $ done !
 
-  place-said : (r : View) (t : ℕ) → ent 𝓤 (ensured 𝓛 place.ended (place.clauses 𝓛 mem run) (κ, tt) (r, tt) tt t) (fact 𝓤 (t ≡ r.at))
-  place-said r t = ex_e 𝓤 _ (λ ws. snd∗ 𝓤 (sem 𝓛 (lasts place.ended (κ, tt) (r, tt) ws)) (fact 𝓤 (t ≡ r.at)))
+  place_said : (r : View) (t : ℕ) → ent 𝓤 (ensured 𝓛 place.ended (place.clauses 𝓛 mem run) (κ, tt) (r, tt) tt t) (fact 𝓤 (t ≡ r.at))
+  place_said r t = ex_e 𝓤 _ (λ ws. snd∗ 𝓤 (sem 𝓛 (lasts place.ended (κ, tt) (r, tt) ws)) (fact 𝓤 (t ≡ r.at)))
 
   exits : (t : ℕ) (u : Val) → (t ≡ found) × (t < 65536) → ent 𝓤 (⋆ 𝓛 (‵ (usize.own_val t (u ∷ [])) ∷ (‵ (flft κ q) ⊛ ‵ ftrue) ∷ ‵ Keep ∷ [])) (Post u)
   exits t u e =
@@ -150,8 +150,8 @@ module _ {M : Type 1} {𝓤 : Ura M} (𝓛 : Logic 𝓤) (mem : Memory → SProp
       move ! (1 ∷ []) $ frame ! $ move ! (1 ∷ []) $ frame ! $ done !
 
   -- from the front, the place of the subtable is the offset
-  at-found : (r z : View) (t : ℕ) → Front r → Says-subtable r z → t ≡ z.at → (t ≡ found) × (t < 65536)
-  at-found r z t f g e =
+  at_found : (r z : View) (t : ℕ) → Front r → Says_subtable r z → t ≡ z.at → (t ≡ found) × (t < 65536)
+  at_found r z t f g e =
       let o : 0 + i ≡ i = omega arith in
       let p : z.at ≡ 0 + word s.now i =
       g.1 ∙ ap (λ (x : Bor (List ℕ)). r.at + word x.now (r.at + i)) f.0 ∙ ap (λ (k : ℕ). k + word s.now (k + i)) f.1 ∙ ap (λ (k : ℕ). 0 + word s.now k) o
@@ -163,50 +163,50 @@ module _ {M : Type 1} {𝓤 : Ura M} (𝓛 : Logic 𝓤) (mem : Memory → SProp
     walk p =
         qed 𝓛 (raw (on_entry 𝓛 subtable-place.signature (κ, tt) (q, tt) (s, (i, tt)) at) ∷ []) ∵ enter ! C Λ code.function (v ∷ vint w64 i ∷ []) _ $
         alloc1 ! (λ l₀. alloc1 ! (λ l₁. alloc1 ! (λ l₂. alloc1 ! (λ l₃. alloc1 ! (λ l₄. alloc0 ! $ params1 ! $ pass1 ! (init ! 6 refl ((shr_slice_Lawful 𝓛 (named 0) κ u8).typed s (v ∷ []) p).0) $ pass1 ! (init ! 4 refl (tt, record { fits = i-fits })) $ pass0 ! $
-        move ! (10 ∷ []) $ use1 𝓛 (raw ((AtFront 𝓛 mem run).pre to-at-front) ⊛ ‵ Keep) goes-at-front $ split ! $
-        calls_at ! fm (AtFront 𝓛 mem run) known-at-front to-at-front (and_then ! (load ! (from ! (stop !)) (look ! 8 refl)) (no_more !)) (λ u.
+        move ! (10 ∷ []) $ use1 𝓛 (raw ((AtFront 𝓛 mem run).pre to_at_front) ⊛ ‵ Keep) goes_at_front $ split ! $
+        calls_at ! fm (AtFront 𝓛 mem run) known-at-front to_at_front (and_then ! (load ! (from ! (stop !)) (look ! 8 refl)) (no_more !)) (λ u.
         use1 𝓛 (later (some (λ (r : View). ((‵ (flft κ q) ⊛ ‵ ftrue) ⊛ ‵ ((B (κ, tt)).own r (u ∷ []))) ⊛ raw (ensured 𝓛 at_front.ended (at_front.clauses 𝓛 mem run) (κ, tt) (s, tt) tt r)))) (id⊢ 𝓤 _) $ await ! tt $ pick ! (λ r.
-        split ! $ move ! (1 ∷ []) $ use1 𝓛 (raw (fact 𝓤 (Front r))) (at-front-said r) $ heard ! (Front r) (λ f. split ! $ move ! (1 ∷ []) $
+        split ! $ move ! (1 ∷ []) $ use1 𝓛 (raw (fact 𝓤 (Front r))) (at_front_said r) $ heard ! (Front r) (λ f. split ! $ move ! (1 ∷ []) $
         -- [what the view owns; the token; what the parameters own; room for _4; …; room for _3; …; _2; …; _1; …; room for _0; …]
         peeks ! (B (κ, tt)) (Is (B (κ, tt))) (shows 𝓛 (B (κ, tt))) r (u ∷ []) (λ is.
         land ! (from ! (stop !)) (init ! 3 refl ((LL.lawful (T.the_type αᵉ) (T'.the_laws αᵉ) 𝓛).typed r _ is).0) $
-        use2 𝓛 (raw ((Subtable 𝓛 mem run).pre (to-subtable r u))) (goes-subtable r u) $
-        calls_at ! fm (Subtable 𝓛 mem run) known-subtable (to-subtable r u) (and_then ! (load ! (from ! (stop !)) (look ! 2 refl)) (and_then ! (load ! (from ! (stop !)) (look ! 6 refl)) (no_more !))) (λ x.
+        use2 𝓛 (raw ((Subtable 𝓛 mem run).pre (to_subtable r u))) (goes_subtable r u) $
+        calls_at ! fm (Subtable 𝓛 mem run) known-subtable (to_subtable r u) (and_then ! (load ! (from ! (stop !)) (look ! 2 refl)) (and_then ! (load ! (from ! (stop !)) (look ! 6 refl)) (no_more !))) (λ x.
         use1 𝓛 (later (some (λ (z : View). ((‵ (flft κ q) ⊛ ‵ ftrue) ⊛ ‵ ((B (κ, tt)).own z (x ∷ []))) ⊛ raw (ensured 𝓛 subtable.ended (subtable.clauses 𝓛 mem run) (κ, tt) (r, (i, tt)) tt z)))) (id⊢ 𝓤 _) $ await ! tt $ pick ! (λ z.
-        split ! $ move ! (1 ∷ []) $ use1 𝓛 (raw (fact 𝓤 (Says-subtable r z))) (subtable-said r z) $ heard ! (Says-subtable r z) (λ g. split ! $ move ! (1 ∷ []) $
+        split ! $ move ! (1 ∷ []) $ use1 𝓛 (raw (fact 𝓤 (Says_subtable r z))) (subtable_said r z) $ heard ! (Says_subtable r z) (λ g. split ! $ move ! (1 ∷ []) $
         -- [what the subtable's view owns; the token; what the parameters own; _4; …; room for _3; …; _2; …; _1; …; room for _0; …]
         peeks ! (B (κ, tt)) (Is (B (κ, tt))) (shows 𝓛 (B (κ, tt))) z (x ∷ []) (λ is''.
         land ! (from ! (stop !)) (init ! 5 refl ((LL.lawful (T.the_type αᵉ) (T'.the_laws αᵉ) 𝓛).typed z _ is'').0) $
-        use2 𝓛 (raw ((Place 𝓛 mem run).pre (to-place z x))) (goes-place z x) $
-        calls_at ! fm (Place 𝓛 mem run) known-place (to-place z x) (and_then ! (load ! (from ! (stop !)) (look ! 4 refl)) (no_more !)) (λ w.
+        use2 𝓛 (raw ((Place 𝓛 mem run).pre (to_place z x))) (goes_place z x) $
+        calls_at ! fm (Place 𝓛 mem run) known-place (to_place z x) (and_then ! (load ! (from ! (stop !)) (look ! 4 refl)) (no_more !)) (λ w.
         use1 𝓛 (later (some (λ (t : ℕ). ((‵ (flft κ q) ⊛ ‵ ftrue) ⊛ ‵ (usize.own_val t (w ∷ []))) ⊛ raw (ensured 𝓛 place.ended (place.clauses 𝓛 mem run) (κ, tt) (z, tt) tt t)))) (id⊢ 𝓤 _) $ await ! tt $ pick ! (λ t.
-        split ! $ move ! (1 ∷ []) $ use1 𝓛 (raw (fact 𝓤 (t ≡ z.at))) (place-said z t) $ heard ! (t ≡ z.at) (λ e. split ! $ move ! (1 ∷ []) $
+        split ! $ move ! (1 ∷ []) $ use1 𝓛 (raw (fact 𝓤 (t ≡ z.at))) (place_said z t) $ heard ! (t ≡ z.at) (λ e. split ! $ move ! (1 ∷ []) $
         -- [the result; the token; what the parameters own; _4; …; _3; …; _2; …; _1; …; room for _0; …]
         peeks ! usize (Is usize) (shows 𝓛 usize) t (w ∷ []) (λ is'.
         land ! (from ! (stop !)) (init ! 11 refl ((uint_Lawful 𝓛 w64).typed t _ is').0) $
         returns ! (look ! 11 refl) $ forget ! 3 refl $ forget ! 5 refl $ forget ! 7 refl $ forget ! 9 refl $ forget ! 11 refl $
-        move ! (11 ∷ 12 ∷ []) $ free1 ! $ move ! (9 ∷ 10 ∷ []) $ free1 ! $ move ! (7 ∷ 8 ∷ []) $ free1 ! $ move ! (5 ∷ 6 ∷ []) $ free1 ! $ move ! (3 ∷ 4 ∷ []) $ free1 ! $ free0 ! $ by ! (exits t w (at-found r z t f g e)))))))))))))))))))
+        move ! (11 ∷ 12 ∷ []) $ free1 ! $ move ! (9 ∷ 10 ∷ []) $ free1 ! $ move ! (7 ∷ 8 ∷ []) $ free1 ! $ move ! (5 ∷ 6 ∷ []) $ free1 ! $ move ! (3 ∷ 4 ∷ []) $ free1 ! $ free0 ! $ by ! (exits t w (at_found r z t f g e)))))))))))))))))))
 
 module _ {M : Type 1} {𝓤 : Ura M} (𝓛 : Logic 𝓤) (mem : Memory → SProp 𝓤) (run : Routine → Fun 𝓤) where
   open 𝓛 use {H}
 
-  subtable-place-walks : (C : Calls 𝓤 H) (Λ : Loops 𝓤 H) → FmC 𝓤 H 𝓛.laws C → Triple 𝓤 (C #view·at-front) (AtFront 𝓛 mem run) → Triple 𝓤 (C #view·subtable) (Subtable 𝓛 mem run) → Triple 𝓤 (C #view·place) (Place 𝓛 mem run)
+  subtable_place_walks : (C : Calls 𝓤 H) (Λ : Loops 𝓤 H) → FmC 𝓤 H 𝓛.laws C → Triple 𝓤 (C #view·at-front) (AtFront 𝓛 mem run) → Triple 𝓤 (C #view·subtable) (Subtable 𝓛 mem run) → Triple 𝓤 (C #view·place) (Place 𝓛 mem run)
       → Walks 𝓛 subtable-place.ended stayed (WpFn 𝓤 H C Λ code.function) (subtable-place.clauses 𝓛 mem run)
-  subtable-place-walks C Λ fm known-at-front known-subtable known-place = walked 𝓛 subtable-place.ended stayed (subtable-place.clauses 𝓛 mem run) (WpFn 𝓤 H C Λ code.function) (λ κs. (shr_slice_vals, (uint_vals w64, tt))) (λ κs. (shr_slice_Tells (named 0) κs.0 u8, (uint_Tells w64, tt)))
+  subtable_place_walks C Λ fm known-at-front known-subtable known-place = walked 𝓛 subtable-place.ended stayed (subtable-place.clauses 𝓛 mem run) (WpFn 𝓤 H C Λ code.function) (λ κs. (shr_slice_vals, (uint_vals w64, tt))) (λ κs. (shr_slice_Tells (named 0) κs.0 u8, (uint_Tells w64, tt)))
       (λ κs qs bounds a g are. via 𝓤 _ (fst∗ 𝓤 _ (emp 𝓤)) (walk 𝓛 mem run κs.0 qs.0 a.0 a.1.0 are.1.0.1 C Λ fm known-at-front known-subtable known-place are.0))
 
-subtable-place-meets : {M : Type 1} {𝓤 : Ura M} (𝓛 : Logic 𝓤) (mem : Memory → SProp 𝓤) (run : Routine → Fun 𝓤) (𝓣 : Tables 𝓤 𝓛.H)
+subtable_place_meets : {M : Type 1} {𝓤 : Ura M} (𝓛 : Logic 𝓤) (mem : Memory → SProp 𝓤) (run : Routine → Fun 𝓤) (𝓣 : Tables 𝓤 𝓛.H)
     → Triple 𝓤 (𝓣.C #view·at-front) (AtFront 𝓛 mem run) → Triple 𝓤 (𝓣.C #view·subtable) (Subtable 𝓛 mem run) → Triple 𝓤 (𝓣.C #view·place) (Place 𝓛 mem run)
     → Meets 𝓛 subtable-place.signature (WpFn 𝓤 𝓛.H 𝓣.C 𝓣.Λ code.function) (subtable-place.spec 𝓛 mem run)
-subtable-place-meets {𝓤 = 𝓤} 𝓛 mem run 𝓣 known-at-front known-subtable known-place = walk_Meets 𝓛 subtable-place.ended stayed (Goes-none_slice 𝓛 1 (0 ∷ []) tt (plain (λ _. u8)) yes, (Goes-none 𝓛 1 (λ _. usize) yes (λ κs x f. refl), tt)) (subtable-place.clauses 𝓛 mem run) (WpFn 𝓤 𝓛.H 𝓣.C 𝓣.Λ code.function) (WpFn-mono 𝓤 𝓛.H 𝓛.laws 𝓣 code.function)
-    (subtable-place-walks 𝓛 mem run 𝓣.C 𝓣.Λ (fm_of 𝓤 𝓛.H 𝓛.laws 𝓣) known-at-front known-subtable known-place)
+subtable_place_meets {𝓤 = 𝓤} 𝓛 mem run 𝓣 known-at-front known-subtable known-place = walk_Meets 𝓛 subtable-place.ended stayed (Goes-none_slice 𝓛 1 (0 ∷ []) tt (plain (λ _. u8)) yes, (Goes-none 𝓛 1 (λ _. usize) yes (λ κs x f. refl), tt)) (subtable-place.clauses 𝓛 mem run) (WpFn 𝓤 𝓛.H 𝓣.C 𝓣.Λ code.function) (WpFn-mono 𝓤 𝓛.H 𝓛.laws 𝓣 code.function)
+    (subtable_place_walks 𝓛 mem run 𝓣.C 𝓣.Λ (fm_of 𝓤 𝓛.H 𝓛.laws 𝓣) known-at-front known-subtable known-place)
 
-pub subtable-place-spec : {M : Type 1} → stated.statement M
+pub subtable_place_spec : {M : Type 1} → stated.statement M
 unfolding code.routine tables_of
-subtable-place-spec 𝓤 𝓛 𝓜 𝓡 =
+subtable_place_spec 𝓤 𝓛 𝓜 𝓡 =
     entered 𝓤 𝓛.H (triple_of 𝓛 subtable-place.signature (subtable-place.spec 𝓛 𝓜.mem 𝓡.run))
     (tables 𝓤 𝓛.H 𝓜 𝓡 code.env).C (tables 𝓤 𝓛.H 𝓜 𝓡 code.env).Λ #view·subtable-place code.function (code.unfolded 𝓤 𝓛.H 𝓜 𝓡)
-    (subtable-place-meets 𝓛 𝓜.mem 𝓡.run (tables_of 𝓤 𝓛.H 𝓜 (tables 𝓤 𝓛.H 𝓜 𝓡 code.env))
+    (subtable_place_meets 𝓛 𝓜.mem 𝓡.run (tables_of 𝓤 𝓛.H 𝓜 (tables 𝓤 𝓛.H 𝓜 𝓡 code.env))
     (cited 𝓤 𝓛.H (AtFront 𝓛 𝓜.mem 𝓡.run) 𝓜 𝓡 code.env #view·at-front at-front-def.routine code.calls-view::at-front (at-front-thm.met 𝓤 𝓛 𝓜 𝓡))
     (cited 𝓤 𝓛.H (Subtable 𝓛 𝓜.mem 𝓡.run) 𝓜 𝓡 code.env #view·subtable subtable-def.routine code.calls-view::subtable (subtable-thm.met 𝓤 𝓛 𝓜 𝓡))
     (cited 𝓤 𝓛.H (Place 𝓛 𝓜.mem 𝓡.run) 𝓜 𝓡 code.env #view·place place-def.routine code.calls-view::place (place-thm.met 𝓤 𝓛 𝓜 𝓡)))

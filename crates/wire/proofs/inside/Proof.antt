@@ -8,5 +8,5 @@ returns : tie.Need-returns
 unfolding inside
 returns c = refl
 
-pub inside-spec : {M : Type 1} → statement M
-inside-spec = tie.close (tie.spec (λ c. search rules) returns)
+pub inside_spec : {M : Type 1} → statement M
+inside_spec = tie.close (tie.spec (λ c. search rules) returns)

@@ -20,8 +20,8 @@ returns-2 c =
     let h : length a.s.now ≤ a.at + 1 = omega arith in
     (omega (arith, c.byte2.ensures, get_or-eq_default a.s.now 0 h), omega (arith, c.byte2.ensures))
 
-pub word-at-spec : {M : Type 1} → statement M
-word-at-spec =
+pub word_at_spec : {M : Type 1} → statement M
+word_at_spec =
     tie.close
     (tie.spec
     (λ c κs. search rules)

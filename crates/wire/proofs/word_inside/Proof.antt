@@ -26,8 +26,8 @@ returns c =
     let at = c.before.before.args.at in
     (refl, omega (arith, c.before.shared-slice-known.given at, c.shared-slice-known2.given (at + 1)))
 
-pub word-inside-spec : {M : Type 1} → statement M
-word-inside-spec =
+pub word_inside_spec : {M : Type 1} → statement M
+word_inside_spec =
     tie.close
     (tie.spec
     (λ c. search rules)
