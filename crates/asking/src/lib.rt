@@ -14,7 +14,7 @@ use substitutes::{Substituted, substitute};
 use wire::word_at;
 
 // What a lookup answers at a place: nothing, a glyph that stands there from now on, or a rule's input length, where its records start, and how many they are.
-#[derive(Drop)]
+#[derive(Clone, Copy)]
 pub enum Asked {
     Nothing,
     Instead(usize),

@@ -12,7 +12,7 @@ use bits::has_bit;
 use ranks::rank;
 
 // A map's part of the cells. A mask of 0 says that there are too few.
-#[derive(Drop)]
+#[derive(Clone, Copy)]
 pub struct Map {
     pub at: usize,
     pub mask: usize,

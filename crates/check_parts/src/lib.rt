@@ -19,7 +19,7 @@ use wire::word_at;
 const MANY: usize = 2048;
 
 // The sorts of parts that an offset of a header reaches.
-#[derive(Drop)]
+#[derive(Clone, Copy)]
 pub enum Part {
     Coverage,
     Classes,

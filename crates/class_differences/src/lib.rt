@@ -22,7 +22,7 @@ use set_differences::{Sets, list_set_pair, remember};
 use set_numbers::number_all;
 
 // A first glyph of contexts, plain or chained, and the place in the buffer.
-#[derive(Drop)]
+#[derive(Clone, Copy)]
 struct First {
     chained: bool,
     glyph: usize,

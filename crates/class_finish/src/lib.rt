@@ -15,7 +15,7 @@ use room::{AREA, Laid};
 use tried::Tried;
 
 // What the cells hold for the cut: the maps of the rules, the marks of the classes that covered glyphs hold, by where they begin, the number of surviving classes, and what follows the sets. And the mark of the layout that is asked for.
-#[derive(Drop)]
+#[derive(Clone, Copy)]
 pub struct Prepared {
     pub maps: Maps,
     pub marks: usize,

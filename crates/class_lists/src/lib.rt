@@ -10,14 +10,14 @@ use class_stretches::{Stretch, stretch_from};
 use glyph_runs::{count_runs, reach, run_at};
 
 // Where a walk stands: at the first run that is not done, and behind the cells that are.
-#[derive(Drop)]
+#[derive(Clone, Copy)]
 pub struct Place {
     pub run: usize,
     pub cell: usize,
 }
 
 // What was listed: how many cells, a class that none is above, and whether a retained glyph holds class 0.
-#[derive(Drop)]
+#[derive(Clone, Copy)]
 pub struct ClassList {
     pub len: usize,
     pub high: usize,

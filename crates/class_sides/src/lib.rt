@@ -11,14 +11,14 @@ use ranked_maps::ClassMap;
 use remade_classes::{Noted, list_front};
 
 // A class table in cells: how many classes are listed, and its class map.
-#[derive(Drop)]
+#[derive(Clone, Copy)]
 pub struct Side {
     pub len: usize,
     pub classes: ClassMap,
 }
 
 // The class map of the input, the number of surviving classes, and where the marks of the classes that covered glyphs hold begin, one bit for each class that can have an entry.
-#[derive(Drop)]
+#[derive(Clone, Copy)]
 pub struct Input {
     pub map: Map,
     pub classes: usize,

@@ -15,21 +15,21 @@ use rule_sets::write_rules;
 use wire::word_inside;
 
 // How many slots there are up to the last that is not null, and the place after the sets; more than the length of the area, where there is no room.
-#[derive(Drop)]
+#[derive(Clone, Copy)]
 pub struct Slots {
     pub count: usize,
     pub end: usize,
 }
 
 // The surviving classes: where the marks of those that covered glyphs hold begin, one bit each, and how many classes there are.
-#[derive(Drop)]
+#[derive(Clone, Copy)]
 pub struct Classes {
     pub marks: usize,
     pub count: usize,
 }
 
 // Where a block comes from and goes to, a set or a class table: its place in the source, which is 0 if there is none, its slot, where the first block of its kind stands, and the place after all so far.
-#[derive(Drop)]
+#[derive(Clone, Copy)]
 pub struct Turn {
     pub at: usize,
     pub slot: usize,

@@ -7,7 +7,7 @@ ghost use Rattle.class_stretches.specs.Stretches.{Ranges, Passed, Ended, Stretch
 use wire::word_inside;
 
 // Glyphs up to `last` that hold one class. The search for a later glyph begins with the class range `next`.
-#[derive(Drop)]
+#[derive(Clone, Copy)]
 pub struct Stretch {
     pub last: usize,
     pub class: usize,

@@ -16,7 +16,7 @@ use remade_classes::{OldTable, Tail, make_table};
 use room::HIGHEST;
 
 // Where a class table goes to, and the gap by which its offset is less than its place.
-#[derive(Drop)]
+#[derive(Clone, Copy)]
 struct Goal {
     turn: Turn,
     gap: usize,

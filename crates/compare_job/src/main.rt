@@ -17,7 +17,7 @@ const LIST: usize = 262144;
 const TEXT: usize = 540800;
 
 // What is answered besides the list: a number, and the length that comes with it.
-#[derive(Drop)]
+#[derive(Clone, Copy)]
 pub struct Answered {
     number: usize,
     len: usize,

@@ -12,7 +12,7 @@ use room::LIMIT;
 use wire::{inside, word_at};
 
 // The answers, in the order in which they are tried. With `Listed` comes the number of bytes written, with `Malformed` the lowest start among the faulty parts, and with `NoRoom` the length needed; the length of any other is 0.
-#[derive(Drop)]
+#[derive(Clone, Copy)]
 pub enum Compared {
     Listed(usize),
     BadKind,
@@ -24,7 +24,7 @@ pub enum Compared {
 }
 
 // What the tests before the comparison say: the answer that refuses the call, or that all is sound.
-#[derive(Drop)]
+#[derive(Clone, Copy)]
 pub enum Judged {
     Refused(Compared),
     Sound,

@@ -12,7 +12,7 @@ use remade_classes::{Noted, OldTable, Tail};
 use wire::word_at;
 
 // What a cut goes by once the covered glyphs are noted in cells: whether the context is chained, the marks of the call, and the notes.
-#[derive(Drop)]
+#[derive(Clone, Copy)]
 pub struct Begun {
     pub chained: bool,
     pub marks: Marks,
@@ -20,7 +20,7 @@ pub struct Begun {
 }
 
 // The class maps of all class tables.
-#[derive(Drop)]
+#[derive(Clone, Copy)]
 pub struct Classed {
     pub input: Input,
     pub back: Map,

@@ -11,7 +11,7 @@ use cover_rows::{write_counted_row, write_row};
 use lookup_records::{write_counted_records, write_records};
 
 // Both maps in cells, the glyph map with its form.
-#[derive(Drop)]
+#[derive(Clone, Copy)]
 pub struct Cells {
     pub glyphs: Held,
     pub lookups: Map,

@@ -12,35 +12,35 @@ use meets::most;
 use wire::{word_at, word_inside};
 
 // Offsets or records in a row: where the first stands, and how many there are.
-#[derive(Drop)]
+#[derive(Clone, Copy)]
 pub struct Row {
     pub at: usize,
     pub len: usize,
 }
 
 // An offset: where it stands, and where the coverage stands that it reaches.
-#[derive(Drop)]
+#[derive(Clone, Copy)]
 pub struct Slot {
     pub at: usize,
     pub cover: usize,
 }
 
 // Where the first coverage stands, and where the next one is written.
-#[derive(Drop)]
+#[derive(Clone, Copy)]
 pub struct Places {
     pub first: usize,
     pub pos: usize,
 }
 
 // The glyph map in cells, and its form.
-#[derive(Drop)]
+#[derive(Clone, Copy)]
 pub struct Held {
     pub form: usize,
     pub map: Map,
 }
 
 // Where the parts of a context stand: the offsets of its coverages, and its records.
-#[derive(Drop)]
+#[derive(Clone, Copy)]
 pub struct CoverParts {
     pub back: Row,
     pub input: Row,

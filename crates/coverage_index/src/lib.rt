@@ -8,7 +8,7 @@ use halving::reach;
 use wire::word_inside;
 
 // What a coverage answers: the index of a glyph, or that it is not covered.
-#[derive(Drop)]
+#[derive(Clone, Copy)]
 pub enum Covered {
     At(usize),
     Not,

@@ -9,7 +9,7 @@ use halving::reach;
 use wire::word_at;
 
 // Glyphs in a row that a class table gives one class.
-#[derive(Drop)]
+#[derive(Clone, Copy)]
 pub struct Stretch {
     pub first: usize,
     pub last: usize,

@@ -5,7 +5,7 @@ ghost use Rattle.faults.specs.Fault.{fault_of, place_of};
 ghost use Rattle.faults.specs.Low.{found_before};
 
 // What a check answers: where the first faulty part starts, or that all is sound.
-#[derive(Drop)]
+#[derive(Clone, Copy)]
 pub enum Fault {
     At(usize),
     Sound,

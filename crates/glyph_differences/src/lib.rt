@@ -20,7 +20,7 @@ use set_numbers::number_all;
 use wire::word_at;
 
 // A first glyph, and the place in the buffer.
-#[derive(Drop)]
+#[derive(Clone, Copy)]
 struct First {
     glyph: usize,
     pos: usize,

@@ -5,7 +5,7 @@ ghost use Rattle.glyph_runs.specs.Runs.{GlyphMap, run_count, IsRun, Past, Reache
 use wire::word_inside;
 
 // A run: the first old id, the first new id, and how many pairs in step there are.
-#[derive(Drop)]
+#[derive(Clone, Copy)]
 pub struct Run {
     pub old: usize,
     pub new: usize,

@@ -17,7 +17,7 @@ use rules::{check_rule, rule_within};
 use wire::{inside, word_at, word_inside};
 
 // The sorts of members that a set has.
-#[derive(Drop)]
+#[derive(Clone, Copy)]
 pub enum Member {
     Rule,
     ChainedRule,

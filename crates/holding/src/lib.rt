@@ -13,7 +13,7 @@ use rules::{Row, RuleParts};
 use wire::word_at;
 
 // A sequence of numbers, and how they are held against glyphs: as glyphs (sort 0), as classes (sort 1) of the class table at `table`, or as offsets of coverages (any other sort).
-#[derive(Drop)]
+#[derive(Clone, Copy)]
 pub struct Sequence {
     pub sort: usize,
     pub table: usize,
@@ -22,7 +22,7 @@ pub struct Sequence {
 }
 
 // How the numbers of a rule are held: their sort, and the class tables of its backtrack, its input and its lookahead.
-#[derive(Drop)]
+#[derive(Clone, Copy)]
 pub struct How {
     pub sort: usize,
     pub back: usize,

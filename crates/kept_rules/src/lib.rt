@@ -15,7 +15,7 @@ use numbers::{after_first, ended, renumber, write_counted};
 use wire::word_inside;
 
 // The maps that a rule's numbers and the lookups of its records go through.
-#[derive(Drop)]
+#[derive(Clone, Copy)]
 pub struct Maps {
     pub back: Map,
     pub input: Map,

@@ -13,7 +13,7 @@ use placed_sets::{Sets, Sort, Turn, header_size, place_set};
 use wire::word_inside;
 
 // Where the notes of the retained covered glyphs stand in the cells, how many there are, and the mark of the layout that is asked for.
-#[derive(Drop)]
+#[derive(Clone, Copy)]
 pub struct Notes {
     pub at: usize,
     pub count: usize,

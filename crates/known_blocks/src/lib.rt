@@ -8,7 +8,7 @@ use room::HIGHEST;
 use wire::word_at;
 
 // Where a block stands, which is 0 if that is too far behind the first, and the place after all blocks.
-#[derive(Drop)]
+#[derive(Clone, Copy)]
 pub struct Spot {
     pub at: usize,
     pub end: usize,

@@ -13,7 +13,7 @@ use room::LIMIT;
 use wire::word_at;
 
 // What the checks say: the number and the place of a refusal, or that all is fine.
-#[derive(Drop)]
+#[derive(Clone, Copy)]
 pub enum Checked {
     Refused(usize, usize),
     Fine,

@@ -17,7 +17,7 @@ use rules::{Row, RuleParts, rule_parts};
 use wire::word_at;
 
 // What matches at a place: nothing, or a rule's input length, where its records start, and how many they are.
-#[derive(Drop)]
+#[derive(Clone, Copy)]
 pub enum Matched {
     Nothing,
     Rule(usize, usize, usize),

@@ -5,7 +5,7 @@ ghost use Rattle.noted_runs.specs.Walks.{NotedSteps, MeetsRun, InRun};
 use glyph_runs::run_at;
 
 // Glyphs in a row that are noted: how many there are, and the glyph after them.
-#[derive(Drop)]
+#[derive(Clone, Copy)]
 pub struct Noted {
     pub count: usize,
     pub next: usize,

@@ -20,14 +20,14 @@ use room::{HIGHEST, LIMIT, LONGEST, Laid};
 use tried::Tried;
 
 // Cells in a row: where the first stands, and how many there are.
-#[derive(Drop)]
+#[derive(Clone, Copy)]
 pub struct Noted {
     pub at: usize,
     pub len: usize,
 }
 
 // A class table in cells: the map of the classes that stay, how many these are, and the entries of the new table.
-#[derive(Drop)]
+#[derive(Clone, Copy)]
 pub struct Classed {
     pub map: Map,
     pub count: usize,
@@ -35,7 +35,7 @@ pub struct Classed {
 }
 
 // Where the coverage and the class tables stand behind the cells, and where the last of them ends.
-#[derive(Drop)]
+#[derive(Clone, Copy)]
 pub struct Ends {
     pub cover: usize,
     pub first: usize,

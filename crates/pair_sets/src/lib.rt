@@ -14,7 +14,7 @@ use pair_fields::value_at;
 use wire::word_inside;
 
 // The value formats of a pair table, those of the source and the new ones, and how long a pair record of the source is, or a cell.
-#[derive(Drop)]
+#[derive(Clone, Copy)]
 pub struct Formats {
     pub f1: usize,
     pub f2: usize,

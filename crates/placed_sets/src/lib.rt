@@ -17,7 +17,7 @@ use room::HIGHEST;
 use rule_sets::write_rules;
 
 // The sorts of sets: rules, plain or chained, ligatures, and pairs, which have value formats.
-#[derive(Drop)]
+#[derive(Clone, Copy)]
 pub enum Sort {
     Rules(bool),
     Ligatures,
@@ -25,7 +25,7 @@ pub enum Sort {
 }
 
 // Where a set comes from and goes to: its place in the source, that of its offset, where the first set stands, and the place after all sets so far.
-#[derive(Drop)]
+#[derive(Clone, Copy)]
 pub struct Turn {
     pub at: usize,
     pub slot: usize,
@@ -34,7 +34,7 @@ pub struct Turn {
 }
 
 // How many sets were kept, and the place after them; more than the length of the area, where there is no room.
-#[derive(Drop)]
+#[derive(Clone, Copy)]
 pub struct Sets {
     pub count: usize,
     pub end: usize,

@@ -10,7 +10,7 @@ use class_lists::ClassList;
 use ranks::{CELLS, count_marks};
 
 // The cells of a class map, and how many classes survive.
-#[derive(Drop)]
+#[derive(Clone, Copy)]
 pub struct ClassMap {
     pub map: Map,
     pub count: usize,

@@ -14,7 +14,7 @@ use room::LIMIT;
 
 // The answers of documents 01 and 02, in the order in which they are tried. With `Kept` comes the number of bytes written, with `Malformed` the lowest start among the faulty parts, and with `NoRoom` the length needed; the length of any other is 0.
 // `BadJob` is given by the label job alone.
-#[derive(Drop)]
+#[derive(Clone, Copy)]
 pub enum Answer {
     Kept(usize),
     BadKind,
@@ -34,7 +34,7 @@ pub enum Answer {
 }
 
 // What the tests before the cut say: the answer that refuses the call, or that the source is sound.
-#[derive(Drop)]
+#[derive(Clone, Copy)]
 pub enum Judged {
     Refused(Answer),
     Sound,

@@ -10,21 +10,21 @@ use class_entries::new_entries;
 use class_lists::{ClassList, list_classes};
 
 // Cells in a row: where the first stands, and how many there are.
-#[derive(Drop)]
+#[derive(Clone, Copy)]
 pub struct Noted {
     pub at: usize,
     pub len: usize,
 }
 
 // A class table of the source: where it stands, which is 0 if it is null, and its class map in cells.
-#[derive(Drop)]
+#[derive(Clone, Copy)]
 pub struct OldTable {
     pub at: usize,
     pub map: Map,
 }
 
 // A new class table: where the old one stands in the source, which is 0 if it is null, and the cells that its entries are noted in.
-#[derive(Drop)]
+#[derive(Clone, Copy)]
 pub struct NewTable {
     pub old: usize,
     pub list: usize,
@@ -32,7 +32,7 @@ pub struct NewTable {
 }
 
 // What follows the sets, and what it takes to write it: whether the context is chained, and the form of the glyph map; the glyphs of the new coverage, which are noted in cells; and the class tables, whose maps stand behind the notes. The cells before the notes are free once the sets are written.
-#[derive(Drop)]
+#[derive(Clone, Copy)]
 pub struct Tail {
     pub chained: bool,
     pub form: usize,

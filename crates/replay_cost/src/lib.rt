@@ -14,7 +14,7 @@ use rule_steps::listed_steps;
 const TURNS: usize = 4;
 
 // What the call gives back: the number and the place of a refusal, with no steps; or 0, 0 and the steps, cut off at 2^63.
-#[derive(Drop)]
+#[derive(Clone, Copy)]
 pub struct Cost {
     pub number: usize,
     pub place: usize,

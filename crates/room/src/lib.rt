@@ -15,7 +15,7 @@ pub const HIGHEST: usize = 65535;
 pub const LONGEST: usize = 131076;
 
 // What became of a table: nothing of it survives, its layout is over the limit or has an offset or a count that doesn't fit a word, the buffer is shorter than the layout, or it was laid, with the layout's length.
-#[derive(Drop)]
+#[derive(Clone, Copy)]
 pub enum Laid {
     Nothing,
     TooBig,

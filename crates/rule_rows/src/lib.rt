@@ -8,7 +8,7 @@ use cells::cell;
 use wire::word_at;
 
 // Where a row stands: in the left subtable (0) or in the right one, from `at` on; and where `t` has the numbers of its words, if they do not stand for themselves (0).
-#[derive(Drop)]
+#[derive(Clone, Copy)]
 pub struct Run {
     pub side: usize,
     pub at: usize,

@@ -9,7 +9,7 @@ use rules::{Row, RuleParts, after_first, rule_parts};
 use wire::word_at;
 
 // What the codes of two subtables stand for: plain rules (kind 1), chained ones (2) or ligatures (3); and whether their words are classes (1) or glyphs (0).
-#[derive(Drop)]
+#[derive(Clone, Copy)]
 pub struct Shape {
     pub kind: usize,
     pub classes: usize,

@@ -11,14 +11,14 @@ use faults::Fault;
 use wire::{inside, word_at};
 
 // Numbers or records in a row: where the first stands, and how many there are.
-#[derive(Drop)]
+#[derive(Clone, Copy)]
 pub struct Row {
     pub at: usize,
     pub len: usize,
 }
 
 // Where the parts of a rule stand: its backtrack, its input after the first glyph, its lookahead and its records; and its glyph count.
-#[derive(Drop)]
+#[derive(Clone, Copy)]
 pub struct RuleParts {
     pub back: Row,
     pub count: usize,

@@ -15,7 +15,7 @@ use steps::run_lookups;
 use wire::word_at;
 
 // What a run shows: that it agrees with the trace or differs from it, or that a lookup went too deep.
-#[derive(Drop)]
+#[derive(Clone, Copy)]
 pub enum Verdict {
     Agrees,
     Differs,

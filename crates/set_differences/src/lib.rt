@@ -23,7 +23,7 @@ pub const HEADS: usize = 589828;
 pub const LINKS: usize = 458752;
 
 // A pair of sets: where the left one and the right one stand, the first glyph that reaches them, and the place in the buffer.
-#[derive(Drop)]
+#[derive(Clone, Copy)]
 pub struct Sets {
     pub left: usize,
     pub right: usize,
@@ -32,7 +32,7 @@ pub struct Sets {
 }
 
 // How many numbers stand in each of the two rows.
-#[derive(Drop)]
+#[derive(Clone, Copy)]
 struct Counts {
     left: usize,
     right: usize,

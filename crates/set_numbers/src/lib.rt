@@ -14,7 +14,7 @@ use rule_says::Shape;
 const PRINTS_AND_COUNT: usize = 65537;
 
 // Where a set stands: in the left subtable (0) or in the right one (1), at `at`; a null one stands at 0.
-#[derive(Drop)]
+#[derive(Clone, Copy)]
 pub struct Set {
     pub side: usize,
     pub at: usize,

@@ -10,7 +10,7 @@ use std::num::{wrapping_add_u16, wrapping_sub_u16};
 use wire::word_inside;
 
 // The pairs that stay: how many there are, and whether their differences agree modulo 65,536.
-#[derive(Drop)]
+#[derive(Clone, Copy)]
 pub struct Pairs {
     pub count: usize,
     pub same: bool,

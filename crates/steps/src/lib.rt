@@ -15,7 +15,7 @@ use rules::Row;
 const DEPTH: usize = 8;
 
 // What a lookup did at a place: it took so many glyphs, 0 where it matched nothing, or it went too deep.
-#[derive(Drop)]
+#[derive(Clone, Copy)]
 pub enum Step {
     Took(usize),
     Deep,

@@ -9,7 +9,7 @@ use std::num::wrapping_add_u16;
 use wire::word_at;
 
 // What stands for a glyph: another one, or nothing where it is not covered.
-#[derive(Drop)]
+#[derive(Clone, Copy)]
 pub enum Substituted {
     By(usize),
     Not,

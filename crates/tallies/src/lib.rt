@@ -4,7 +4,7 @@ ghost use Rattle.replaying.specs.Replay.{changed};
 ghost use Rattle.tallies.specs.Counting.{tally_of};
 
 // How many runs there were, how many agreed, and the first that did not, from 1; 0 if none.
-#[derive(Drop)]
+#[derive(Clone, Copy)]
 pub struct Tally {
     pub runs: usize,
     pub agreements: usize,
@@ -12,7 +12,7 @@ pub struct Tally {
 }
 
 // What a replay gives back: its number, the place that comes with 6, and the tally. With 18 it is as before the run that goes too deep.
-#[derive(Drop)]
+#[derive(Clone, Copy)]
 pub struct Replayed {
     pub number: usize,
     pub place: usize,

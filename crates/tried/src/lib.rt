@@ -4,7 +4,7 @@ ghost use Rattle.tried.specs.Front.{Least};
 use room::Laid;
 
 // The cells were too few, or the area too short, and the buffer is untouched; or what became of the table.
-#[derive(Drop)]
+#[derive(Clone, Copy)]
 pub enum Tried {
     FewCells,
     Short,

@@ -7,7 +7,7 @@ ghost use Rattle.meaning.specs.Words.{word};
 use wire::word_at;
 
 // The source of a table, and the place where the table starts.
-#[derive(Drop)]
+#[derive(Clone, Copy)]
 pub struct View<'a> {
     pub src: &'a [u8],
     pub at: usize,

@@ -1,4 +1,6 @@
 // Big-endian words, read anywhere.
+#![tactic(auto)]
+
 ghost use Rattle.std.specs.Prelude.{◌≡◌, ◌+◌, ◌*◌, ◌<◌, length, get_or};
 ghost use Rattle.meaning.specs.Words.{word, inside, ascends};
 ghost use Rattle.laws.specs.Left.{column};
