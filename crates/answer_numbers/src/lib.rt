@@ -1,4 +1,6 @@
 // An answer as the number and the length that it is given as, one by one and both in one number.
+#![tactic(auto)]
+
 ghost use Rattle.std.specs.Prelude.{◌≡◌, ◌+◌, ◌*◌, ◌≤◌};
 ghost use Rattle.refusals.specs.Answers.{number_of, length_of};
 

@@ -1,4 +1,6 @@
 // Parts of a layout, written into the area: coverages of glyphs that are noted in cells, and class tables of entries in cells.
+#![tactic(auto)]
+
 ghost use Rattle.std.specs.Prelude.{◌≡◌, true, ◌+◌, ◌-◌, ◌*◌, ◌%◌, ◌<◌, ◌≤◌, length, get_or, replicate, eqb};
 ghost use Rattle.meaning.specs.Words.{threes, keys, ascends};
 ghost use Rattle.meaning.specs.Layout.{indexed, coverage_words, runs, spread, class_words};

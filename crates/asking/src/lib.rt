@@ -1,4 +1,6 @@
 // A lookup of a list, asked at a place of a string.
+#![tactic(auto)]
+
 ghost use Rattle.std.specs.Prelude.{◌≡◌, ◌/◌, ◌<◌, length};
 ghost use Rattle.meaning.specs.Words.{word, words};
 ghost use Rattle.meaning.specs.Tables.{table};

@@ -1,4 +1,6 @@
 // Marks of the numbers from 0 on, one bit each, 32 to a cell, in the cells from `at` on. A number whose cell is past the end has no mark and gets none.
+#![tactic(auto)]
+
 ghost use Rattle.std.specs.Prelude.{◌≡◌, ◌+◌, ◌≤◌, ◌<◌, length};
 ghost use Rattle.bits.specs.Bits.{marked, Put, Cleared};
 

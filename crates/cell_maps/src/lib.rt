@@ -4,6 +4,8 @@
 // With an even mask they are ranks or runs.
 // Ranks, with a mask of their own: marks of the old numbers, and counts of the marks (crate `ranks`). The new number is the rank, so that no entry takes a cell.
 // Runs of pairs in step, counted from 1, two cells each: the first old number times 65,536, plus the first new one, and the last old number. Halving finds the run of a number. The mask of n runs is 4 n + 2, which is never that of ranks.
+#![tactic(auto)]
+
 ghost use Rattle.std.specs.Prelude.{◌≡◌, ◌+◌, ◌*◌, ◌/◌, ◌<◌, ◌≤◌, length};
 ghost use Rattle.ranks.specs.Ranks.{mark_cells};
 ghost use Rattle.cell_maps.specs.Cells.{Inside, no_entry, run_entry, rank_entry, even_entry, RunFound};

@@ -1,4 +1,6 @@
 // Cells of scratch, read and written without a bound: a cell past the end reads as 0 and is not written.
+#![tactic(auto)]
+
 ghost use Rattle.std.specs.Prelude.{◌≡◌, ◌<◌, get_or, set};
 ghost use Rattle.cells.specs.Cleared.{Cleared};
 

@@ -1,4 +1,6 @@
 // The parts that a header reaches by offsets: each is checked, and one that is reached twice is checked once.
+#![tactic(auto)]
+
 ghost use Rattle.std.specs.Prelude.{◌≡◌, true, ◌+◌, ◌*◌, ◌<◌};
 ghost use Rattle.std.proofs.Math.Option.{none};
 ghost use Rattle.meaning.specs.Fault.{lowest, fault_through, enough};

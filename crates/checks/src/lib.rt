@@ -1,4 +1,6 @@
 // Malformed, over the whole source: the header of each kind and format, and through its offsets every part, retained or not. And a format that the kind has not.
+#![tactic(auto)]
+
 ghost use Rattle.std.specs.Prelude.{◌≡◌, true, false, ◌&&◌, not, ◌+◌, ◌*◌, ◌<◌};
 ghost use Rattle.meaning.specs.Words.{word, inside};
 ghost use Rattle.meaning.specs.Subset.{last_format, has_format};

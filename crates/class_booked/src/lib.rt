@@ -1,4 +1,6 @@
 // Format 2 of contexts and chained contexts, written into the area and handed over by a given book: with cells it packs the repeats, without any it does not.
+#![tactic(auto)]
+
 ghost use Rattle.std.specs.Prelude.{◌≡◌, true, ◌+◌, ◌*◌, ◌<◌, length};
 ghost use Rattle.room.specs.Laid.{enough_area};
 ghost use Rattle.member_sets.specs.Dead.{Dead};

@@ -1,4 +1,6 @@
 // The cells of class kerning: the kept rows with the kept cells, written into the area. The places of a cell's fields are counted as `class_formats` counts them.
+#![tactic(auto)]
+
 ghost use Rattle.std.specs.Prelude.{map, ◌+◌, ◌*◌, ◌≤◌, length};
 ghost use Rattle.meaning.specs.Words.{word, find};
 ghost use Rattle.cell_maps.specs.Cells.{Inside};

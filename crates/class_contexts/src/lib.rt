@@ -1,4 +1,6 @@
 // Format 2 of contexts and chained contexts: a coverage, class tables and sets of rules by class; cut in one walk, from the source into the area.
+#![tactic(auto)]
+
 ghost use Rattle.std.specs.Prelude.{◌≤◌, ◌<◌, length};
 ghost use Rattle.meaning.specs.Maps.{map_entries, glyph_entries};
 ghost use Rattle.meaning.specs.Tables.{class_context};

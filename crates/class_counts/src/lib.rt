@@ -1,4 +1,6 @@
 // The header of a pair table by class, with its cells, checked: where neither class table is null, classes are below their counts.
+#![tactic(auto)]
+
 ghost use Rattle.std.specs.Prelude.{◌≡◌, ◌&&◌, ◌*◌, ◌<◌};
 ghost use Rattle.meaning.specs.Fault.{good_formats};
 ghost use Rattle.covered_between.specs.Header.{good_header};

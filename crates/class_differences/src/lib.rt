@@ -1,5 +1,7 @@
 // What differs between two contexts by class, plain or chained (format 2). The subtables stand at the front of their slices. Each covered glyph reaches the set of its class.
 // All classes get numbers first, then all rules; then each id is asked in both coverages. `num`, `nums`, `heads` and `links` are as set_differences has them, lent, whatever they hold.
+#![tactic(auto)]
+
 ghost use Rattle.std.specs.Prelude.{◌≡◌, cond, ◌+◌, ◌≤◌, ◌<◌, length, eqb};
 ghost use Rattle.meaning.specs.Words.{up_from};
 ghost use Rattle.meaning.specs.Tables.{table};

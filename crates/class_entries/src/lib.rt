@@ -1,4 +1,6 @@
 // The entries of a new class table, from the classes that are listed in cells and their class map.
+#![tactic(auto)]
+
 ghost use Rattle.std.specs.Prelude.{◌≡◌, ◌+◌, ◌-◌, ◌≤◌, ◌<◌};
 ghost use Rattle.std.proofs.Math.Option.{get_or};
 ghost use Rattle.cell_maps.specs.Cells.{Inside, folded};

@@ -1,4 +1,6 @@
 // Format 2 of contexts and chained contexts: the table is put together around its sets, and what is answered where the area has no room for it.
+#![tactic(auto)]
+
 ghost use Rattle.std.specs.Prelude.{◌≡◌, true, ◌+◌, ◌*◌, ◌≤◌, ◌<◌, length};
 ghost use Rattle.known_blocks.specs.Book.{book_cells, packs};
 ghost use Rattle.remade_classes.specs.Tail.{cover_of, table_blocks};

@@ -1,5 +1,7 @@
 // The new value formats of class kerning: a field stays if some kept cell has it nonzero.
 // A cell is a pair record without its second glyph. So the places of its fields are counted from two bytes before it, as in a pair record: `p` is that place.
+#![tactic(auto)]
+
 ghost use Rattle.std.specs.Prelude.{◌≡◌, ◌&&◌, not, ◌+◌, ◌*◌, ◌≤◌, length, eqb};
 ghost use Rattle.meaning.specs.Words.{word, find, is_some};
 ghost use Rattle.meaning.specs.Tables.{field_count};

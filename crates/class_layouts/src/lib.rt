@@ -1,4 +1,6 @@
 // The layout of format 2 of contexts and chained contexts, plain or packed as it is asked for, and by whether its sets share rules.
+#![tactic(auto)]
+
 ghost use Rattle.std.specs.Prelude.{◌<◌, length};
 ghost use Rattle.room.specs.Laid.{enough_area};
 ghost use Rattle.member_sets.specs.Dead.{Dead};

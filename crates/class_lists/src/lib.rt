@@ -1,5 +1,7 @@
 // The classes of the retained glyphs, in cells: one for each whose class is not 0, its new number times 65,536, plus the class, ascending.
 // Map and class table both ascend, so that one walk over both finds the classes: each search begins where the last one ended, and halves. It costs the retained glyphs that have a class other than 0 and the stretches of one class that are met, never the glyphs of a run or of a range.
+#![tactic(auto)]
+
 ghost use Rattle.std.specs.Prelude.{◌≡◌, ◌||◌, ◌+◌, ◌≤◌, ◌<◌, eqb};
 ghost use Rattle.meaning.specs.Maps.{glyph_entries};
 ghost use Rattle.glyph_runs.specs.Runs.{GlyphMap};

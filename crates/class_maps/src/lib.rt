@@ -1,4 +1,6 @@
 // Class maps: the classes that survive, which are listed in cells, and their new numbers, laid into other cells.
+#![tactic(auto)]
+
 ghost use Rattle.std.specs.Prelude.{◌≡◌, ◌+◌, ◌-◌, ◌<◌};
 ghost use Rattle.meaning.specs.Cut.{class_map, second_map};
 ghost use Rattle.ranked_maps.specs.Present.{top_of};

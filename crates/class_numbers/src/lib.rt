@@ -1,5 +1,7 @@
 // Numbers for the classes of two class tables, equal exactly if the same ids hold the classes: a class of the one is so compared with a class of the other in one step.
 // Both tables are walked by stretches of ids that hold one class, so that a walk costs their ranges, not the 65,536 ids.
+#![tactic(auto)]
+
 ghost use Rattle.std.specs.Prelude.{◌≡◌, ◌+◌, ◌≤◌, ◌<◌, length};
 ghost use Rattle.meaning.specs.Parts.{class_in};
 ghost use Rattle.class_stretches.specs.Tables.{table_at, NullOrSound};

@@ -1,4 +1,6 @@
 // A class map in cells, one for each class. `ranked_maps` has the other form, for classes that are too high for that.
+#![tactic(auto)]
+
 ghost use Rattle.std.specs.Prelude.{◌≡◌, cond, ◌+◌, ◌-◌, ◌<◌, set};
 ghost use Rattle.cell_maps.specs.Cells.{ranked_mask};
 ghost use Rattle.area.specs.Part.{news};

@@ -1,4 +1,6 @@
 // One class table of a context by class, in cells: its classes are listed, and its class map is laid; that of the input has marks of the classes that covered glyphs hold.
+#![tactic(auto)]
+
 ghost use Rattle.std.specs.Prelude.{◌≡◌, ◌<◌};
 ghost use Rattle.meaning.specs.Maps.{glyph_entries};
 ghost use Rattle.class_sides.specs.Sides.{mark_cells, Asks, Sided, InputAsks, InputLaid};

@@ -1,4 +1,6 @@
 // Format 2 of contexts: the sets of the surviving classes, written one after the other into the area, behind a place for the header and for a slot each.
+#![tactic(auto)]
+
 ghost use Rattle.std.specs.Prelude.{◌≡◌, true, map, ◌+◌, ◌*◌, ◌≤◌, ◌<◌, length};
 ghost use Rattle.std.proofs.lemmas.List.Edits.{sets};
 ghost use Rattle.meaning.specs.Words.{words, flat};

@@ -1,5 +1,7 @@
 // From the lowest ids of the classes of two class tables to the classes' numbers, in cells: classes that share an id and whose lowest ids differ stray.
 // Both tables are walked by stretches of ids that hold one class.
+#![tactic(auto)]
+
 ghost use Rattle.std.specs.Prelude.{◌≡◌, cond, ◌+◌, ◌≤◌, ◌<◌, length, ltb};
 ghost use Rattle.meaning.specs.Parts.{class_in};
 ghost use Rattle.class_stretches.specs.Tables.{table_at, NullOrSound};

@@ -1,4 +1,6 @@
 // The class of a glyph in a class table, and how far the glyphs that follow it hold the same class.
+#![tactic(auto)]
+
 ghost use Rattle.std.specs.Prelude.{◌≡◌, ◌+◌, ◌≤◌, ◌<◌};
 ghost use Rattle.meaning.specs.Parts.{class_in};
 ghost use Rattle.class_stretches.specs.Tables.{table_at, NullOrSound, array_at, ArrayInside};

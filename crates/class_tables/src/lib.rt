@@ -1,4 +1,6 @@
 // Contexts by class: the set that a glyph reaches, and the classes of two contexts, numbered. The class tables are those of backtrack, input and lookahead; in a plain context those of backtrack and lookahead are null.
+#![tactic(auto)]
+
 ghost use Rattle.std.specs.Prelude.{◌≡◌, ◌≤◌, ◌<◌, length};
 ghost use Rattle.class_stretches.specs.Tables.{NullOrSound};
 ghost use Rattle.class_lists.specs.Elsewhere.{Elsewhere};

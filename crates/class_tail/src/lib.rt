@@ -1,4 +1,6 @@
 // What follows the sets of format 2 of contexts and chained contexts, written into the area: the coverage, from what cells hold, and the class tables, each made again from the source when it is written.
+#![tactic(auto)]
+
 ghost use Rattle.std.specs.Prelude.{◌≡◌, true, ◌≤◌, ◌<◌, length};
 ghost use Rattle.meaning.specs.Maps.{glyph_entries};
 ghost use Rattle.known_blocks.specs.Book.{book_cells, packs};

@@ -1,5 +1,7 @@
 // Pairs by class: whether the first class of each covered glyph and the second class of any glyph are below their counts.
 // Class tables are gone over by their stretches, a range or an id of an array each, never glyph by glyph, and a coverage is searched only for those whose class is not below its count.
+#![tactic(auto)]
+
 ghost use Rattle.std.specs.Prelude.{◌≡◌, true, ◌&&◌, ◌+◌, ◌*◌, ◌<◌, length, get_or, ltb};
 ghost use Rattle.meaning.specs.Words.{every};
 ghost use Rattle.meaning.specs.Parts.{coverage, coverage_sound, classes, classes_sound, class_of};

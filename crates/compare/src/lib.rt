@@ -1,4 +1,6 @@
 // The call that compares: a kind, two subtables of it and a lent buffer, and the first answer that applies, the left subtable's refusals first.
+#![tactic(auto)]
+
 ghost use Rattle.std.specs.Prelude.{◌≡◌, ◌+◌, ◌*◌, ◌<◌};
 ghost use Rattle.differences.specs.Compare.{refusal, compare};
 ghost use Rattle.compare_refusals.specs.Answers.{number_of, length_of, compared_of, decoded};

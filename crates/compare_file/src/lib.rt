@@ -1,4 +1,6 @@
 // Compare files: two subtables anywhere, and a trailer that says their kind and points back to them. And the text that is printed for one.
+#![tactic(auto)]
+
 ghost use Rattle.std.specs.Prelude.{◌≡◌, true, ◌≤◌, ◌<◌, length};
 ghost use Rattle.meaning.specs.Job.{bytes_of};
 ghost use Rattle.report_lines.specs.Text.{Put};

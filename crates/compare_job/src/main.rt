@@ -1,4 +1,6 @@
 // The program: reads a compare file from standard input, whose last 22 bytes say a kind and point back to two subtables of it, and prints the answer of the comparison and, where there is one, the list.
+#![tactic(auto)]
+
 ghost use Rattle.std.specs.Prelude.{◌≡◌, ◌≤◌, length, replicate};
 ghost use Rattle.report_lines.specs.Text.{Put, Printable};
 ghost use Rattle.compare_job.specs.Program.{compare_file, said, outcome_of, program, room, text_room};

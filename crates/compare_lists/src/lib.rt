@@ -1,4 +1,6 @@
 // What differs between two sound subtables of a kind, listed in the lent buffer if there is room for all of it.
+#![tactic(auto)]
+
 ghost use Rattle.std.specs.Prelude.{◌≡◌, true, false, ◌+◌, ◌≤◌, ◌<◌, length};
 ghost use Rattle.meaning.specs.Words.{word};
 ghost use Rattle.meaning.specs.Tables.{table};

@@ -1,4 +1,6 @@
 // The answers of the call that compares, and why it is refused, the left subtable first.
+#![tactic(auto)]
+
 ghost use Rattle.std.specs.Prelude.{◌≡◌, false, ◌&&◌, not, ◌<◌};
 ghost use Rattle.meaning.specs.Words.{word, inside};
 ghost use Rattle.differences.specs.Compare.{compared_kind, compared_format, table_refusal, refusal};

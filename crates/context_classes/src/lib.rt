@@ -1,4 +1,6 @@
 // All class tables of a context by class: their class maps in cells, one behind the other, and what the writing goes by.
+#![tactic(auto)]
+
 ghost use Rattle.std.specs.Prelude.{◌≡◌};
 ghost use Rattle.context_classes.specs.Meaning.{back_at, input_at, ahead_at};
 ghost use Rattle.context_classes.specs.Cutting.{prepared_of, Begins, ClassesLaid};

@@ -1,5 +1,7 @@
 // Contexts and chained contexts of format 3, written into the area: the header, the records that stay, and what is left of the coverages.
 // The area's header has its parts where the source has them, since each row of coverages stays whole.
+#![tactic(auto)]
+
 ghost use Rattle.std.specs.Prelude.{true, false};
 ghost use Rattle.known_blocks.specs.Book.{packs};
 ghost use Rattle.cover_contexts.specs.Context.{Asks, Begins, Writes};

@@ -1,4 +1,6 @@
 // What differs between two contexts by coverages (format 3): one rule each, compared as it stands. A coverage is its glyphs, in whichever format they are listed.
+#![tactic(auto)]
+
 ghost use Rattle.std.specs.Prelude.{◌≡◌, true, ◌+◌, ◌*◌, ◌≤◌, ◌<◌, eqb};
 ghost use Rattle.std.proofs.Math.Option.{none};
 ghost use Rattle.meaning.specs.Words.{word, entries};

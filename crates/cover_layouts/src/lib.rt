@@ -1,4 +1,6 @@
 // Format 3 of contexts, written into the area in the layout that is asked for: plain, or packed by a book of its coverages.
+#![tactic(auto)]
+
 ghost use Rattle.std.specs.Prelude.{true, ◌-◌};
 ghost use Rattle.cover_contexts.specs.Context.{Asks, Writes};
 ghost use Rattle.cover_layouts.specs.Cutting.{is_packed};

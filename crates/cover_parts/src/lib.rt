@@ -1,4 +1,6 @@
 // Where the parts of a context by coverages stand, and how many glyphs can be noted of one of its coverages.
+#![tactic(auto)]
+
 ghost use Rattle.std.specs.Prelude.{◌≡◌, true, false, ◌-◌};
 ghost use Rattle.std.proofs.Math.Option.{none};
 ghost use Rattle.meaning.specs.Parts.{coverage_sound};

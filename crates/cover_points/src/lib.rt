@@ -1,4 +1,6 @@
 // The offset of a coverage that was written into the area, and what is noted where nothing of it is left.
+#![tactic(auto)]
+
 ghost use Rattle.std.specs.Prelude.{◌-◌};
 ghost use Rattle.meaning.specs.Maps.{glyph_entries};
 ghost use Rattle.cover_parts.specs.Rows.{Passes, Placing, Points, slot_left};

@@ -1,4 +1,6 @@
 // Contexts by coverages: the rows of offsets that reach coverages, of which what is left is written into the area.
+#![tactic(auto)]
+
 ghost use Rattle.std.specs.Prelude.{◌-◌, ◌≤◌};
 ghost use Rattle.std.proofs.lemmas.List.Edits.{sets};
 ghost use Rattle.meaning.specs.Words.{bytes2};

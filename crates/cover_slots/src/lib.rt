@@ -1,4 +1,6 @@
 // One offset of a context by coverages: what is left of the coverage that it reaches, written into the area.
+#![tactic(auto)]
+
 ghost use Rattle.std.specs.Prelude.{◌-◌};
 ghost use Rattle.meaning.specs.Maps.{glyph_entries};
 ghost use Rattle.cover_parts.specs.Rows.{WritesSlot, left_at, slot_left, LaysLeft};

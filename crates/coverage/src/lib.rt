@@ -1,4 +1,6 @@
 // Coverage tables: the covered glyphs in order, listed one by one (format 1) or in ranges (format 2). Checked.
+#![tactic(auto)]
+
 ghost use Rattle.std.specs.Prelude.{◌≡◌, true, ◌&&◌, ◌+◌, ◌*◌, ◌<◌, leb, eqb};
 ghost use Rattle.meaning.specs.Words.{triples};
 ghost use Rattle.meaning.specs.Parts.{ranges_ascend, ranges_count, coverage_sound};

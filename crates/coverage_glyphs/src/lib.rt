@@ -1,4 +1,6 @@
 // The glyphs of a sound coverage, counted, and read by their coverage indices.
+#![tactic(auto)]
+
 ghost use Rattle.std.specs.Prelude.{◌≡◌, true, ◌+◌, ◌*◌, ◌<◌, length};
 ghost use Rattle.meaning.specs.Words.{triples};
 ghost use Rattle.meaning.specs.Parts.{range_glyphs, coverage, coverage_sound};

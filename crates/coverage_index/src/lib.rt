@@ -1,4 +1,6 @@
 // The coverage index of a glyph: its place among the covered glyphs, found by halving.
+#![tactic(auto)]
+
 ghost use Rattle.std.specs.Prelude.{◌≡◌, true, ◌<◌};
 ghost use Rattle.meaning.specs.Words.{words, triples};
 ghost use Rattle.meaning.specs.Parts.{range_glyphs, coverage, coverage_sound};

@@ -1,4 +1,6 @@
 // Whether a coverage has a glyph between two, and so whether a class that is not below its count is held by a covered glyph.
+#![tactic(auto)]
+
 ghost use Rattle.std.specs.Prelude.{◌≡◌, true, ◌&&◌, not, ◌+◌, ◌*◌, ◌≤◌, ◌<◌, ltb};
 ghost use Rattle.meaning.specs.Words.{words, triples};
 ghost use Rattle.meaning.specs.Parts.{range_glyphs, coverage, coverage_sound};

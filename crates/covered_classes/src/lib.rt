@@ -1,4 +1,6 @@
 // The classes that covered glyphs hold, marked by a bit each.
+#![tactic(auto)]
+
 ghost use Rattle.std.specs.Prelude.{◌≡◌, ◌+◌, ◌-◌, ◌≤◌, ◌<◌, length};
 ghost use Rattle.area.specs.Part.{notes};
 ghost use Rattle.covered_classes.specs.Covered.{first_class, Passes, Coverable, Met, Covered};

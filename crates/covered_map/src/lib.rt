@@ -1,4 +1,6 @@
 // The glyph map of a coverage's retained glyphs, laid as entries from the front of the area on: what goes by a glyph map can so go by these glyphs alone.
+#![tactic(auto)]
+
 ghost use Rattle.meaning.specs.Words.{twos};
 ghost use Rattle.meaning.specs.Parts.{coverage};
 ghost use Rattle.laws.specs.Written.{Wrote};

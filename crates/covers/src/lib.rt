@@ -1,4 +1,6 @@
 // Format 3 of contexts and chained contexts: coverages for backtrack, input and lookahead, and records; cut in one walk, from the source into the area.
+#![tactic(auto)]
+
 ghost use Rattle.std.specs.Prelude.{true, ◌+◌, ◌-◌, ◌*◌, ◌≤◌, ◌<◌, length};
 ghost use Rattle.meaning.specs.Maps.{map_entries, glyph_entries};
 ghost use Rattle.cover_contexts.specs.Context.{MostNotes};

@@ -1,4 +1,6 @@
 // What is left of a sound source, with the work space: lent, or our own in few sizes.
+#![tactic(auto)]
+
 ghost use Rattle.std.specs.Prelude.{◌≡◌, true, false, ◌<◌};
 ghost use Rattle.meaning.specs.Maps.{map_entries, glyph_entries};
 ghost use Rattle.meaning.specs.Tables.{table};

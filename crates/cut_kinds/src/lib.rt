@@ -1,4 +1,6 @@
 // What is left of a sound source, by its kind and its format, with lent scratch.
+#![tactic(auto)]
+
 ghost use Rattle.std.specs.Prelude.{true, false, [], ◌<◌, length};
 ghost use Rattle.meaning.specs.Maps.{map_entries, glyph_entries};
 ghost use Rattle.meaning.specs.Tables.{context, pair_table, table};

@@ -1,4 +1,6 @@
 // Tables of sets by covered glyph, for sets that have no value formats: the retained covered glyphs are noted in cells, and what is left of the table is written.
+#![tactic(auto)]
+
 ghost use Rattle.std.specs.Prelude.{◌≡◌, false, ◌+◌, ◌≤◌, ◌<◌, length, eqb};
 ghost use Rattle.meaning.specs.Words.{word};
 ghost use Rattle.meaning.specs.Maps.{glyph_entries};

@@ -1,4 +1,6 @@
 // The sizes of scratch: those that are enough for any source, those that our own comes in, and which of these a source is likely to need.
+#![tactic(auto)]
+
 ghost use Rattle.std.specs.Prelude.{◌≡◌, false, ◌≤◌, ◌<◌};
 ghost use Rattle.cut_sizes.specs.Cutting.{pairs_by_class};
 

@@ -1,1 +1,2 @@
 // Laws on what differs, and what is promised of it: see specs/. There is no code here.
+#![tactic(auto)]

@@ -1,4 +1,6 @@
 // What a check answers, and the lower of two answers.
+#![tactic(auto)]
+
 ghost use Rattle.std.specs.Prelude.{◌≡◌, ◌<◌};
 ghost use Rattle.meaning.specs.Fault.{lowest};
 ghost use Rattle.faults.specs.Fault.{fault_of, place_of};

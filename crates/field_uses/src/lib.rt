@@ -1,4 +1,6 @@
 // The fields of a pair record that stay: those that some surviving pair of the sets that notes name has nonzero.
+#![tactic(auto)]
+
 ghost use Rattle.std.specs.Prelude.{◌≡◌, ◌+◌, ◌*◌, ◌<◌, ◌≤◌, length};
 ghost use Rattle.meaning.specs.Words.{word};
 ghost use Rattle.meaning.specs.Tables.{field_count};

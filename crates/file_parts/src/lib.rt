@@ -1,4 +1,6 @@
 // Parts of a file whose start and length stand in its trailer, in four bytes each.
+#![tactic(auto)]
+
 ghost use Rattle.std.specs.Prelude.{◌≡◌, true, ◌<◌, length};
 ghost use Rattle.meaning.specs.Job.{part_at, bytes_of};
 ghost use Rattle.file_parts.specs.Parts.{ends_by};

@@ -1,4 +1,6 @@
 // Glyph maps in cells: a listed map of pairs or of runs, laid.
+#![tactic(auto)]
+
 ghost use Rattle.std.specs.Prelude.{◌≡◌, true, ◌+◌, ◌*◌, ◌/◌, ◌<◌};
 ghost use Rattle.meaning.specs.Maps.{good_runs, good_glyph_map};
 ghost use Rattle.cell_maps.specs.Runs.{LaidRuns, LaidGlyphs};

@@ -1,4 +1,6 @@
 // Listed maps of pairs in cells: how many cells they take, and how they are laid.
+#![tactic(auto)]
+
 ghost use Rattle.std.specs.Prelude.{true, [], ◌+◌, ◌*◌, ◌/◌, ◌<◌, ◌≤◌};
 ghost use Rattle.cell_maps.specs.Cells.{Inside, Odd, Holds, Kept};
 ghost use Rattle.cell_maps.specs.Laid.{Power, Next, Added, LaidIn, Laid};

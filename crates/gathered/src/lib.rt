@@ -1,4 +1,6 @@
 // The numbers of the rules of a set, gathered in cells: two sets are compared by them.
+#![tactic(auto)]
+
 ghost use Rattle.std.specs.Prelude.{◌+◌, ◌<◌, length};
 ghost use Rattle.gathered.specs.Gathered.{numbers_at, Gathers, Gathered};
 

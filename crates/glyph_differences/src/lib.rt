@@ -1,5 +1,7 @@
 // What differs between two subtables whose rules are reached by coverage index: contexts, plain or chained, of format 1, and ligatures (kinds 1 to 3). The subtables stand at the front of their slices.
 // All rules get numbers first; then each id is asked in both coverages. `num`, `nums`, `heads` and `links` are as set_differences has them, lent, whatever they hold.
+#![tactic(auto)]
+
 ghost use Rattle.std.specs.Prelude.{◌+◌, ◌≤◌, ◌<◌, length, eqb};
 ghost use Rattle.meaning.specs.Words.{up_from};
 ghost use Rattle.meaning.specs.Tables.{table};

@@ -1,4 +1,6 @@
 // A glyph map as runs, in either form: six bytes a run, or four bytes a pair, which is a run of one.
+#![tactic(auto)]
+
 ghost use Rattle.std.specs.Prelude.{◌≡◌, ◌/◌, ◌≤◌, ◌<◌, length};
 ghost use Rattle.glyph_runs.specs.Runs.{GlyphMap, run_count, IsRun, Past, Reached};
 

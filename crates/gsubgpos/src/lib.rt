@@ -1,4 +1,6 @@
 // Sets of rules of contexts, plain and chained, and of ligatures: checked. The work: the check looks once at the counts of each member.
+#![tactic(auto)]
+
 ghost use Rattle.std.specs.Prelude.{◌≡◌, true, cond, ◌+◌, ◌*◌, ◌≤◌, ◌<◌, length, eqb};
 ghost use Rattle.std.proofs.Math.Option.{none};
 ghost use Rattle.meaning.specs.Words.{word};

@@ -1,4 +1,6 @@
 // Halving: among numbers of a source that ascend, the first that is not below a value.
+#![tactic(auto)]
+
 ghost use Rattle.std.specs.Prelude.{◌≤◌, ◌<◌};
 ghost use Rattle.halving.specs.Rising.{Rising, Reached};
 

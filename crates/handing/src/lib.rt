@@ -1,4 +1,6 @@
 // A layout in the area is finished: a gap between its head and its members is closed, and it is handed over to the buffer, which only this writes.
+#![tactic(auto)]
+
 ghost use Rattle.std.specs.Prelude.{◌≡◌, ◌++◌, ◌+◌, ◌-◌, ◌*◌, ◌<◌, ◌≤◌, length};
 ghost use Rattle.std.proofs.lemmas.List.Edits.{sets};
 ghost use Rattle.meaning.specs.Words.{words, flat};

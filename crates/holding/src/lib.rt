@@ -1,4 +1,6 @@
 // Sequences of numbers held against the glyphs of a string: numbers are glyphs, classes, or the offsets of coverages. A string is `n` glyphs in a slice, two bytes a glyph.
+#![tactic(auto)]
+
 ghost use Rattle.std.specs.Prelude.{◌≡◌, true, ◌+◌, ◌*◌, ◌≤◌, ◌<◌, drop};
 ghost use Rattle.meaning.specs.Words.{words};
 ghost use Rattle.meaning.specs.Parts.{coverage_sound};

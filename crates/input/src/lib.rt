@@ -1,4 +1,6 @@
 // Standard input, read to its end into a lent buffer.
+#![tactic(auto)]
+
 ghost use Rattle.std.specs.Prelude.{◌≤◌, length};
 ghost use Rattle.input.specs.Input.{Within};
 

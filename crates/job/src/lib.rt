@@ -1,4 +1,6 @@
 // The label job: a lent file whose last 30 bytes, the trailer, point back to a table, a glyph map and a lookup map.
+#![tactic(auto)]
+
 ghost use Rattle.std.specs.Prelude.{◌≡◌};
 ghost use Rattle.meaning.specs.Job.{job};
 ghost use Rattle.refusals.specs.Answers.{outcome};

@@ -1,4 +1,6 @@
 // Whether a file is a label job: its length, its tag and its parts.
+#![tactic(auto)]
+
 ghost use Rattle.std.specs.Prelude.{◌≡◌, ◌+◌, ◌≤◌, ◌<◌, length};
 ghost use Rattle.meaning.specs.Job.{part_at, before, good_job};
 

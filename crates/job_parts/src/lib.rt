@@ -1,4 +1,6 @@
 // The parts of a label job that its trailer points back to.
+#![tactic(auto)]
+
 ghost use Rattle.std.specs.Prelude.{◌≡◌, true, ◌+◌, ◌<◌};
 ghost use Rattle.meaning.specs.Job.{long, part_at, table_part, glyph_part, lookup_part, before, good_job, bytes_of};
 

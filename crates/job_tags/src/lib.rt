@@ -1,4 +1,6 @@
 // The tags that a label job ends in, one for each form of glyph map.
+#![tactic(auto)]
+
 ghost use Rattle.std.specs.Prelude.{◌≡◌, true, ◌+◌, ◌≤◌, ◌<◌, length};
 ghost use Rattle.meaning.specs.Job.{eq_list, runs_tag, ends_in, tagged, form_of};
 

@@ -1,4 +1,6 @@
 // Format 1 of each kind: the table is put together around its kept sets.
+#![tactic(auto)]
+
 ghost use Rattle.std.specs.Prelude.{[], ◌∷◌, ◌++◌, ◌≡◌, ◌-◌, ◌≤◌, length, ltb};
 ghost use Rattle.laws.specs.Written.{Wrote};
 ghost use Rattle.placed_sets.specs.Sorts.{more_of, header_size};

@@ -1,4 +1,6 @@
 // Format 1 of each kind: the sets of the retained covered glyphs, written one after the other into the area, behind a place for the header and for an offset each.
+#![tactic(auto)]
+
 ghost use Rattle.std.specs.Prelude.{◌≤◌, length};
 ghost use Rattle.room.specs.Laid.{enough_area};
 ghost use Rattle.kept_rules.specs.Left.{maps_in};

@@ -1,4 +1,6 @@
 // One offset of a context by coverages whose coverage is not written yet: what is left of it, written into the area.
+#![tactic(auto)]
+
 ghost use Rattle.std.specs.Prelude.{◌-◌, ◌≤◌, length};
 ghost use Rattle.meaning.specs.Maps.{glyph_entries};
 ghost use Rattle.cover_parts.specs.Rows.{WritesSlot, left_at, slot_left, LaysLeft};

@@ -1,4 +1,6 @@
 // The table of the kept sets of format 1: the sets are written into the area, the table is put together around them, and it is handed over to the buffer.
+#![tactic(auto)]
+
 ghost use Rattle.std.specs.Prelude.{◌-◌, ◌≤◌, length, eqb};
 ghost use Rattle.room.specs.Laid.{enough_area};
 ghost use Rattle.kept_rules.specs.Left.{maps_in};

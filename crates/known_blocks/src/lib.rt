@@ -1,4 +1,6 @@
 // A book of blocks of one kind that stand in the area one after the other: by it one that is equal to an earlier one is found.
+#![tactic(auto)]
+
 ghost use Rattle.std.specs.Prelude.{◌≡◌, ◌+◌, ◌-◌, ◌*◌, ◌≤◌, ◌<◌, length, get_or};
 ghost use Rattle.meaning.specs.Words.{words, eq_list};
 ghost use Rattle.known_blocks.specs.Book.{start_of, alike, Begun, Noted, Found};

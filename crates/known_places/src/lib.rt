@@ -1,4 +1,6 @@
 // A book of blocks, asked by a place of the source: where the block stands that came from there.
+#![tactic(auto)]
+
 ghost use Rattle.std.specs.Prelude.{◌+◌, ◌-◌, ◌*◌, ◌<◌, get_or};
 ghost use Rattle.known_blocks.specs.Book.{Again};
 

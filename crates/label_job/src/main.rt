@@ -1,4 +1,6 @@
 // The program: reads a label job from standard input, and prints what is kept of its table, or the number of the refusal.
+#![tactic(auto)]
+
 ghost use Rattle.std.specs.Prelude.{◌≡◌, ◌≤◌, length, replicate};
 ghost use Rattle.meaning.specs.Job.{room};
 ghost use Rattle.report_lines.specs.Lengths.{text_room};

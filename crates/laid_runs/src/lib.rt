@@ -1,4 +1,6 @@
 // A run of a listed glyph map, laid into cells: as a run, or pair by pair.
+#![tactic(auto)]
+
 ghost use Rattle.std.specs.Prelude.{◌≡◌, true, ◌+◌, ◌*◌, ◌/◌, ◌<◌, length};
 ghost use Rattle.meaning.specs.Words.{word};
 ghost use Rattle.meaning.specs.Maps.{good_runs};

@@ -1,4 +1,6 @@
 // A ligature: checked.
+#![tactic(auto)]
+
 ghost use Rattle.std.specs.Prelude.{◌≡◌, ◌+◌, ◌-◌, ◌*◌, ◌<◌};
 ghost use Rattle.meaning.specs.Fault.{ligature_fault};
 ghost use Rattle.faults.specs.Fault.{fault_of};

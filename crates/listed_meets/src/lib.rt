@@ -1,4 +1,6 @@
 // Whether a glyph map has one of the listed glyphs of a coverage.
+#![tactic(auto)]
+
 ghost use Rattle.std.specs.Prelude.{◌≡◌, true, ◌+◌, ◌*◌, ◌/◌, ◌≤◌, ◌<◌, length};
 ghost use Rattle.meaning.specs.Words.{words};
 ghost use Rattle.listed_meets.specs.Answered.{answered};

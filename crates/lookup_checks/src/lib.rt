@@ -1,4 +1,6 @@
 // The lookups of a list, checked as the subsetter checks its sources: 4, 5, 6 or 12 for the first faulty one.
+#![tactic(auto)]
+
 ghost use Rattle.std.specs.Prelude.{◌≡◌, true, ◌*◌, ◌/◌, ◌<◌, length};
 ghost use Rattle.meaning.specs.Words.{word};
 ghost use Rattle.replaying.specs.Listed.{listed, good_list, lookup_refusal, first_refusal};

@@ -1,4 +1,6 @@
 // The list of lookups: kind, start and length in a lent buffer, 10 bytes each. Read, and tested.
+#![tactic(auto)]
+
 ghost use Rattle.std.specs.Prelude.{◌≡◌, ◌||◌, ◌+◌, ◌≤◌, ◌<◌, length, eqb};
 ghost use Rattle.meaning.specs.Job.{long, bytes_of};
 ghost use Rattle.replaying.specs.Listed.{entry_at, good_entry, good_list};

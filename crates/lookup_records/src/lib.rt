@@ -1,4 +1,6 @@
 // Records of lookups, renumbered straight into the area: those whose lookup stays.
+#![tactic(auto)]
+
 ghost use Rattle.std.proofs.Math.Option.{some};
 ghost use Rattle.std.specs.Prelude.{◌∷◌, ◌+◌, ◌-◌, ◌*◌, ◌<◌, ◌≤◌, length};
 ghost use Rattle.meaning.specs.Words.{entries, twos, find};

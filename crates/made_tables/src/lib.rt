@@ -1,4 +1,6 @@
 // Tables at the limits and glyph maps, made in a buffer for `vectors`, and what is left of the tables.
+#![tactic(auto)]
+
 ghost use Rattle.std.specs.Prelude.{◌≤◌, ◌<◌};
 
 use put_words::{put, put_entry, put_record};

@@ -1,4 +1,6 @@
 // Good glyph maps of runs: six bytes a run, first old word, first new word and count, for that many pairs in step.
+#![tactic(auto)]
+
 ghost use Rattle.std.specs.Prelude.{◌≡◌, ◌&&◌, ◌+◌, ◌<◌, leb, ltb};
 ghost use Rattle.meaning.specs.Maps.{good_runs};
 

@@ -1,5 +1,7 @@
 // Good maps. A lookup map has four bytes an entry, an old word and its new word, the old ones strictly ascending.
 // A glyph map has that too, the new ones strictly ascending as well, or six bytes a run: first old word, first new word and count, for that many pairs in step.
+#![tactic(auto)]
+
 ghost use Rattle.std.specs.Prelude.{◌≡◌, ◌+◌, ◌<◌};
 ghost use Rattle.meaning.specs.Maps.{good_glyphs, good_lookups, good_glyph_map};
 

@@ -1,4 +1,6 @@
 // Matching contexts, plain and chained, at a place of a string. A string is `n` glyphs in a slice, two bytes a glyph.
+#![tactic(auto)]
+
 ghost use Rattle.std.specs.Prelude.{◌≡◌, true, false, [], suc, ◌<◌, drop};
 ghost use Rattle.std.proofs.Math.Option.{none};
 ghost use Rattle.meaning.specs.Words.{words};

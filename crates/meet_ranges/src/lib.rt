@@ -1,4 +1,6 @@
 // Where a listed glyph map meets the ranges of a coverage: the covered glyphs that the map has, noted in cells.
+#![tactic(auto)]
+
 ghost use Rattle.std.specs.Prelude.{◌+◌, ◌*◌, ◌/◌, ◌<◌};
 ghost use Rattle.meaning.specs.Words.{triples};
 ghost use Rattle.meaning.specs.Parts.{range_glyphs};

@@ -1,5 +1,7 @@
 // Where a glyph map in either form meets a coverage: the covered glyphs that the map has, noted in cells.
 // Runs meet ranges stretch by stretch: a range costs the glyphs of it that the map has, a step for each run that has some, and a few to find the first.
+#![tactic(auto)]
+
 ghost use Rattle.std.specs.Prelude.{◌+◌, ◌<◌};
 ghost use Rattle.meaning.specs.Words.{triples, find};
 ghost use Rattle.meaning.specs.Maps.{glyph_entries};

@@ -1,4 +1,6 @@
 // Whether a glyph map in either form meets a coverage, and a bound for how often.
+#![tactic(auto)]
+
 ghost use Rattle.std.specs.Prelude.{◌≡◌, true, ◌+◌, ◌<◌};
 ghost use Rattle.meaning.specs.Words.{triples, find, is_some};
 ghost use Rattle.meaning.specs.Maps.{glyph_entries};

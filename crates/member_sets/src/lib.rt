@@ -1,4 +1,6 @@
 // Sets whose members are written one after the other, behind a place for the count and for each offset of the source: what is left is put together.
+#![tactic(auto)]
+
 ghost use Rattle.std.specs.Prelude.{◌+◌, ◌*◌, ◌≤◌, ◌<◌, length};
 ghost use Rattle.member_sets.specs.Sets.{ClosedSet};
 

@@ -1,4 +1,6 @@
 // The lookups that records name: 17 where one is not of the list, in any rule, reached by a run or not.
+#![tactic(auto)]
+
 ghost use Rattle.std.specs.Prelude.{◌≡◌, true, ◌/◌, length, replicate};
 ghost use Rattle.replaying.specs.Listed.{good_list, lookups_of, all_named};
 

@@ -1,4 +1,6 @@
 // One new class table, written into the area behind those so far, or placed as an equal one before it.
+#![tactic(auto)]
+
 ghost use Rattle.std.specs.Prelude.{◌+◌, ◌<◌};
 ghost use Rattle.remade_classes.specs.Made.{table_block, TableIn};
 ghost use Rattle.remade_classes.specs.Tail.{BlockAsked, PlacedTable};

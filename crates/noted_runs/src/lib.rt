@@ -1,4 +1,6 @@
 // One run of a glyph map, met with glyphs in a row: those that it has are noted in cells.
+#![tactic(auto)]
+
 ghost use Rattle.std.specs.Prelude.{◌≡◌, ◌+◌, ◌≤◌, ◌<◌, length};
 ghost use Rattle.noted_runs.specs.Walks.{NotedSteps, MeetsRun, InRun};
 

@@ -1,5 +1,7 @@
 // Numbers of the source, renumbered straight into the area: sequences of glyphs or of classes.
 // A writer answers the place after what it wrote, which is 0 where nothing is left, and more than the area's length where there is no room.
+#![tactic(auto)]
+
 ghost use Rattle.std.specs.Prelude.{◌≡◌, ◌||◌, [], ◌∷◌, ◌+◌, ◌-◌, ◌*◌, ◌<◌, ◌≤◌, length, eqb, ltb};
 ghost use Rattle.std.proofs.Math.Option.{some};
 ghost use Rattle.meaning.specs.Words.{words, find, map_all};

@@ -1,4 +1,6 @@
 // The sets of a table of format 1: what is left of them, written into the area in the layout that is asked for.
+#![tactic(auto)]
+
 ghost use Rattle.std.specs.Prelude.{true, ◌-◌, ◌≤◌, length, eqb};
 ghost use Rattle.room.specs.Laid.{enough_area};
 ghost use Rattle.kept_rules.specs.Left.{maps_in};

@@ -1,4 +1,6 @@
 // Class kerning, pairs by class: a coverage, first and second classes, and a row of cells for each first class; cut in one walk, from the source into the area.
+#![tactic(auto)]
+
 ghost use Rattle.std.specs.Prelude.{◌≡◌, [], ◌+◌, ◌≤◌, ◌<◌, length};
 ghost use Rattle.meaning.specs.Maps.{glyph_entries};
 ghost use Rattle.meaning.specs.Tables.{pair_table};

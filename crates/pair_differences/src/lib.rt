@@ -1,4 +1,6 @@
 // What differs between two pair tables by glyph (kind 4, format 1): pairs that one of them has, and values, field by field. The tables stand at the front of their slices.
+#![tactic(auto)]
+
 ghost use Rattle.std.specs.Prelude.{◌≡◌, true, ◌+◌, ◌-◌, ◌*◌, ◌≤◌, ◌<◌};
 ghost use Rattle.std.proofs.Math.Option.{none};
 ghost use Rattle.meaning.specs.Words.{word, words, up_from};

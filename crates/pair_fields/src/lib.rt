@@ -1,4 +1,6 @@
 // The values of pair records: which fields hold one that is not 0 in some surviving pair.
+#![tactic(auto)]
+
 ghost use Rattle.std.specs.Prelude.{◌≡◌, ◌&&◌, not, ◌+◌, ◌*◌, ◌<◌, ◌≤◌, length, eqb};
 ghost use Rattle.meaning.specs.Words.{word, find, is_some};
 ghost use Rattle.cell_maps.specs.Cells.{Inside};

@@ -1,4 +1,6 @@
 // The new value formats of a pair table: a field stays if some surviving pair of the sets that notes name has it nonzero.
+#![tactic(auto)]
+
 ghost use Rattle.std.specs.Prelude.{◌≡◌, ◌+◌, ◌*◌};
 ghost use Rattle.meaning.specs.Cut.{stand_in};
 ghost use Rattle.area.specs.Part.{notes};

@@ -1,4 +1,6 @@
 // Class kerning: the new table, of which cells hold the classes and the covered glyphs, written into the area and handed over.
+#![tactic(auto)]
+
 ghost use Rattle.std.specs.Prelude.{◌≡◌, ◌+◌, ◌≤◌, ◌<◌, length};
 ghost use Rattle.std.proofs.lemmas.List.Edits.{sets};
 ghost use Rattle.meaning.specs.Words.{flat};

@@ -1,4 +1,6 @@
 // Where the fields of value records stand in a pair record, and the places of those that stay.
+#![tactic(auto)]
+
 ghost use Rattle.std.specs.Prelude.{◌≡◌, [], ◌∷◌, ◌+◌, ◌*◌, ◌<◌, ◌≤◌, length};
 ghost use Rattle.meaning.specs.Tables.{field_count};
 ghost use Rattle.pair_places.specs.Formats.{fields, field_place, kept_places, places_of};

@@ -1,4 +1,6 @@
 // Pair sets and value formats of pair positioning: checked; device bits.
+#![tactic(auto)]
+
 ghost use Rattle.std.specs.Prelude.{◌≡◌, ◌&&◌, ◌||◌, ◌+◌, ◌*◌, ◌≤◌, ◌<◌, eqb};
 ghost use Rattle.meaning.specs.Words.{word};
 ghost use Rattle.meaning.specs.Tables.{field_count};

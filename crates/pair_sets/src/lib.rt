@@ -1,4 +1,6 @@
 // Pair sets: the pairs that survive, with the fields that stay, written into the area in one walk.
+#![tactic(auto)]
+
 ghost use Rattle.std.specs.Prelude.{◌∷◌, map, ◌+◌, ◌*◌, ◌<◌, ◌≤◌, length};
 ghost use Rattle.meaning.specs.Words.{word, find};
 ghost use Rattle.cell_maps.specs.Cells.{Inside};

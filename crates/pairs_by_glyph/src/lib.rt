@@ -1,4 +1,6 @@
 // Format 1 of pairs, cut in one walk: as `by_glyph` does it, with the value formats that are left.
+#![tactic(auto)]
+
 ghost use Rattle.std.specs.Prelude.{◌≡◌, [], ◌+◌, ◌≤◌, ◌<◌, length};
 ghost use Rattle.std.proofs.Math.Option.{none};
 ghost use Rattle.meaning.specs.Words.{word};

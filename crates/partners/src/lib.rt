@@ -1,6 +1,8 @@
 // Partners of rules by their numbers: each of the own numbers is paired with an equal one of the others, earliest with earliest. A partner is its rank plus 1; 0 is none.
 // `heads` has a cell for each number: the first rank, plus 1, of the others that have this number and are left.
 // `links` has two rows of 65,536 cells for partners, and then a cell for each rank of the others: the next rank of its number, plus 1.
+#![tactic(auto)]
+
 ghost use Rattle.std.specs.Prelude.{◌≡◌, ◌+◌, ◌≤◌, ◌<◌, length};
 ghost use Rattle.partners.specs.Chains.{numbers_in, next_in, next_of, Below, Cleared, Linked, Kept, Paired};
 

@@ -1,4 +1,6 @@
 // One set of format 1 of a kind: written into the area and placed, as an equal one before it if the book has one.
+#![tactic(auto)]
+
 ghost use Rattle.std.specs.Prelude.{◌≡◌, ◌≤◌, length};
 ghost use Rattle.std.proofs.Math.Option.{none};
 ghost use Rattle.meaning.specs.Subset.{limit};

@@ -1,4 +1,6 @@
 // One range of a coverage and a listed glyph map: the entries of the map that lie in the range, noted in cells.
+#![tactic(auto)]
+
 ghost use Rattle.std.specs.Prelude.{◌≡◌, true, ◌+◌, ◌*◌, ◌/◌, ◌≤◌, ◌<◌, length};
 ghost use Rattle.meaning.specs.Maps.{map_entries};
 ghost use Rattle.meaning.specs.Words.{keys, ascends};

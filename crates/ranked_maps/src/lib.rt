@@ -1,4 +1,6 @@
 // A class map in cells as ranks: marks of the classes that survive, and counts of the marks.
+#![tactic(auto)]
+
 ghost use Rattle.std.specs.Prelude.{[], ◌+◌, ◌-◌, ◌≤◌, ◌<◌, length};
 ghost use Rattle.ranks.specs.Ranks.{mark_cells};
 ghost use Rattle.area.specs.Part.{news};

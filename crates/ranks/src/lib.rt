@@ -1,5 +1,7 @@
 // Ranks of marked numbers: how many marked ones are below a number. From the cell `at` on stand 2,048 cells of marks, with a bit for each number below 65,536 (crate `bits`), and 2,048 cells of counts: the i-th says how many marked numbers are below 32 i.
 // So two readings give a rank: the count of the number's cell, and the bits below its own in that cell.
+#![tactic(auto)]
+
 ghost use Rattle.std.specs.Prelude.{◌≡◌, ◌+◌, ◌*◌, ◌≤◌, ◌<◌, length};
 ghost use Rattle.ranks.specs.Ranks.{mark_cells, rank_in, Counted};
 

@@ -1,4 +1,6 @@
 // Records that point past their rule, over the whole source: those of every rule, retained or not.
+#![tactic(auto)]
+
 ghost use Rattle.std.specs.Prelude.{◌≡◌, true, false, ◌+◌, ◌*◌, ◌≤◌, ◌<◌};
 ghost use Rattle.meaning.specs.Words.{words};
 ghost use Rattle.meaning.specs.Tables.{rule_set, reaches, class_context, cover_context, context, table};

@@ -1,4 +1,6 @@
 // The answers of the call, and the first refusal that applies before the cut, in the written order of documents 01 and 02.
+#![tactic(auto)]
+
 ghost use Rattle.std.specs.Prelude.{◌≡◌, length, ltb};
 ghost use Rattle.meaning.specs.Maps.{good_form};
 ghost use Rattle.meaning.specs.Subset.{limit, good_kind, good_packing};

@@ -1,4 +1,6 @@
 // A class table of the source, listed once more when its new one is written, and turned into the entries of that.
+#![tactic(auto)]
+
 ghost use Rattle.std.specs.Prelude.{◌≤◌, length};
 ghost use Rattle.meaning.specs.Maps.{glyph_entries};
 ghost use Rattle.glyph_runs.specs.Runs.{GlyphMap};

@@ -2,6 +2,8 @@
 // The first cell of a book says how many blocks are in it. A cell follows for each: how many words stand before it, times 65,536, plus the place of the source that it came from.
 // The last cell says how many further places of the source are known to lead to one of them. From there on backwards each has a cell of the same form, as long as the blocks leave room.
 // A book of one cell has no block: then each is written, as the plain layout has them.
+#![tactic(auto)]
+
 ghost use Rattle.std.specs.Prelude.{◌+◌, ◌-◌, ◌*◌, ◌≤◌, ◌<◌, get_or};
 ghost use Rattle.known_blocks.specs.Book.{NotedPlace, Fresh, Settled};
 

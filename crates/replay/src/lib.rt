@@ -1,4 +1,6 @@
 // Replay of label runs: a recorded trace, run over a list of lookups in a lent buffer, and the tally of its runs.
+#![tactic(auto)]
+
 ghost use Rattle.std.specs.Prelude.{◌≡◌, true, ◌<◌};
 ghost use Rattle.meaning.specs.Words.{is_some};
 ghost use Rattle.replaying.specs.Listed.{lookups_of};

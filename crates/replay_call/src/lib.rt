@@ -1,4 +1,6 @@
 // The replay and its cost for other languages, on byte slices and one number.
+#![tactic(auto)]
+
 ghost use Rattle.std.specs.Prelude.{◌≡◌, ◌+◌, ◌*◌, ◌≤◌, ◌<◌};
 ghost use Rattle.std.proofs.lemmas.List.Edits.{sets};
 ghost use Rattle.replaying.specs.Replay.{replay};

@@ -1,4 +1,6 @@
 // What a replay over a list may cost: the most lookups that it asks for each glyph of a trace, told before any run.
+#![tactic(auto)]
+
 ghost use Rattle.std.specs.Prelude.{◌≡◌, true, map, ◌/◌, length, set};
 ghost use Rattle.std.proofs.lemmas.List.Edits.{sets};
 ghost use Rattle.replaying.specs.Listed.{good_list, lookups_of};

@@ -1,4 +1,6 @@
 // The program: reads a replay file from standard input, whose last 28 bytes point back to a list, a buffer and a trace, and prints the answer and the tally of the replay; where the trace is empty, also what the list may cost.
+#![tactic(auto)]
+
 ghost use Rattle.std.specs.Prelude.{◌≡◌, true, ◌≤◌, ◌<◌, length};
 ghost use Rattle.tallies.specs.Counting.{replayed_of};
 ghost use Rattle.report_lines.specs.Text.{Put};

@@ -1,4 +1,6 @@
 // The replay with a lent tally: one state, which the replay changes in place.
+#![tactic(auto)]
+
 ghost use Rattle.std.specs.Prelude.{◌≡◌};
 ghost use Rattle.replaying.specs.Replay.{replay};
 ghost use Rattle.tallies.specs.Counting.{replayed_of};

@@ -1,4 +1,6 @@
 // What the program prints of an answer, as bytes in a lent buffer. Each function writes where there is room, and answers the place after what it writes.
+#![tactic(auto)]
+
 ghost use Rattle.std.specs.Prelude.{◌≡◌, ◌+◌, ◌/◌, ◌%◌, ◌≤◌, ◌<◌, length};
 ghost use Rattle.meaning.specs.Job.{decimal, printed};
 ghost use Rattle.report_lines.specs.Text.{Put, Spelled, Printable, line_text, kept_text};

@@ -1,4 +1,6 @@
 // Bytes in hex, 16 a line, written into a lent buffer.
+#![tactic(auto)]
+
 ghost use Rattle.std.specs.Prelude.{[], ◌∷◌, ◌≡◌, ◌+◌, ◌/◌, ◌%◌, ◌≤◌, ◌<◌, length};
 ghost use Rattle.meaning.specs.Job.{hex_digit, hex_lines};
 ghost use Rattle.report_lines.specs.Text.{Put};

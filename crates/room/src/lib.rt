@@ -1,4 +1,6 @@
 // Whether a layout has room: the last three answers of document 01, and what was laid.
+#![tactic(auto)]
+
 ghost use Rattle.std.specs.Prelude.{◌≡◌};
 ghost use Rattle.room.specs.Laid.{laid_for};
 

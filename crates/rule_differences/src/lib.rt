@@ -1,4 +1,6 @@
 // What differs between the rules that a first glyph reaches on the left and on the right, where each rule's partner is known. Partners are lent as cells: the partner's rank plus 1, or 0 for a rule that has none.
+#![tactic(auto)]
+
 ghost use Rattle.std.specs.Prelude.{◌≡◌, ◌+◌, ◌≤◌, ◌<◌};
 ghost use Rattle.meaning.specs.Words.{up_from};
 ghost use Rattle.differences.specs.Entries.{each, left_rule, right_rule, longer};

@@ -1,5 +1,7 @@
 // Numbers of rules: equal exactly if the rules say the same. `num` has a cell for each code: its number, or 0 while it has none.
 // `came` has, for each print, the latest number of a rule with this print; then how many numbers there are; then for each number the code that came first with it, and the number before it with the same print.
+#![tactic(auto)]
+
 ghost use Rattle.std.specs.Prelude.{◌≡◌, ◌+◌, ◌*◌, ◌≤◌, ◌<◌, length, get_or, set};
 ghost use Rattle.rule_says.specs.Said.{says_by, print_says};
 ghost use Rattle.rule_numbers.specs.Book.{count, Added, Firsts, Sought, Book, Numbered};

@@ -1,4 +1,6 @@
 // Rows of numbers in two subtables: compared, and folded into a print. A row's words stand for themselves, or for the numbers that `t` has for them from the cell `base` on.
+#![tactic(auto)]
+
 ghost use Rattle.std.specs.Prelude.{◌≡◌, eqb, ◌+◌, ◌*◌, ◌<◌};
 ghost use Rattle.meaning.specs.Words.{word};
 ghost use Rattle.differences.specs.Entries.{same_list};

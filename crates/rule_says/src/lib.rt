@@ -1,4 +1,6 @@
 // What a rule or a ligature says, by numbers: compared with what another says, and folded into a print. A rule is named by its code: twice its place, plus its side, 0 for the left subtable and 1 for the right one.
+#![tactic(auto)]
+
 ghost use Rattle.std.specs.Prelude.{◌≡◌, eqb, ◌/◌, ◌%◌, ◌<◌};
 ghost use Rattle.differences.specs.Entries.{same_list, same_says};
 ghost use Rattle.rule_rows.specs.Rows.{side_of, numbers_of, Reads};

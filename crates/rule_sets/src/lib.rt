@@ -1,4 +1,6 @@
 // Sets of rules of contexts, plain and chained: what is left of them, written into the area in one walk.
+#![tactic(auto)]
+
 ghost use Rattle.std.specs.Prelude.{◌≡◌, ◌+◌, ◌≤◌, ◌<◌, length};
 ghost use Rattle.std.proofs.Math.Option.{none};
 ghost use Rattle.meaning.specs.Tables.{rule_set};

@@ -1,4 +1,6 @@
 // The most steps that a rule of a lookup takes, from what the lookups that its records name take. A step is one lookup, asked at one place.
+#![tactic(auto)]
+
 ghost use Rattle.std.specs.Prelude.{◌≡◌, true, ◌+◌, ◌*◌, ◌/◌, ◌<◌, length};
 ghost use Rattle.meaning.specs.Words.{word};
 ghost use Rattle.meaning.specs.Tables.{rule_set, reaches, class_context, cover_context, context, table};

@@ -1,4 +1,6 @@
 // Rules of contexts, plain and chained, with their sequences and lookup records: checked.
+#![tactic(auto)]
+
 ghost use Rattle.std.specs.Prelude.{◌≡◌, true, false, ◌+◌, ◌-◌, ◌*◌, ◌<◌};
 ghost use Rattle.meaning.specs.Words.{entries};
 ghost use Rattle.meaning.specs.Tables.{rule};

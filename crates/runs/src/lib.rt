@@ -1,4 +1,6 @@
 // A run of the trace, replayed: what comes out of its glyphs, held against what the trace says.
+#![tactic(auto)]
+
 ghost use Rattle.std.specs.Prelude.{◌≡◌, ◌+◌, ◌*◌, ◌<◌};
 ghost use Rattle.meaning.specs.Words.{words};
 ghost use Rattle.meaning.specs.Job.{eq_list};

@@ -1,6 +1,8 @@
 // What differs between two sets of rules, by the numbers of the rules: they are paired by number and listed rank by rank. `num` has the number of each code.
 // `nums` has two rows of 65,536 cells for the numbers of a left set and of a right one, and then three cells that remember the latest pair of sets: where they stand, and how many bytes their list takes.
 // `heads` and `links` are as partners has them. What stands in them before does not matter.
+#![tactic(auto)]
+
 ghost use Rattle.std.specs.Prelude.{◌≡◌, ◌+◌, ◌≤◌, ◌<◌, length, get_or, eqb};
 ghost use Rattle.differences.specs.Entries.{rule_entries};
 ghost use Rattle.listing.specs.Listed.{Listed};

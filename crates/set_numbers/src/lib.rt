@@ -1,4 +1,6 @@
 // Numbers for all rules of two subtables. `num` has a cell for each code, and `came` is as rule_numbers has it.
+#![tactic(auto)]
+
 ghost use Rattle.std.specs.Prelude.{◌≤◌, ◌<◌, length};
 ghost use Rattle.rule_rows.specs.Rows.{side_of};
 ghost use Rattle.rule_says.specs.Said.{says_by, print_says};

@@ -1,4 +1,6 @@
 // GSUB single substitutions, by a delta (format 1) or by a substitute for each covered glyph (format 2): checked.
+#![tactic(auto)]
+
 ghost use Rattle.std.specs.Prelude.{◌≡◌};
 ghost use Rattle.meaning.specs.Fault.{equal_count, single_fault};
 ghost use Rattle.faults.specs.Fault.{fault_of};

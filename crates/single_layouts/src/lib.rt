@@ -1,4 +1,6 @@
 // Single substitutions: the table of the pairs that stay, in format 1 or 2, written into the area and handed over.
+#![tactic(auto)]
+
 ghost use Rattle.std.specs.Prelude.{true, ◌+◌, ◌*◌, ◌<◌, length, ltb};
 ghost use Rattle.meaning.specs.Words.{flat};
 ghost use Rattle.meaning.specs.Cut.{kept_singles};

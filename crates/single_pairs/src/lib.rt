@@ -1,4 +1,6 @@
 // Single substitutions: the pairs of a glyph and its substitute that stay, by their new numbers, and whether one delta serves them all.
+#![tactic(auto)]
+
 ghost use Rattle.std.specs.Prelude.{◌≡◌, ◌+◌, ◌*◌, ◌<◌, ◌≤◌, true, length, slice_index};
 ghost use Rattle.meaning.specs.Cut.{delta_of, agree};
 ghost use Rattle.single_pairs.specs.Pairs.{Singles, Substitute, pair_of, pairs, KeepsPair, KeptPair, KeepsPairs, KeptPairs};

@@ -1,5 +1,7 @@
 // GSUB single substitutions: a delta that is added to each covered glyph (format 1), or a substitute for each (format 2). Cut in one walk:
 // the retained covered glyphs are noted in cells, those whose substitutes are retained too stay there as pairs, and their table is written into the area and handed over to the buffer.
+#![tactic(auto)]
+
 ghost use Rattle.std.specs.Prelude.{[], ◌+◌, ◌<◌, length};
 ghost use Rattle.meaning.specs.Maps.{glyph_entries};
 ghost use Rattle.meaning.specs.Tables.{single};

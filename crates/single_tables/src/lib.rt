@@ -1,4 +1,6 @@
 // Single substitutions: the table of the pairs that stay, in either format, written into the area; and what was written, handed over.
+#![tactic(auto)]
+
 ghost use Rattle.std.specs.Prelude.{true, ◌+◌, ◌*◌, ◌≤◌, ◌<◌, length};
 ghost use Rattle.laws.specs.Written.{Wrote};
 ghost use Rattle.single_pairs.specs.Pairs.{subs};

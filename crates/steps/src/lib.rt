@@ -1,4 +1,6 @@
 // Lookups applied to a string: a lookup runs a rule and a rule runs lookups, to depth 8. A string is `n` glyphs in a slice, two bytes a glyph.
+#![tactic(auto)]
+
 ghost use Rattle.std.specs.Prelude.{◌≡◌, ◌+◌, ◌*◌, ◌/◌, ◌≤◌, ◌<◌, length};
 ghost use Rattle.meaning.specs.Words.{words, entries};
 ghost use Rattle.replaying.specs.Listed.{lookups_of};

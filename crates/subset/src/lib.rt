@@ -1,4 +1,6 @@
 // The call: three marks, a source, a glyph map, a lookup map and a lent buffer, and the first answer that applies; as a function of Rattle and as two of C.
+#![tactic(auto)]
+
 ghost use Rattle.std.specs.Prelude.{◌≡◌};
 ghost use Rattle.meaning.specs.Subset.{subset};
 ghost use Rattle.refusals.specs.Answers.{outcome, decoded, answer_of};

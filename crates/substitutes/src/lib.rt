@@ -1,4 +1,6 @@
 // The substitute of a glyph by a single substitution: by a delta, or by a list.
+#![tactic(auto)]
+
 ghost use Rattle.std.specs.Prelude.{◌<◌};
 ghost use Rattle.meaning.specs.Tables.{single};
 ghost use Rattle.meaning.specs.Matching.{substitute};

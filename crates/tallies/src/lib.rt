@@ -1,4 +1,6 @@
 // What a replay gives back, and its tally as one more run changes it.
+#![tactic(auto)]
+
 ghost use Rattle.std.specs.Prelude.{◌≡◌, cond, ◌≤◌, ◌<◌, eqb};
 ghost use Rattle.replaying.specs.Replay.{changed};
 ghost use Rattle.tallies.specs.Counting.{tally_of};

@@ -1,4 +1,6 @@
 // The trace: for each run a count, that many glyphs that went in, and as many that came out. Tested.
+#![tactic(auto)]
+
 ghost use Rattle.std.specs.Prelude.{◌≡◌, ◌<◌, length};
 ghost use Rattle.meaning.specs.Words.{is_some};
 ghost use Rattle.replaying.specs.Trace.{good_run, runs_of};

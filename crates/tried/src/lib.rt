@@ -1,4 +1,6 @@
 // What comes of a cut with lent scratch, and how much of the scratch it takes.
+#![tactic(auto)]
+
 ghost use Rattle.tried.specs.Front.{Least};
 
 use room::Laid;

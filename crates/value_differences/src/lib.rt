@@ -1,4 +1,6 @@
 // What differs between two pair records: values, field by field. The tables stand at the front of their slices.
+#![tactic(auto)]
+
 ghost use Rattle.std.specs.Prelude.{◌≡◌, true, ◌+◌, ◌-◌, ◌*◌, ◌≤◌, ◌<◌, get_or};
 ghost use Rattle.meaning.specs.Words.{words, up_from};
 ghost use Rattle.meaning.specs.Tables.{field_count, field};

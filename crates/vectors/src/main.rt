@@ -2,6 +2,8 @@
 // Each is made three times: what is kept on a buffer that is one byte short, on one that is exact and on one that is longer, what has no room on three that are too short,
 // and any other refusal on an empty, a small and a large buffer.
 // Number, length and the whole buffer are compared.
+#![tactic(auto)]
+
 ghost use Rattle.std.specs.Prelude.{◌≤◌, ◌<◌, length};
 
 use answer_numbers::{length_of, number_of};

@@ -1,6 +1,8 @@
 // A table view: the source and a place in it. Two thin functions over it do the work: `field` reads a field of the table and answers its number,
 // and `subtable` moves to the table that an offset field reaches and answers the view of that. Each takes the view apart, and leaves the work to a function on the plain slice.
 // For the table at the front of a source, `header` reads a field and `subtable_place` moves, on the plain slice too: callers use these.
+#![tactic(auto)]
+
 ghost use Rattle.std.specs.Prelude.{◌≡◌, ◌+◌, ◌<◌};
 ghost use Rattle.meaning.specs.Words.{word};
 

@@ -1,4 +1,4 @@
-use Rattle.std.proofs.Common.{◌≡◌}
+use mathlib.Core.Path.{◌≡◌}
 use Rattle.meaning.specs.Words.{word}
 use Rattle.laws.specs.Ascends.{Ascending}
 use Rattle.wire.proofs.ascending.Given as goal
