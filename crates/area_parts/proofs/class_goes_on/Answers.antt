@@ -1,0 +1,10 @@
+use Rattle.area_parts.proofs.Classes.{onward_last, onward_next}
+use Rattle.area_parts.proofs.class_goes_on.Goals as goal
+
+pub returns-then-n-i : goal.returns-then-n-i
+returns-then-n-i c =
+    onward_last c.args.t.now c.args.at c.args.n c.args.i c.if-n-i.true
+
+pub returns : goal.returns
+returns c =
+    onward_next c.args.t.now c.args.at c.args.n c.args.i c.if-n-i.false c.same_run.ensures

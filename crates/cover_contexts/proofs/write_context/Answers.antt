@@ -1,0 +1,13 @@
+use Rattle.cover_contexts.proofs.write_context.Goals as goal
+
+pub write_chained-requires : goal.write_chained-requires
+write_chained-requires c = (rw c.if-chained.true at c.requires.0, c.requires.1)
+
+pub returns-then-chained : goal.returns-then-chained
+returns-then-chained c = rw c.if-chained.true c.write_chained.ensures
+
+pub write_plain-requires : goal.write_plain-requires
+write_plain-requires c = (rw c.if-chained.false at c.requires.0, c.requires.1)
+
+pub returns : goal.returns
+returns c = rw c.if-chained.false c.write_plain.ensures

@@ -1,0 +1,14 @@
+use Rattle.cover_layouts.proofs.Cut.{hands_nothing, hands_short, hands_big, hands_over}
+use Rattle.covers.proofs.settle.Goals as goal
+
+pub returns-then-end-eq0 : goal.returns-then-end-eq0
+returns-then-end-eq0 c = hands_nothing c.if-end-eq0.true
+
+pub returns-then-area-lt-AREA : goal.returns-then-area-lt-AREA
+returns-then-area-lt-AREA c = hands_short c.if-area-lt-AREA.true
+
+pub returns-then-area-end : goal.returns-then-area-end
+returns-then-area-end c = hands_big c.if-area-end.true c.if-area-lt-AREA.false
+
+pub returns : goal.returns
+returns c = hands_over c.if-end-eq0.false c.if-area-end.false c.hand_over.ensures

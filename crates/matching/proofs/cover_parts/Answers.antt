@@ -1,0 +1,7 @@
+use Rattle.matching.proofs.cover_parts.Goals as goal
+
+pub returns-then-chained : goal.returns-then-chained
+returns-then-chained c = rw c.if-chained.true c.chained_covers.ensures
+
+pub returns : goal.returns
+returns c = rw c.if-chained.false c.plain_covers.ensures
