@@ -148,16 +148,20 @@ whole_equal : (x y : Says) → whole_entries x y ≡ [] → x ≡ y
 unfolding whole_entries ranked
 whole_equal x y h = some-injective x y (ap (λ (l : List Says). ranked l 0) (rules_equal tells_says 0 (x ∷ []) (y ∷ []) h))
 
+-- the entry of a first glyph that one side has
+abbrev first_only : ℕ → ℕ → Entry
+first_only g side = record { sort = 2; side = side; first = g; rank = 0; left = 0; right = 0 }
+
 -- an empty list says that the contents are equal
 pub empty_equal : (l r : Content) → Sorted l → Sorted r → differences l r ≡ [] → l ≡ r
 unfolding differences first_entries
 empty_equal (Content.rules f l) (Content.rules h r) u v e = step (eqb f h) refl e
   where
     step : (b : Bool) → eqb f h ≡ b → cond b (first_entries (rule_entries same_says) l r) (format_entry f h ∷ []) ≡ [] → Content.rules f l ≡ Content.rules h r
-    step true q k = ap₂ Content.rules (eqb-true f h q) (key_equal (λ a. Unit {0}) _ _ (λ g a b p q. rules_equal tells_says g a b) l r u v (any l) (any r) k)
+    step true q k = ap₂ Content.rules (eqb-true f h q) (key_equal (λ a. Unit {0}) first_only (rule_entries same_says) (λ g a b p q. rules_equal tells_says g a b) l r u v (any l) (any r) k)
     step false q k = absurd (cons_nil k)
 empty_equal (Content.whole x) (Content.whole y) u v e = ap Content.whole (whole_equal x y e)
-empty_equal (Content.pairs l) (Content.pairs r) u v e = ap Content.pairs (key_equal SortedPairs _ _ pairs_equal l r u.0 v.0 u.1 v.1 e)
+empty_equal (Content.pairs l) (Content.pairs r) u v e = ap Content.pairs (key_equal SortedPairs first_only pair_entries pairs_equal l r u.0 v.0 u.1 v.1 e)
 empty_equal (Content.rules f l) (Content.whole y) u v e = absurd (cons_nil e)
 empty_equal (Content.rules f l) (Content.pairs r) u v e = absurd (cons_nil e)
 empty_equal (Content.whole x) (Content.rules h r) u v e = absurd (cons_nil e)
@@ -168,9 +172,9 @@ empty_equal (Content.pairs l) (Content.whole y) u v e = absurd (cons_nil e)
 -- a content against itself gives an empty list
 pub itself_empty : (l : Content) → differences l l ≡ []
 unfolding differences first_entries whole_entries
-itself_empty (Content.rules f l) = rw (eq-eqb f f refl) (key_itself (λ a. Unit {0}) _ _ (λ g a. rules_itself tells_says g a) l)
+itself_empty (Content.rules f l) = rw (eq-eqb f f refl) (key_itself (λ a. Unit {0}) first_only (rule_entries same_says) (λ g a. rules_itself tells_says g a) l)
 itself_empty (Content.whole x) = rules_itself tells_says 0 (x ∷ [])
-itself_empty (Content.pairs l) = key_itself (λ a. Unit {0}) _ _ pairs_itself l
+itself_empty (Content.pairs l) = key_itself (λ a. Unit {0}) first_only pair_entries pairs_itself l
 
 -- equal contents give an empty list
 pub equal_empty : (l r : Content) → l ≡ r → differences l r ≡ []

@@ -63,7 +63,7 @@ sides_twice = swapped_twice
 -- `class_is_its_glyphs`: two classes of two class tables are one content exactly if the same of all 65,536 ids hold them.
 pub class_is_its_glyphs : (t u : Option (List (ℕ × ℕ))) → Opt Classes t → Opt Classes u → (c d : ℕ)
     → (class_runs? t c ≡ class_runs? u d → (g : ℕ) → g < 65536 → in_class t c g ≡ in_class u d g) × (((g : ℕ) → g < 65536 → in_class t c g ≡ in_class u d g) → class_runs? t c ≡ class_runs? u d)
-class_is_its_glyphs = Classes.same_class
+class_is_its_glyphs = Classes.same_class_lem
 
 -- The same of two coverages of format 3.
 pub cover_is_its_glyphs : (t u : Option (List ℕ)) → Opt Glyphs t → Opt Glyphs u

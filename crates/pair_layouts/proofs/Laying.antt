@@ -167,7 +167,7 @@ module _ (one : Bool) (cells cover first second : List ℕ) (out : List ℕ) (n1
         first_is = v.first_at_lem (omega (arith, v.same)) ∙ omega (arith, cells_stand.place)
 
         second_is : e.second ≡ second_at one cells cover first second
-        second_is = v.second_at (omega (arith, v.same)) ∙ ap (λ (n : ℕ). cond one (n + 2 * length cover) (n + 2 * length cover + 2 * length first)) cells_stand.place
+        second_is = v.second_at_lem (omega (arith, v.same)) ∙ ap (λ (n : ℕ). cond one (n + 2 * length cover) (n + 2 * length cover + 2 * length first)) cells_stand.place
 
         end_is : e.end ≡ end_at one cells cover first second
         end_is = omega (arith, all_stands.place, cells_stand.place, length-append cover (first ++ behind), length-append first behind)

@@ -244,9 +244,9 @@ module _ (s : List ℕ) where
   unfolding offsets_of sound
   ligatures_least at = set_least Sort.ligature_set Sort.ligature (ligature_fault s) at refl refl (ligature_least 0)
 
-  pairs_least : (a b n at : ℕ) → Least (with_reached n s (part (Sort.pair_set a b) at)) (pair_set_fault a b s at)
+  pairs_least : (a b n at : ℕ) → Least (with_reached n s (part (Sort.pair_set_sort a b) at)) (pair_set_fault a b s at)
   unfolding pair_set_fault offsets_of inside sound
-  pairs_least a b n at = leaf n (Sort.pair_set a b) at _ refl (also_good at 2 (at + 2 + (2 + 2 * a + 2 * b) * word s at) _ (omega arith))
+  pairs_least a b n at = leaf n (Sort.pair_set_sort a b) at _ refl (also_good at 2 (at + 2 + (2 + 2 * a + 2 * b) * word s at) _ (omega arith))
 
   -- Headers.
 
@@ -447,7 +447,7 @@ module _ (s : List ℕ) where
   unfolding pair_header pair_fault sound offsets_of
   pairs_by_format =
       either (eqb (word s 0) 1) Sort.pair_header_sort Sort.class_pair_header _ _
-      (by_index_lem Sort.pair_header_sort (Sort.pair_set a b) (good_formats s && enough s (word s 8)) 8 (pair_set_fault a b s) (rw (enough_is (word s 8), formats_are (not (at_odds s (word s 8))))) refl (pairs_least a b 1))
+      (by_index_lem Sort.pair_header_sort (Sort.pair_set_sort a b) (good_formats s && enough s (word s 8)) 8 (pair_set_fault a b s) (rw (enough_is (word s 8), formats_are (not (at_odds s (word s 8))))) refl (pairs_least a b 1))
       class_pairs_least
     where
       a : ℕ

@@ -1,5 +1,4 @@
 use mathlib.Core.Path.{ap, ◌∙◌}
-use mathlib.Core.Logic.{⊎_elim}
 use Prim.Native.Nat.{ℕ, ◌-◌, ◌*◌}
 use native.Mathlib.Omega.{arith}
 use lib.ListN.{length}
@@ -8,6 +7,7 @@ use Rattle.numbers.proofs.Numbers.{cell_new, cell_gone}
 use Rattle.class_formats.proofs.Using.{mul_small}
 use Rattle.class_cells.proofs.Writing.{rows_all, rows_row, rows_inside, row_gone, row_kept, rows_full, rows_turn, rows_end, rows_silent}
 use Rattle.class_cells.proofs.write_rows.Goals as goal
+use Rattle.class_cells.proofs.write_rows.Goals.{in-New, in_default}
 
 pub returns-then-places-eq0 : goal.returns-then-places-eq0
 returns-then-places-eq0 c =
@@ -34,27 +34,24 @@ write_row-q-requires c =
 
 pub shape_of-area-then-area-q : goal.shape_of-area-then-area-q
 shape_of-area-then-area-q c =
-    ⊎_elim
-    (λ v. ap length v.6 ∙ v.3.ensures.same ∙ c.loop-c.invariant.same)
-    (λ v. ap length v.2 ∙ c.loop-c.invariant.same)
-    c.match-find.branch
+    elim c.match-find.branch
+    [ in-New w ↦ ap length w.area-is ∙ w.write_row-q.ensures.same ∙ c.loop-c.invariant.same
+    | in_default w ↦ ap length w.area-is ∙ c.loop-c.invariant.same ]
 
 pub returns-then-area-q : goal.returns-then-area-q
 returns-then-area-q c =
-    ⊎_elim
-    (λ v. rw (v.6, v.7) (rows_full c.loop-c.invariant c.loop-c-test.true (row_kept c.loop-c.invariant c.loop-c-test.true (cell_new c.requires.2 c.find.ensures v.1.given.1) v.3.ensures) (rw (v.6, v.7) at c.if-area-q.true)))
-    (λ v. rw (v.2, v.3) (rows_full c.loop-c.invariant c.loop-c-test.true (row_gone c.loop-c.invariant c.loop-c-test.true (cell_gone c.requires.2 c.find.ensures v.1.given.1)) (rw (v.2, v.3) at c.if-area-q.true)))
-    c.match-find.branch
+    elim c.match-find.branch
+    [ in-New w ↦ rw (w.area-is, w.q-is) (rows_full c.loop-c.invariant c.loop-c-test.true (row_kept c.loop-c.invariant c.loop-c-test.true (cell_new c.requires.2 c.find.ensures w.in-New.is) w.write_row-q.ensures) (rw (w.area-is, w.q-is) at c.if-area-q.true))
+    | in_default w ↦ rw (w.area-is, w.q-is) (rows_full c.loop-c.invariant c.loop-c-test.true (row_gone c.loop-c.invariant c.loop-c-test.true (cell_gone c.requires.2 c.find.ensures w.in_default.is)) (rw (w.area-is, w.q-is) at c.if-area-q.true)) ]
 
 pub overflow_add-p : goal.overflow_add-p
 overflow_add-p c = omega (arith, rows_row c.loop-c.invariant c.loop-c-test.true)
 
 pub loop-c-preserved : goal.loop-c-preserved
 loop-c-preserved c =
-    ⊎_elim
-    (λ v. rw (v.6, v.7) (rows_turn c.loop-c.invariant c.loop-c-test.true (row_kept c.loop-c.invariant c.loop-c-test.true (cell_new c.requires.2 c.find.ensures v.1.given.1) v.3.ensures) (rw (v.6, v.7) at c.if-area-q.false)))
-    (λ v. rw (v.2, v.3) (rows_turn c.loop-c.invariant c.loop-c-test.true (row_gone c.loop-c.invariant c.loop-c-test.true (cell_gone c.requires.2 c.find.ensures v.1.given.1)) (rw (v.2, v.3) at c.if-area-q.false)))
-    c.match-find.branch
+    elim c.match-find.branch
+    [ in-New w ↦ rw (w.area-is, w.q-is) (rows_turn c.loop-c.invariant c.loop-c-test.true (row_kept c.loop-c.invariant c.loop-c-test.true (cell_new c.requires.2 c.find.ensures w.in-New.is) w.write_row-q.ensures) (rw (w.area-is, w.q-is) at c.if-area-q.false))
+    | in_default w ↦ rw (w.area-is, w.q-is) (rows_turn c.loop-c.invariant c.loop-c-test.true (row_gone c.loop-c.invariant c.loop-c-test.true (cell_gone c.requires.2 c.find.ensures w.in_default.is)) (rw (w.area-is, w.q-is) at c.if-area-q.false)) ]
 
 pub shape_of-area : goal.shape_of-area
 shape_of-area c = c.loop-c.invariant.same

@@ -20,5 +20,5 @@ cut_in-requires c = (
 )
 
 pub returns : goal.returns
-returns c = front_tries c.args.t.now c.args.area.now c.cut_in.result c.args.out.now c.cut_in.new.1.1.1.1.1.1.1.0 (written_in c.args.marks.layout c.args.out.now (cut (glyph_entries c.args.marks.form c.args.glyphs.now) (map_entries c.args.lookups.now) (class_context c.args.chained c.args.src.now)))
+returns c = front_tries c.args.t.now c.args.area.now c.cut_in.result c.args.out.now c.cut_in.new.out (written_in c.args.marks.layout c.args.out.now (cut (glyph_entries c.args.marks.form c.args.glyphs.now) (map_entries c.args.lookups.now) (class_context c.args.chained c.args.src.now)))
     c.least-cells.ensures c.least-bytes.ensures c.cut_in.ensures

@@ -1,8 +1,8 @@
 use Rattle.class_entries.proofs.Entering.{entering_all, entering_inside, entering_room, entering_map, entering_none, entering_one, entering_end}
-use mathlib.Core.Logic.{⊎_elim}
 use Prim.Native.Nat.{◌+◌, ◌-◌}
 use native.Mathlib.Omega.{arith}
 use Rattle.class_entries.proofs.new_entries.Goals as goal
+use Rattle.class_entries.proofs.new_entries.Goals.{then-new-ne0, else-new-ne0}
 
 pub loop-e-init : goal.loop-e-init
 loop-e-init c = entering_all c.requires
@@ -42,10 +42,9 @@ bounds-t-list-then-new-ne0 c = entering_room c.loop-e.invariant c.loop-e-test.tr
 
 pub loop-e-preserved : goal.loop-e-preserved
 loop-e-preserved c =
-    ⊎_elim
-    (λ w. rw (w.1, w.2) (entering_one c.loop-e.invariant c.loop-e-test.true c.new_class-new.ensures w.0.taken))
-    (λ w. rw (w.1, w.2) (entering_none c.loop-e.invariant c.loop-e-test.true c.new_class-new.ensures w.0.left))
-    c.if-new-ne0.branch
+    elim c.if-new-ne0.branch
+    [ then-new-ne0 w ↦ rw (w.t-is, w.k-is) (entering_one c.loop-e.invariant c.loop-e-test.true c.new_class-new.ensures w.if-new-ne0.true)
+    | else-new-ne0 w ↦ rw (w.t-is, w.k-is) (entering_none c.loop-e.invariant c.loop-e-test.true c.new_class-new.ensures w.if-new-ne0.false) ]
 
 pub shape_of-t : goal.shape_of-t
 shape_of-t c = c.loop-e.invariant.elsewhere.size

@@ -1,8 +1,8 @@
 use Prim.Native.Nat.{◌+◌, ◌-◌}
-use mathlib.Core.Logic.{⊎_elim}
 use native.Mathlib.Omega.{arith}
 use Rattle.ranked_maps.proofs.Marking.{ranking_all, ranking_inside, ranking_one, ranking_none, ranking_end}
 use Rattle.class_ranks.proofs.rank.Goals as goal
+use Rattle.class_ranks.proofs.rank.Goals.{then-t-cell, else-t-cell}
 
 pub overflow_add-end : goal.overflow_add-end
 overflow_add-end c = omega (arith, c.requires.few)
@@ -42,10 +42,9 @@ overflow_add-count c = omega (arith, c.loop-class-test.true, c.loop-class.invari
 
 pub loop-class-preserved : goal.loop-class-preserved
 loop-class-preserved c =
-    ⊎_elim
-    (λ w. rw (w.1, w.2) (ranking_one c.loop-class.invariant c.loop-class-test.true w.0.taken))
-    (λ w. rw (w.1, w.2) (ranking_none c.loop-class.invariant c.loop-class-test.true w.0.left))
-    c.if-t-cell.branch
+    elim c.if-t-cell.branch
+    [ then-t-cell w ↦ rw (w.t-is, w.count-is) (ranking_one c.loop-class.invariant c.loop-class-test.true w.if-t-cell.true)
+    | else-t-cell w ↦ rw (w.t-is, w.count-is) (ranking_none c.loop-class.invariant c.loop-class-test.true w.if-t-cell.false) ]
 
 pub shape_of-t : goal.shape_of-t
 shape_of-t c = c.loop-class.invariant.elsewhere.size

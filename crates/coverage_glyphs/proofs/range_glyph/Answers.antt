@@ -25,7 +25,8 @@ overflow_sub-result c = omega (arith, c.loop-lo.invariant.from)
 
 -- what is answered
 gives : (c : After-word_at-2)
-→ Gives (range_glyphs (triples c.before.before.before.before.before.args.src.now c.before.before.before.before.before.args.at c.before.before.before.before.before.args.n)) c.before.before.before.before.before.args.i (c.word-at3.result + (c.before.before.before.before.before.args.i - c.before.word-at2.result)) gives c =
+    → Gives (range_glyphs (triples c.args.src.now c.args.at c.args.n)) c.args.i (c.word_at-2.result + (c.args.i - c.word_at-index.result))
+gives c =
     seeking_end c.loop-lo.invariant c.loop-lo-test.false c.word_at-index.ensures.0 c.word_at-2.ensures.0 (λ j. omega (arith, c.type_inv.src j))
 
 pub overflow_add-result : goal.overflow_add-result

@@ -18,12 +18,12 @@ by_cover-requires c =
 
 pub returns-in-1 : goal.returns-in-1
 returns-in-1 c =
-    tries_1 c.args.chained c.args.src.now c.word_at-format.ensures.0 c.args.marks.layout (glyph_entries c.args.marks.form c.args.glyphs.now) (map_entries c.args.lookups.now) (length c.args.t.now) (length c.args.area.now) c.contexts.result c.args.out.now c.contexts.new.1.1.1.1.1.1.1.0 (omega arith) c.contexts.ensures
+    tries_1 c.args.chained c.args.src.now c.word_at-format.ensures.0 c.args.marks.layout (glyph_entries c.args.marks.form c.args.glyphs.now) (map_entries c.args.lookups.now) (length c.args.t.now) (length c.args.area.now) c.contexts.result c.args.out.now c.contexts.new.out (omega arith) c.contexts.ensures
 
 pub returns-in-2 : goal.returns-in-2
 returns-in-2 c =
-    tries_2 c.args.chained c.args.src.now c.word_at-format.ensures.0 c.args.marks.layout (glyph_entries c.args.marks.form c.args.glyphs.now) (map_entries c.args.lookups.now) (length c.args.t.now) (length c.args.area.now) c.by_class.result c.args.out.now c.by_class.new.1.1.1.1.1.1.1.0 (omega arith) c.by_class.ensures
+    tries_2 c.args.chained c.args.src.now c.word_at-format.ensures.0 c.args.marks.layout (glyph_entries c.args.marks.form c.args.glyphs.now) (map_entries c.args.lookups.now) (length c.args.t.now) (length c.args.area.now) c.by_class.result c.args.out.now c.by_class.new.out (omega arith) c.by_class.ensures
 
 pub returns-in_default : goal.returns-in_default
 returns-in_default c =
-    tries_3 c.args.chained c.args.src.now c.word_at-format.ensures.0 c.args.marks.layout (glyph_entries c.args.marks.form c.args.glyphs.now) (map_entries c.args.lookups.now) (length c.args.t.now) (length c.args.area.now) c.by_cover.result c.args.out.now c.by_cover.new.1.1.1.1.1.1.1.0 (omega arith) (omega arith) c.by_cover.ensures
+    tries_3 c.args.chained c.args.src.now c.word_at-format.ensures.0 c.args.marks.layout (glyph_entries c.args.marks.form c.args.glyphs.now) (map_entries c.args.lookups.now) (length c.args.t.now) (length c.args.area.now) c.by_cover.result c.args.out.now c.by_cover.new.out (omega arith) (omega arith) c.by_cover.ensures

@@ -26,20 +26,20 @@ singles-requires c =
 
 pub returns-in-1 : goal.returns-in-1
 returns-in-1 c =
-    tries_plain c.args.marks.kind c.args.src.now c.args.marks.layout (glyph_entries c.args.marks.form c.args.glyphs.now) (map_entries c.args.lookups.now) (length c.args.t.now) (length c.args.area.now) c.context_in.result c.args.out.now c.context_in.new.1.1.1.1.1.1.1.0 (omega arith) c.context_in.ensures
+    tries_plain c.args.marks.kind c.args.src.now c.args.marks.layout (glyph_entries c.args.marks.form c.args.glyphs.now) (map_entries c.args.lookups.now) (length c.args.t.now) (length c.args.area.now) c.context_in.result c.args.out.now c.context_in.new.out (omega arith) c.context_in.ensures
 
 pub returns-in-2 : goal.returns-in-2
 returns-in-2 c =
-    tries_chained c.args.marks.kind c.args.src.now c.args.marks.layout (glyph_entries c.args.marks.form c.args.glyphs.now) (map_entries c.args.lookups.now) (length c.args.t.now) (length c.args.area.now) c.context_in-in-2.result c.args.out.now c.context_in-in-2.new.1.1.1.1.1.1.1.0 (omega arith) c.context_in-in-2.ensures
+    tries_chained c.args.marks.kind c.args.src.now c.args.marks.layout (glyph_entries c.args.marks.form c.args.glyphs.now) (map_entries c.args.lookups.now) (length c.args.t.now) (length c.args.area.now) c.context_in-in-2.result c.args.out.now c.context_in-in-2.new.out (omega arith) c.context_in-in-2.ensures
 
 pub returns-in-3 : goal.returns-in-3
 returns-in-3 c =
-    tries_ligatures c.args.marks.kind c.args.src.now c.args.marks.layout (glyph_entries c.args.marks.form c.args.glyphs.now) (map_entries c.args.lookups.now) (length c.args.t.now) (length c.args.area.now) c.ligatures.result c.args.out.now c.ligatures.new.1.1.1.1.1.0 (omega arith) c.ligatures.ensures
+    tries_ligatures c.args.marks.kind c.args.src.now c.args.marks.layout (glyph_entries c.args.marks.form c.args.glyphs.now) (map_entries c.args.lookups.now) (length c.args.t.now) (length c.args.area.now) c.ligatures.result c.args.out.now c.ligatures.new.out (omega arith) c.ligatures.ensures
 
 pub returns-in-4 : goal.returns-in-4
 returns-in-4 c =
-    tries_pairs c.args.marks.kind c.args.src.now c.args.marks.layout (glyph_entries c.args.marks.form c.args.glyphs.now) (map_entries c.args.lookups.now) (length c.args.t.now) (length c.args.area.now) c.pairs_in.result c.args.out.now c.pairs_in.new.1.1.1.1.1.0 (omega arith) c.pairs_in.ensures
+    tries_pairs c.args.marks.kind c.args.src.now c.args.marks.layout (glyph_entries c.args.marks.form c.args.glyphs.now) (map_entries c.args.lookups.now) (length c.args.t.now) (length c.args.area.now) c.pairs_in.result c.args.out.now c.pairs_in.new.out (omega arith) c.pairs_in.ensures
 
 pub returns-in_default : goal.returns-in_default
 returns-in_default c =
-    tries_singles c.args.marks.kind c.args.src.now c.args.marks.layout (glyph_entries c.args.marks.form c.args.glyphs.now) (map_entries c.args.lookups.now) (length c.args.t.now) (length c.args.area.now) c.singles.result c.args.out.now c.singles.new.1.1.1.1.1.0 (omega arith) (omega arith) (omega arith) (omega arith) c.singles.ensures
+    tries_singles c.args.marks.kind c.args.src.now c.args.marks.layout (glyph_entries c.args.marks.form c.args.glyphs.now) (map_entries c.args.lookups.now) (length c.args.t.now) (length c.args.area.now) c.singles.result c.args.out.now c.singles.new.out (omega arith) (omega arith) (omega arith) (omega arith) c.singles.ensures

@@ -14,8 +14,8 @@ class_pairs-requires c =
 
 pub returns-in-1 : goal.returns-in-1
 returns-in-1 c =
-    tries_glyph_pairs c.args.src.now c.word_at-format.ensures.0 c.args.marks.layout (glyph_entries c.args.marks.form c.args.glyphs.now) (length c.args.t.now) (length c.args.area.now) c.pairs.result c.args.out.now c.pairs.new.1.1.1.1.1.0 (omega arith) c.pairs.ensures
+    tries_glyph_pairs c.args.src.now c.word_at-format.ensures.0 c.args.marks.layout (glyph_entries c.args.marks.form c.args.glyphs.now) (length c.args.t.now) (length c.args.area.now) c.pairs.result c.args.out.now c.pairs.new.out (omega arith) c.pairs.ensures
 
 pub returns-in_default : goal.returns-in_default
 returns-in_default c =
-    tries_class_pairs c.args.src.now c.word_at-format.ensures.0 c.args.marks.layout (glyph_entries c.args.marks.form c.args.glyphs.now) (length c.args.t.now) (length c.args.area.now) c.class_pairs.result c.args.out.now c.class_pairs.new.1.1.1.1.1.0 (omega arith) c.class_pairs.ensures
+    tries_class_pairs c.args.src.now c.word_at-format.ensures.0 c.args.marks.layout (glyph_entries c.args.marks.form c.args.glyphs.now) (length c.args.t.now) (length c.args.area.now) c.class_pairs.result c.args.out.now c.class_pairs.new.out (omega arith) c.class_pairs.ensures

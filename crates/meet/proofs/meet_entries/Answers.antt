@@ -1,8 +1,8 @@
-use mathlib.Core.Logic.{⊎_elim}
 use Prim.Native.Nat.{◌-◌, ◌<◌}
 use native.Mathlib.Omega.{arith}
 use Rattle.meet.proofs.Asking.{asking_all, asking_small, asking_one, asking_none, asking_end}
 use Rattle.meet.proofs.meet_entries.Goals as goal
+use Rattle.meet.proofs.meet_entries.Goals.{in-At, in-Not}
 use Rattle.meet.proofs.meet_entries.Goals.{In-At}
 
 pub loop-e-init : goal.loop-e-init
@@ -27,10 +27,9 @@ overflow_cast-t c = omega (arith, small (goal.at.overflow_cast-t c).In-At)
 
 pub loop-e-preserved : goal.loop-e-preserved
 loop-e-preserved c =
-    ⊎_elim
-    (λ a. rw (a.4, a.5) (asking_one c.requires c.loop-e.invariant c.loop-e-test.true c.word_inside.ensures.0 c.index_of.ensures a.1.given.1 a.3.ensures.0 a.3.ensures.1))
-    (λ a. rw (a.2, a.3) (asking_none c.requires c.loop-e.invariant c.loop-e-test.true c.word_inside.ensures.0 c.index_of.ensures a.1.given.1))
-    c.match-index_of.branch
+    elim c.match-index_of.branch
+    [ in-At w ↦ rw (w.t-is, w.k-is) (asking_one c.requires c.loop-e.invariant c.loop-e-test.true c.word_inside.ensures.0 c.index_of.ensures w.in-At.is w.word_inside-in-At.ensures.0 w.word_inside-in-At.ensures.1)
+    | in-Not w ↦ rw (w.t-is, w.k-is) (asking_none c.requires c.loop-e.invariant c.loop-e-test.true c.word_inside.ensures.0 c.index_of.ensures w.in-Not.is) ]
 
 pub shape_of-t : goal.shape_of-t
 shape_of-t c = c.loop-e.invariant.kept.size

@@ -16,4 +16,4 @@ cut_in-requires c =
 
 pub returns : goal.returns
 returns c =
-    front_tries c.args.area.now c.front-n.ensures c.args.t.now c.cut_in.result c.args.out.now c.cut_in.new.1.1.1.1.1.0 (written_in c.args.marks.layout c.args.out.now (cut (glyph_entries c.args.marks.form c.args.glyphs.now) [] (pair_table c.args.src.now))) c.cut_in.ensures
+    front_tries c.args.area.now c.front-n.ensures c.args.t.now c.cut_in.result c.args.out.now c.cut_in.new.out (written_in c.args.marks.layout c.args.out.now (cut (glyph_entries c.args.marks.form c.args.glyphs.now) [] (pair_table c.args.src.now))) c.cut_in.ensures

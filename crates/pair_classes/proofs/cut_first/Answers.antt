@@ -16,4 +16,4 @@ lay_pairs-requires c =
 
 pub returns : goal.returns
 returns c =
-    all_left c.requires.0 refl c.word_inside.ensures.0 c.second_classes-second.ensures c.if-second-eq0.false c.args.marks.layout c.args.area.now c.lay_pairs.result c.args.out.now c.lay_pairs.new.1.1.1.1.1.1.1.0 c.lay_pairs.ensures
+    all_left c.requires.0 refl c.word_inside.ensures.0 c.second_classes-second.ensures c.if-second-eq0.false c.args.marks.layout c.args.area.now c.lay_pairs.result c.args.out.now c.lay_pairs.new.out c.lay_pairs.ensures

@@ -30,4 +30,4 @@ cut_map-requires c =
 
 pub returns : goal.returns
 returns c =
-    cells_same c.cut_map.result c.args.out.now c.cut_map.new.1.1.1.1.1.1.0 (written_in c.args.marks.layout c.args.out.now (cut (glyph_entries c.args.marks.form c.args.glyphs.now) [] (pair_table c.args.src.now))) c.lay_glyphs-m.ensures.kept c.args.area.now c.cut_map.ensures
+    cells_same c.cut_map.result c.args.out.now c.cut_map.new.out (written_in c.args.marks.layout c.args.out.now (cut (glyph_entries c.args.marks.form c.args.glyphs.now) [] (pair_table c.args.src.now))) c.lay_glyphs-m.ensures.kept c.args.area.now c.cut_map.ensures

@@ -27,4 +27,4 @@ cut_noted-requires c =
 
 pub returns : goal.returns
 returns c =
-    cells_same c.cut_noted.result c.args.out.now c.cut_noted.new.1.1.1.1.1.1.0 (written_in c.args.marks.layout c.args.out.now (cut (glyph_entries c.args.marks.form c.args.glyphs.now) [] (pair_table c.args.src.now))) c.meet-len.ensures.kept c.args.area.now c.cut_noted.ensures
+    cells_same c.cut_noted.result c.args.out.now c.cut_noted.new.out (written_in c.args.marks.layout c.args.out.now (cut (glyph_entries c.args.marks.form c.args.glyphs.now) [] (pair_table c.args.src.now))) c.meet-len.ensures.kept c.args.area.now c.cut_noted.ensures

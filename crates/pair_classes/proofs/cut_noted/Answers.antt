@@ -35,4 +35,4 @@ cut_first-requires c =
 
 pub returns : goal.returns
 returns c =
-    scratch_same c.cut_first.result c.args.out.now c.cut_first.new.1.1.1.1.1.1.1.0 (written_in c.args.marks.layout c.args.out.now (cut (glyph_entries c.args.marks.form c.args.glyphs.now) [] (pair_table c.args.src.now))) c.first_classes-first.ensures.kept c.put_covered.ensures c.cut_first.ensures
+    scratch_same c.cut_first.result c.args.out.now c.cut_first.new.out (written_in c.args.marks.layout c.args.out.now (cut (glyph_entries c.args.marks.form c.args.glyphs.now) [] (pair_table c.args.src.now))) c.first_classes-first.ensures.kept c.put_covered.ensures c.cut_first.ensures

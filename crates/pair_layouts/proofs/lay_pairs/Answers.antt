@@ -20,4 +20,4 @@ fits-requires c =
 
 pub returns : goal.returns
 returns c =
-    left_laid c.args.packing c.args.src.now c.args.t.now c.args.cover c.args.first c.args.second c.new_formats-f.ensures c.args.out.now c.write_cells-p.ensures c.if-area-p.false c.write_tail-ends.ensures c.if-area-ends.false c.hand_over.result c.hand_over.new.1.1.1.1.1.0 c.write_head.ensures c.before.before.before.before.fits2.ensures c.hand_over.ensures
+    left_laid c.args.packing c.args.src.now c.args.t.now c.args.cover c.args.first c.args.second c.new_formats-f.ensures c.args.out.now c.write_cells-p.ensures c.if-area-p.false c.write_tail-ends.ensures c.if-area-ends.false c.hand_over.result c.hand_over.new.out c.write_head.ensures c.fits.ensures c.hand_over.ensures

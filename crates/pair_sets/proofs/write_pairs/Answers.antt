@@ -1,5 +1,4 @@
 use mathlib.Core.Path.{refl, ap, ◌∙◌}
-use mathlib.Core.Logic.{⊎_elim}
 use Prim.Native.Nat.{◌-◌}
 use native.Mathlib.Omega.{arith}
 use lib.ListN.{length}
@@ -9,6 +8,7 @@ use Rattle.numbers.proofs.Numbers.{cell_new, cell_gone}
 use Rattle.pair_fields.specs.Pairs.{pairs_most}
 use Rattle.pair_fields.proofs.Pairing.{pairing_all, pairing_inside, pairing_gone, pairing_one, pairing_full, pairing_none, pairing_end}
 use Rattle.pair_sets.proofs.write_pairs.Goals as goal
+use Rattle.pair_sets.proofs.write_pairs.Goals.{in-New, in_default}
 
 pub word_inside-n-requires : goal.word_inside-n-requires
 word_inside-n-requires c = omega (arith, c.requires.0)
@@ -43,10 +43,9 @@ overflow_add-p-in-loop-i c = omega (arith, pairing_inside c.loop-i.invariant c.l
 
 pub loop-i-preserved : goal.loop-i-preserved
 loop-i-preserved c =
-    ⊎_elim
-    (λ v. rw (v.7, v.8, v.9) (pairing_one c.loop-i.invariant c.loop-i-test.true c.word_inside-second.ensures.0 (cell_new c.requires.2 c.find.ensures v.1.given.1) v.4.ensures))
-    (λ v. rw (v.2, v.3, v.4) (pairing_gone c.loop-i.invariant c.loop-i-test.true c.word_inside-second.ensures.0 (cell_gone c.requires.2 c.find.ensures v.1.given.1)))
-    c.match-find.branch
+    elim c.match-find.branch
+    [ in-New w ↦ rw (w.area-is, w.k-is, w.q-is) (pairing_one c.loop-i.invariant c.loop-i-test.true c.word_inside-second.ensures.0 (cell_new c.requires.2 c.find.ensures w.in-New.is) w.write_pair-q.ensures)
+    | in_default w ↦ rw (w.area-is, w.k-is, w.q-is) (pairing_gone c.loop-i.invariant c.loop-i-test.true c.word_inside-second.ensures.0 (cell_gone c.requires.2 c.find.ensures w.in_default.is)) ]
 
 pub shape_of-area-then-k-eq0 : goal.shape_of-area-then-k-eq0
 shape_of-area-then-k-eq0 c = c.loop-i.invariant.same

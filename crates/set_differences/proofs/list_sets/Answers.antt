@@ -13,4 +13,4 @@ pair_rows-requires c =
 
 pub returns : goal.returns
 returns c =
-    rows_listed c.gather-m.ensures c.gather-n.ensures c.args.sets.first c.pair_rows.ensures (take_all (length c.pair_rows.new.1.1.1.0 - 65536) (drop 65536 c.pair_rows.new.1.1.1.0) (omega (arith, length-drop 65536 c.pair_rows.new.1.1.1.0))) c.list_ranks.ensures
+    rows_listed c.gather-m.ensures c.gather-n.ensures c.args.sets.first c.pair_rows.ensures (take_all (length c.pair_rows.new.links - 65536) (drop 65536 c.pair_rows.new.links) (omega (arith, length-drop 65536 c.pair_rows.new.links))) c.list_ranks.ensures

@@ -16,7 +16,7 @@ lay_delta-requires c =
 
 pub returns-then-kept : goal.returns-then-kept
 returns-then-kept c =
-    subst (λ (x : Outcome). Tries (⊥) (length c.args.area.now < limit) c.lay_delta.result c.args.out.now c.lay_delta.new.1.1.1.1.0 x) (delta_laid c.requires c.if-kept-eq0.false c.args.out.now c.if-kept.true) c.lay_delta.ensures
+    subst (λ (x : Outcome). Tries (⊥) (length c.args.area.now < limit) c.lay_delta.result c.args.out.now c.lay_delta.new.out x) (delta_laid c.requires c.if-kept-eq0.false c.args.out.now c.if-kept.true) c.lay_delta.ensures
 
 pub lay_list-requires : goal.lay_list-requires
 lay_list-requires c =
@@ -24,4 +24,4 @@ lay_list-requires c =
 
 pub returns : goal.returns
 returns c =
-    subst (λ (x : Outcome). Tries (⊥) (length c.args.area.now < limit) c.lay_list.result c.args.out.now c.lay_list.new.1.1.1.1.0 x) (list_laid c.requires c.if-kept-eq0.false c.args.out.now c.if-kept.false) c.lay_list.ensures
+    subst (λ (x : Outcome). Tries (⊥) (length c.args.area.now < limit) c.lay_list.result c.args.out.now c.lay_list.new.out x) (list_laid c.requires c.if-kept-eq0.false c.args.out.now c.if-kept.false) c.lay_list.ensures

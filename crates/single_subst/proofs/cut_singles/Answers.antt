@@ -27,4 +27,4 @@ lay_pairs-requires c =
 
 pub returns : goal.returns
 returns c =
-    cut_tries c.requires.0 c.requires.1 refl (met_cover c.args.src.now c.word_inside-cover.ensures.0 c.meet-n.ensures) c.keep_pairs-kept.ensures c.lay_pairs.result c.args.area.now c.args.out.now c.lay_pairs.new.1.1.1.1.0 c.lay_pairs.ensures
+    cut_tries c.requires.0 c.requires.1 refl (met_cover c.args.src.now c.word_inside-cover.ensures.0 c.meet-n.ensures) c.keep_pairs-kept.ensures c.lay_pairs.result c.args.area.now c.args.out.now c.lay_pairs.new.out c.lay_pairs.ensures

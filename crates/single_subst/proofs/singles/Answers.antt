@@ -29,4 +29,4 @@ cut_singles-requires c =
 
 pub returns : goal.returns
 returns c =
-    cells_same c.requires c.lay_glyphs-m.ensures (length c.args.area.now < limit) c.cut_singles.result c.args.out.now c.cut_singles.new.1.1.1.1.1.1.0 (written c.args.out.now (cut (glyph_entries c.args.form c.args.glyphs.now) [] (single c.args.src.now))) c.cut_singles.ensures
+    cells_same c.requires c.lay_glyphs-m.ensures (length c.args.area.now < limit) c.cut_singles.result c.args.out.now c.cut_singles.new.out (written c.args.out.now (cut (glyph_entries c.args.form c.args.glyphs.now) [] (single c.args.src.now))) c.cut_singles.ensures

@@ -12,11 +12,11 @@ sweep_lookup-requires c =
 
 pub returns-then-not-sweep_lookup : goal.returns-then-not-sweep_lookup
 returns-then-not-sweep_lookup c =
-    ordering_deep c.loop-lookup.invariant c.loop-lookup-test.true c.sweep_lookup.result c.sweep_lookup.new.1.1.0 c.sweep_lookup.ensures c.if-not-sweep_lookup.true-raw
+    ordering_deep c.loop-lookup.invariant c.loop-lookup-test.true c.sweep_lookup.result c.sweep_lookup.new.string c.sweep_lookup.ensures c.if-not-sweep_lookup.true-raw
 
 pub loop-lookup-preserved : goal.loop-lookup-preserved
 loop-lookup-preserved c =
-    ordering_turn c.loop-lookup.invariant c.loop-lookup-test.true c.sweep_lookup.result c.sweep_lookup.new.1.1.0 c.sweep_lookup.ensures c.sweep_lookup.auto.1.1.0 c.if-not-sweep_lookup.false-raw
+    ordering_turn c.loop-lookup.invariant c.loop-lookup-test.true c.sweep_lookup.result c.sweep_lookup.new.string c.sweep_lookup.ensures c.sweep_lookup.auto.1.1.0 c.if-not-sweep_lookup.false-raw
 
 pub returns : goal.returns
 returns c = ordering_end c.loop-lookup.invariant c.loop-lookup-test.false

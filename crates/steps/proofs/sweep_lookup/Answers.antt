@@ -15,11 +15,11 @@ lookup_step-requires c =
 
 pub returns-in_default : goal.returns-in_default
 returns-in_default c =
-    sweeping_deep c.loop-place.invariant c.loop-place-test.true c.lookup_step.new.1.1.0 c.lookup_step.ensures c.in_default.is
+    sweeping_deep c.loop-place.invariant c.loop-place-test.true c.lookup_step.new.string c.lookup_step.ensures c.in_default.is
 
 pub onward-place-requires : goal.onward-place-requires
 onward-place-requires c =
-    took_small (apply 8 (lookups_of c.args.list.now c.args.buffer.now) c.args.lookup (words c.loop-place.string 0 c.args.n) c.loop-place.place) c.args.n c.lookup_step.new.1.1.0 c.lookup_step.ensures c.in-Took.is
+    took_small (apply 8 (lookups_of c.args.list.now c.args.buffer.now) c.args.lookup (words c.loop-place.string 0 c.args.n) c.loop-place.place) c.args.n c.lookup_step.new.string c.lookup_step.ensures c.in-Took.is
 
 pub loop-place-preserved : goal.loop-place-preserved
 loop-place-preserved c =

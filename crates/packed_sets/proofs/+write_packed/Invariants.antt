@@ -1,0 +1,4 @@
+use Rattle.packed_sets.proofs.+write_packed.Given as goal
+
+abbrev pub decreases-write_packed : goal.decreases-write_packed
+decreases-write_packed l = l.rounds
