@@ -31,4 +31,4 @@ bounds-t-cell-2 c =
 
 pub returns : goal.returns
 returns c =
-    adds_one (omega (arith, c.type_inv.t (cell_of c.args.m c.args.old))) c.if-key-m.false
+    adds_one (omega (arith, c.slice_known-1.given (cell_of c.args.m c.args.old))) c.if-key-m.false

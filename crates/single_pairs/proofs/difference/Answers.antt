@@ -13,4 +13,4 @@ overflow_cast-c-2 c =
 pub returns : goal.returns
 returns c =
     let g = c.type_inv.t c.args.i in
-    wraps_back _ _ _ (omega arith) (omega (arith, g)) (omega arith) c.wrapping_sub_u16.ensures
+    wraps_back _ _ _ (omega arith) (omega (arith, g)) (omega arith) c.wrapping_sub_u16.ensures.value

@@ -21,7 +21,7 @@ word_inside-delta-requires c =
 
 pub returns-then-word_inside-eq1 : goal.returns-then-word_inside-eq1
 returns-then-word_inside-eq1 c =
-    by_delta c.requires c.word_inside.ensures.0 c.if-word_inside-eq1.true c.word_inside-delta.ensures.0 (c.glyph_at-glyph.ensures.glyph ∙ ap (λ (x : ℕ). get_or (coverage c.args.src.now x) c.args.i 0) c.word_inside-then-word_inside-eq1.ensures.0) c.wrapping_add_u16.ensures
+    by_delta c.requires c.word_inside.ensures.0 c.if-word_inside-eq1.true c.word_inside-delta.ensures.0 (c.glyph_at-glyph.ensures.glyph ∙ ap (λ (x : ℕ). get_or (coverage c.args.src.now x) c.args.i 0) c.word_inside-then-word_inside-eq1.ensures.0) c.wrapping_add_u16.ensures.value
 
 pub overflow_mul-i : goal.overflow_mul-i
 overflow_mul-i c =

@@ -16,7 +16,7 @@ returns-in_default c =
 
 pub returns-then-word_at-eq1 : goal.returns-then-word_at-eq1
 returns-then-word_at-eq1 c =
-    single_delta c.args.src.now c.args.glyph c.word_at-cover.ensures.0 c.if-cover-eq0.false c.index_of.ensures c.in-At.is c.word_at-last.ensures.0 c.word_at.ensures.0 c.if-word_at-eq1.true c.wrapping_add_u16.ensures
+    single_delta c.args.src.now c.args.glyph c.word_at-cover.ensures.0 c.if-cover-eq0.false c.index_of.ensures c.in-At.is c.word_at-last.ensures.0 c.word_at.ensures.0 c.if-word_at-eq1.true c.wrapping_add_u16.ensures.value
 
 pub returns-then-last-i : goal.returns-then-last-i
 returns-then-last-i c =
