@@ -83,17 +83,15 @@ fn one_number(a: Compared) -> u64
     number_of(a) as u64 * 0x100_0000_0000_0000 + length_of(a) as u64
 }
 
-// The call for other languages, on numbers and byte slices. The answer is one number: the answer's number times 2^56, plus its length.
-#[unsafe(no_mangle)]
-pub extern "C" fn gillcurtain_compare(kind: u64, left: &[u8], right: &[u8], out: &mut [u8]) -> u64
+// The call as other languages make it, through `compare_c`, on numbers and byte slices. The answer is one number: the answer's number times 2^56, plus its length.
+pub fn gillcurtain_compare(kind: u64, left: &[u8], right: &[u8], out: &mut [u8]) -> u64
     ensures { decoded result out.new ≡ compare kind left.now right.now out.old }
 {
     one_number(compare(kind as usize, left, right, out))
 }
 
 // The same with lent cells, as `compare_in` takes them.
-#[unsafe(no_mangle)]
-pub extern "C" fn gillcurtain_compare_in(
+pub fn gillcurtain_compare_in(
     kind: u64,
     left: &[u8],
     right: &[u8],

@@ -8,6 +8,7 @@ ghost use Rattle.compare_job.specs.Program.{compare_file, said, outcome_of, prog
 use compare::{compare, length_of, number_of};
 use compare_file::{good_file, kind_of, left_of, put_answer, right_of};
 use input::{Input, read_input};
+use std::io::Write;
 
 // One byte more than the longest compare file has, so that a longer one is seen.
 const FILE: usize = 600001;
@@ -75,15 +76,15 @@ fn answer(file: &[u8], text: &mut [u8]) -> usize
 }
 
 // Reads the file, and writes the text at once. Where that fails, a sentence on standard error says so; a failed read leaves standard output empty.
-fn main() {
+fn main(rt: HostRuntime) {
     let mut file = [0u8; FILE];
-    let Input::Bytes(n) = read_input(&mut file) else {
-        io::write_all(2, b"compare_job: standard input could not be read\n");
+    let Input::Bytes(n) = read_input(&mut rt.stdin(), &mut file) else {
+        let _ = eprintln!(rt; "compare_job: standard input could not be read");
         return;
     };
     let mut text = blank();
     let k = answer(&file[..n], &mut text);
-    if !io::write_all(1, &text[..k]) {
-        io::write_all(2, b"compare_job: the answer could not be written\n");
+    if rt.stdout().write_all(&text[..k]).is_err() {
+        let _ = eprintln!(rt; "compare_job: the answer could not be written");
     }
 }

@@ -10,6 +10,7 @@ use answer_numbers::{length_of, number_of};
 use input::{Input, read_input};
 use job::run;
 use report::report;
+use std::io::Write;
 
 // One byte more than the longest job file has, so that a longer one is seen.
 const FILE: usize = 65537;
@@ -50,15 +51,15 @@ fn unread() -> [u8; FILE] {
 }
 
 // Reads the file, and writes the text at once. Where that fails, a sentence on standard error says so; a failed read leaves standard output empty.
-fn main() {
+fn main(rt: HostRuntime) {
     let mut file = unread();
-    let Input::Bytes(n) = read_input(&mut file) else {
-        io::write_all(2, b"label_job: standard input could not be read\n");
+    let Input::Bytes(n) = read_input(&mut rt.stdin(), &mut file) else {
+        let _ = eprintln!(rt; "label_job: standard input could not be read");
         return;
     };
     let mut text = blank();
     let k = answer(&file[..n], &mut text);
-    if !io::write_all(1, &text[..k]) {
-        io::write_all(2, b"label_job: the answer could not be written\n");
+    if rt.stdout().write_all(&text[..k]).is_err() {
+        let _ = eprintln!(rt; "label_job: the answer could not be written");
     }
 }

@@ -12,6 +12,7 @@ use lookup_list::long_at;
 use replay::{refusing, replay_all};
 use replay_cost::replay_cost;
 use report::put_line;
+use std::io::Write;
 use tallies::Replayed;
 
 // The most bytes of a replay file.
@@ -124,15 +125,15 @@ fn unread() -> [u8; FILE] {
 }
 
 // Reads the file, and writes the text at once. Where that fails, a sentence on standard error says so; a failed read leaves standard output empty.
-fn main() {
+fn main(rt: HostRuntime) {
     let mut file = unread();
-    let Input::Bytes(n) = read_input(&mut file) else {
-        io::write_all(2, b"replay_job: standard input could not be read\n");
+    let Input::Bytes(n) = read_input(&mut rt.stdin(), &mut file) else {
+        let _ = eprintln!(rt; "replay_job: standard input could not be read");
         return;
     };
     let mut text = [0u8; TEXT];
     let k = answer(&file[..n], &mut text);
-    if !io::write_all(1, &text[..k]) {
-        io::write_all(2, b"replay_job: the answer could not be written\n");
+    if rt.stdout().write_all(&text[..k]).is_err() {
+        let _ = eprintln!(rt; "replay_job: the answer could not be written");
     }
 }

@@ -1,4 +1,4 @@
-// The call: three marks, a source, a glyph map, a lookup map and a lent buffer, and the first answer that applies; as a function of Rattle and as two of C.
+// The call: three marks, a source, a glyph map, a lookup map and a lent buffer, and the first answer that applies; also on plain numbers, with one number as the answer.
 #![tactic(auto)]
 
 ghost use Rattle.std.specs.Prelude.{◌≡◌};
@@ -52,9 +52,8 @@ pub fn subset_in(
     answer_for(cut_lent(marks, source, glyphs, lookups, cells, area, out))
 }
 
-// The call for other languages, on numbers and byte slices: its three marks first. The answer is one number: the answer's number times 2^56, plus its length.
-#[unsafe(no_mangle)]
-pub extern "C" fn gillcurtain_subset(
+// The call as other languages make it, through `subset_c`, on numbers and byte slices: its three marks first. The answer is one number: the answer's number times 2^56, plus its length.
+pub fn gillcurtain_subset(
     kind: u64,
     form: u64,
     layout: u64,
@@ -74,8 +73,7 @@ pub extern "C" fn gillcurtain_subset(
 }
 
 // The same with lent scratch, as `subset_in` takes it.
-#[unsafe(no_mangle)]
-pub extern "C" fn gillcurtain_subset_in(
+pub fn gillcurtain_subset_in(
     kind: u64,
     form: u64,
     layout: u64,

@@ -13,6 +13,7 @@ use made_tables::{
 };
 use marks::Marks;
 use put_words::{put, put_byte, put_entry, put_record};
+use std::io::Read;
 use subset::subset;
 use wire::{byte, word_at};
 
@@ -58,12 +59,14 @@ const LONGER: usize = 16;
 // The longest buffer that is lent.
 const SPACE: usize = 65682;
 
-fn text(s: &[u8]) {
-    io::write_all(1, s);
+// Prints a text. A failed write is not told.
+fn text(rt: &impl Print, s: &[u8]) {
+    let _ = rt.write_all(s);
 }
 
-fn number(n: usize) {
-    io::print_decimal(1, n as u64);
+// Prints a number, as `text` prints.
+fn number(rt: &impl Print, n: usize) {
+    let _ = print!(rt; "{n}");
 }
 
 // What a buffer holds at `i` before a call.
@@ -126,6 +129,7 @@ fn agrees(
 
 // The same on a buffer of `room` bytes, as a count of calls that agree, which is printed if it is 0.
 fn agreed(
+    rt: &impl Print,
     marks: Marks,
     source: &[u8],
     glyphs: &[u8],
@@ -151,14 +155,21 @@ fn agreed(
     ) {
         return 1;
     }
-    text(b"with a buffer of ");
-    number(room);
-    text(b" bytes: ");
+    text(rt, b"with a buffer of ");
+    number(rt, room);
+    text(rt, b" bytes: ");
     0
 }
 
 // How many agree of the calls that keep these bytes.
-fn kept_calls(marks: Marks, source: &[u8], glyphs: &[u8], lookups: &[u8], kept: &[u8]) -> usize
+fn kept_calls(
+    rt: &impl Print,
+    marks: Marks,
+    source: &[u8],
+    glyphs: &[u8],
+    lookups: &[u8],
+    kept: &[u8],
+) -> usize
     ensures { result ≤ 3 }
 {
     let n = kept.len();
@@ -168,14 +179,21 @@ fn kept_calls(marks: Marks, source: &[u8], glyphs: &[u8], lookups: &[u8], kept: 
     if SPACE - LONGER < n {
         return 0;
     }
-    let short = agreed(marks, source, glyphs, lookups, 10, n, b"", n - 1);
-    let exact = agreed(marks, source, glyphs, lookups, 0, n, kept, n);
-    let longer = agreed(marks, source, glyphs, lookups, 0, n, kept, n + LONGER);
+    let short = agreed(rt, marks, source, glyphs, lookups, 10, n, b"", n - 1);
+    let exact = agreed(rt, marks, source, glyphs, lookups, 0, n, kept, n);
+    let longer = agreed(rt, marks, source, glyphs, lookups, 0, n, kept, n + LONGER);
     short + exact + longer
 }
 
 // How many agree of the calls that have no room, since `n` bytes are needed.
-fn short_calls(marks: Marks, source: &[u8], glyphs: &[u8], lookups: &[u8], n: usize) -> usize
+fn short_calls(
+    rt: &impl Print,
+    marks: Marks,
+    source: &[u8],
+    glyphs: &[u8],
+    lookups: &[u8],
+    n: usize,
+) -> usize
     ensures { result ≤ 3 }
 {
     if n == 0 {
@@ -184,14 +202,15 @@ fn short_calls(marks: Marks, source: &[u8], glyphs: &[u8], lookups: &[u8], n: us
     if SPACE < n {
         return 0;
     }
-    let empty = agreed(marks, source, glyphs, lookups, 10, n, b"", 0);
-    let half = agreed(marks, source, glyphs, lookups, 10, n, b"", n / 2);
-    let short = agreed(marks, source, glyphs, lookups, 10, n, b"", n - 1);
+    let empty = agreed(rt, marks, source, glyphs, lookups, 10, n, b"", 0);
+    let half = agreed(rt, marks, source, glyphs, lookups, 10, n, b"", n / 2);
+    let short = agreed(rt, marks, source, glyphs, lookups, 10, n, b"", n - 1);
     empty + half + short
 }
 
 // How many agree of the calls that are refused by this number, with this length.
 fn refused_calls(
+    rt: &impl Print,
     marks: Marks,
     source: &[u8],
     glyphs: &[u8],
@@ -201,14 +220,15 @@ fn refused_calls(
 ) -> usize
     ensures { result ≤ 3 }
 {
-    let empty = agreed(marks, source, glyphs, lookups, answer, len, b"", 0);
-    let small = agreed(marks, source, glyphs, lookups, answer, len, b"", LONGER);
-    let large = agreed(marks, source, glyphs, lookups, answer, len, b"", SPACE);
+    let empty = agreed(rt, marks, source, glyphs, lookups, answer, len, b"", 0);
+    let small = agreed(rt, marks, source, glyphs, lookups, answer, len, b"", LONGER);
+    let large = agreed(rt, marks, source, glyphs, lookups, answer, len, b"", SPACE);
     empty + small + large
 }
 
 // How many agree of the calls with this answer.
 fn calls(
+    rt: &impl Print,
     marks: Marks,
     source: &[u8],
     glyphs: &[u8],
@@ -220,23 +240,23 @@ fn calls(
     ensures { result ≤ 3 }
 {
     if answer == 0 {
-        return kept_calls(marks, source, glyphs, lookups, kept);
+        return kept_calls(rt, marks, source, glyphs, lookups, kept);
     }
     if answer == 10 {
-        return short_calls(marks, source, glyphs, lookups, len);
+        return short_calls(rt, marks, source, glyphs, lookups, len);
     }
-    refused_calls(marks, source, glyphs, lookups, answer, len)
+    refused_calls(rt, marks, source, glyphs, lookups, answer, len)
 }
 
 // Prints a label and a number where not every call agreed; how many did.
-fn verdict(label: &[u8], n: usize, good: usize) -> usize
+fn verdict(rt: &impl Print, label: &[u8], n: usize, good: usize) -> usize
     requires { good ≤ 3 }
     ensures { result ≤ 3 }
 {
     if good < TIMES {
-        text(label);
-        number(n);
-        text(b" differs\n");
+        text(rt, label);
+        number(rt, n);
+        text(rt, b" differs\n");
     }
     good
 }
@@ -263,7 +283,7 @@ fn plain(kind: usize, form: usize) -> Marks {
 }
 
 // How many agree of the calls of a stored call, which is the one of this index.
-fn stored(index: usize, call: &[u8]) -> usize
+fn stored(rt: &impl Print, index: usize, call: &[u8]) -> usize
     ensures { result ≤ 3 }
 {
     let glyphs = HEADER + word_at(call, 8);
@@ -274,6 +294,7 @@ fn stored(index: usize, call: &[u8]) -> usize
         return 0;
     }
     let good = calls(
+        rt,
         marked(word_at(call, 0), word_at(call, 2), word_at(call, 4)),
         &call[HEADER..glyphs],
         &call[glyphs..lookups],
@@ -282,7 +303,7 @@ fn stored(index: usize, call: &[u8]) -> usize
         word_at(call, 14),
         &call[kept..end],
     );
-    verdict(b"stored call ", index, good)
+    verdict(rt, b"stored call ", index, good)
 }
 
 // The bytes of the stored call at `at`.
@@ -295,22 +316,22 @@ fn call_size(file: &[u8], at: usize) -> usize
 }
 
 // Prints how many of the calls agreed.
-fn summary(made: usize, good: usize)
+fn summary(rt: &impl Print, made: usize, good: usize)
     requires { good ≤ made }
 {
-    number(good);
-    text(b" calls agreed, ");
-    number(made - good);
-    text(b" differed\n");
+    number(rt, good);
+    text(rt, b" calls agreed, ");
+    number(rt, made - good);
+    text(rt, b" differed\n");
 }
 
 // Prints that the file does not end where a stored call does.
-fn cut_short() {
-    text(b"the last stored call is cut short\n");
+fn cut_short(rt: &impl Print) {
+    text(rt, b"the last stored call is cut short\n");
 }
 
 // Runs the stored calls, and prints how many of these and of those that were made before agreed.
-fn run(file: &[u8], made: usize, good: usize)
+fn run(rt: &impl Print, file: &[u8], made: usize, good: usize)
     requires { (length file.now ≤ 262144) × (made ≤ 65536) × (good ≤ made) }
 {
     let mut at = 0;
@@ -319,13 +340,13 @@ fn run(file: &[u8], made: usize, good: usize)
     while at < file.len() {
         let end = at + call_size(file, at);
         if file.len() < end {
-            return cut_short();
+            return cut_short(rt);
         }
-        agreeing += stored(index, &file[at..end]);
+        agreeing += stored(rt, index, &file[at..end]);
         index += 1;
         at = end;
     }
-    summary(made + TIMES * index, good + agreeing)
+    summary(rt, made + TIMES * index, good + agreeing)
 }
 
 // The longest source, of zeros. Its type says how long it is, and no contract says what is in it.
@@ -334,12 +355,12 @@ fn longest_zeros() -> [u8; LONGEST] {
 }
 
 // Sources of zeros, of the most bytes that a source may have: the kind has no format 0.
-fn longest_source(kind: usize) -> usize
+fn longest_source(rt: &impl Print, kind: usize) -> usize
     ensures { result ≤ 3 }
 {
     let source = longest_zeros();
-    let good = refused_calls(plain(kind, PAIRS), &source, b"", b"", 5, 0);
-    verdict(b"the longest source of kind ", kind, good)
+    let good = refused_calls(rt, plain(kind, PAIRS), &source, b"", b"", 5, 0);
+    verdict(rt, b"the longest source of kind ", kind, good)
 }
 
 // A source that is one byte longer, of zeros. Its type says how long it is, and no contract says what is in it.
@@ -348,19 +369,19 @@ fn long_zeros() -> [u8; LONG] {
 }
 
 // Sources of zeros, of one byte more.
-fn long_source(kind: usize) -> usize
+fn long_source(rt: &impl Print, kind: usize) -> usize
     ensures { result ≤ 3 }
 {
     let source = long_zeros();
-    let good = refused_calls(plain(kind, PAIRS), &source, b"", b"", 4, 0);
-    verdict(b"a longer source of kind ", kind, good)
+    let good = refused_calls(rt, plain(kind, PAIRS), &source, b"", b"", 4, 0);
+    verdict(rt, b"a longer source of kind ", kind, good)
 }
 
 // How many agree of the calls on both, of this kind.
-fn sources(kind: usize) -> usize
+fn sources(rt: &impl Print, kind: usize) -> usize
     ensures { result ≤ 6 }
 {
-    longest_source(kind) + long_source(kind)
+    longest_source(rt, kind) + long_source(rt, kind)
 }
 
 // A buffer for the layout with its last coverage at 65,534. Its type says how long it is, and no contract says what is in it.
@@ -369,7 +390,7 @@ fn highest_kept() -> [u8; HIGHEST_KEPT] {
 }
 
 // How many agree of the calls whose plain layout has its last coverage at 65,534: 490 places of 64 glyphs, in 65,666 bytes.
-fn highest_offset() -> usize
+fn highest_offset(rt: &impl Print) -> usize
     ensures { result ≤ 3 }
 {
     let mut source = [0u8; 1118];
@@ -378,24 +399,24 @@ fn highest_offset() -> usize
     put_map(&mut glyphs, 64);
     let mut kept = highest_kept();
     put_result(&mut kept, 490, 64);
-    let good = kept_calls(plain(1, PAIRS), &source, &glyphs, b"", &kept);
-    verdict(b"a coverage at ", 65534, good)
+    let good = kept_calls(rt, plain(1, PAIRS), &source, &glyphs, b"", &kept);
+    verdict(rt, b"a coverage at ", 65534, good)
 }
 
 // How many agree of the calls whose plain layout would have it at 65,536: 8,192 places of one glyph.
-fn higher_offset() -> usize
+fn higher_offset(rt: &impl Print) -> usize
     ensures { result ≤ 3 }
 {
     let mut source = [0u8; 16396];
     put_source(&mut source, 8192, 1);
     let mut glyphs = [0u8; 4];
     put_map(&mut glyphs, 1);
-    let good = refused_calls(plain(1, PAIRS), &source, &glyphs, b"", 9, 0);
-    verdict(b"a coverage at ", 65536, good)
+    let good = refused_calls(rt, plain(1, PAIRS), &source, &glyphs, b"", 9, 0);
+    verdict(rt, b"a coverage at ", 65536, good)
 }
 
 // How many agree of the calls whose packed layout has one coverage for these 8,192 places.
-fn packed_coverage() -> usize
+fn packed_coverage(rt: &impl Print) -> usize
     ensures { result ≤ 3 }
 {
     let mut source = [0u8; 16396];
@@ -404,12 +425,12 @@ fn packed_coverage() -> usize
     put_map(&mut glyphs, 1);
     let mut kept = [0u8; 16396];
     put_shared(&mut kept, 8192, 1, 2);
-    let good = kept_calls(marked(1, PAIRS, PACKED), &source, &glyphs, b"", &kept);
-    verdict(b"places with one coverage: ", 8192, good)
+    let good = kept_calls(rt, marked(1, PAIRS, PACKED), &source, &glyphs, b"", &kept);
+    verdict(rt, b"places with one coverage: ", 8192, good)
 }
 
 // How many agree of the calls on 9,000 covered glyphs.
-fn many_covered() -> usize
+fn many_covered(rt: &impl Print) -> usize
     ensures { result ≤ 3 }
 {
     let mut source = [0u8; 18012];
@@ -418,12 +439,12 @@ fn many_covered() -> usize
     put_map(&mut glyphs, 9000);
     let mut kept = [0u8; 18012];
     put_result(&mut kept, 1, 9000);
-    let good = kept_calls(plain(1, PAIRS), &source, &glyphs, b"", &kept);
-    verdict(b"covered glyphs: ", 9000, good)
+    let good = kept_calls(rt, plain(1, PAIRS), &source, &glyphs, b"", &kept);
+    verdict(rt, b"covered glyphs: ", 9000, good)
 }
 
 // How many agree of the calls on a set of 1,000 rules, of which all are kept: the source is as its plain layout has it.
-fn many_rules() -> usize
+fn many_rules(rt: &impl Print) -> usize
     ensures { result ≤ 3 }
 {
     let mut source = [0u8; 8016];
@@ -433,12 +454,12 @@ fn many_rules() -> usize
     put_record(&mut source, 8010, 1, 1, 0);
     let mut glyphs = [0u8; 4000];
     put_same(&mut glyphs, 1000);
-    let good = kept_calls(plain(1, PAIRS), &source, &glyphs, b"", &source);
-    verdict(b"rules in a set: ", 1000, good)
+    let good = kept_calls(rt, plain(1, PAIRS), &source, &glyphs, b"", &source);
+    verdict(rt, b"rules in a set: ", 1000, good)
 }
 
 // How many agree of the calls on 300 glyphs that share a set of 300 pairs, of which the first 100 are retained.
-fn wide_pairs() -> usize
+fn wide_pairs(rt: &impl Print) -> usize
     ensures { result ≤ 3 }
 {
     let mut source = [0u8; 1822];
@@ -451,8 +472,8 @@ fn wide_pairs() -> usize
     put_pair_table(&mut kept, 100, 402, 40410);
     put(&mut kept, 40416, 99);
     put_pair_sets(&mut kept, 210, 100);
-    let good = kept_calls(plain(4, PAIRS), &source, &glyphs, b"", &kept);
-    verdict(b"pairs of a shared set: ", 300, good)
+    let good = kept_calls(rt, plain(4, PAIRS), &source, &glyphs, b"", &kept);
+    verdict(rt, b"pairs of a shared set: ", 300, good)
 }
 
 // A buffer for a map of 32,764 glyphs. Its type says how long it is, and no contract says what is in it.
@@ -466,7 +487,7 @@ fn most_kept() -> [u8; MOST_KEPT] {
 }
 
 // How many agree of the calls whose plain layout has the coverage at 65,534, behind 32,764 substitutes.
-fn most_substitutes() -> usize
+fn most_substitutes(rt: &impl Print) -> usize
     ensures { result ≤ 3 }
 {
     let mut source = [0u8; 16];
@@ -475,8 +496,8 @@ fn most_substitutes() -> usize
     put_same_but_last(&mut glyphs, 32764);
     let mut kept = most_kept();
     put_list(&mut kept, 32764);
-    let good = kept_calls(plain(5, PAIRS), &source, &glyphs, b"", &kept);
-    verdict(b"substitutes: ", 32764, good)
+    let good = kept_calls(rt, plain(5, PAIRS), &source, &glyphs, b"", &kept);
+    verdict(rt, b"substitutes: ", 32764, good)
 }
 
 // A buffer for a map of one glyph more. Its type says how long it is, and no contract says what is in it.
@@ -485,20 +506,20 @@ fn more_glyphs() -> [u8; MORE_GLYPHS] {
 }
 
 // How many agree of the calls whose plain layout would have it at 65,536.
-fn more_substitutes() -> usize
+fn more_substitutes(rt: &impl Print) -> usize
     ensures { result ≤ 3 }
 {
     let mut source = [0u8; 16];
     put_next(&mut source, 32765);
     let mut glyphs = more_glyphs();
     put_same_but_last(&mut glyphs, 32765);
-    let good = refused_calls(plain(5, PAIRS), &source, &glyphs, b"", 9, 0);
-    verdict(b"substitutes: ", 32765, good)
+    let good = refused_calls(rt, plain(5, PAIRS), &source, &glyphs, b"", 9, 0);
+    verdict(rt, b"substitutes: ", 32765, good)
 }
 
 // How many agree of the calls on a chained context with high classes: each new class is the rank of the old one among those that survive.
 // Before the place glyph 2 holds class 60,000; after it glyphs 2 to 6 hold 65,535, 4,100, 100, 40,000 and 200, of which 6 is not retained. The rule names 60,000 before and the first four after.
-fn high_classes() -> usize
+fn high_classes(rt: &impl Print) -> usize
     ensures { result ≤ 3 }
 {
     let source =
@@ -507,25 +528,25 @@ fn high_classes() -> usize
         b"\x00\x01\x00\x01\x00\x02\x00\x02\x00\x03\x00\x03\x00\x04\x00\x04\x00\x05\x00\x05";
     let kept =
         b"\x00\x02\x00\x26\x00\x2c\x00\x34\x00\x3c\x00\x02\x00\x00\x00\x10\x00\x01\x00\x04\x00\x01\x00\x01\x00\x01\x00\x04\x00\x04\x00\x02\x00\x01\x00\x03\x00\x00\x00\x01\x00\x01\x00\x01\x00\x01\x00\x02\x00\x01\x00\x01\x00\x01\x00\x01\x00\x01\x00\x01\x00\x01\x00\x02\x00\x04\x00\x04\x00\x02\x00\x01\x00\x03";
-    let good = kept_calls(plain(2, PAIRS), source, glyphs, b"", kept);
-    verdict(b"classes up to ", 65535, good)
+    let good = kept_calls(rt, plain(2, PAIRS), source, glyphs, b"", kept);
+    verdict(rt, b"classes up to ", 65535, good)
 }
 
 // How many agree of the calls on large tables.
-fn large_tables() -> usize
+fn large_tables(rt: &impl Print) -> usize
     ensures { result ≤ 12 }
 {
-    many_covered() + many_rules() + wide_pairs() + high_classes()
+    many_covered(rt) + many_rules(rt) + wide_pairs(rt) + high_classes(rt)
 }
 
 // How many agree of the calls at the limits.
-fn limits() -> usize
+fn limits(rt: &impl Print) -> usize
     ensures { result ≤ 45 }
 {
-    let contexts = sources(1) + sources(2);
-    let others = sources(3) + sources(4) + sources(5);
-    let offsets = highest_offset() + higher_offset() + packed_coverage();
-    contexts + others + offsets + most_substitutes() + more_substitutes()
+    let contexts = sources(rt, 1) + sources(rt, 2);
+    let others = sources(rt, 3) + sources(rt, 4) + sources(rt, 5);
+    let offsets = highest_offset(rt) + higher_offset(rt) + packed_coverage(rt);
+    contexts + others + offsets + most_substitutes(rt) + more_substitutes(rt)
 }
 
 // A buffer for the stored calls. Its type says how long it is, and no contract says what is in it.
@@ -533,9 +554,23 @@ fn unread() -> [u8; FILE] {
     [0u8; FILE]
 }
 
-fn main() {
-    let good = limits() + large_tables();
+// Reads until `file` is full, the input ends or a read fails; how many bytes stand at its front.
+fn read_calls(from: &mut impl Read, file: &mut [u8]) -> usize
+    ensures { result ≤ length file.new }
+{
+    let mut n = 0;
+    while n < file.len() {
+        match from.read(&mut file[n..]) {
+            Ok(more) if more > 0 => n += more,
+            _ => break,
+        }
+    }
+    n
+}
+
+fn main(rt: HostRuntime) {
+    let good = limits(&rt) + large_tables(&rt);
     let mut file = unread();
-    let n = io::read_full(0, &mut file);
-    run(&file[..n], 19 * TIMES, good);
+    let n = read_calls(&mut rt.stdin(), &mut file);
+    run(&rt, &file[..n], 19 * TIMES, good);
 }
