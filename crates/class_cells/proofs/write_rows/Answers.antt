@@ -34,24 +34,27 @@ write_row-q-requires c =
 
 pub shape_of-area-then-area-q : goal.shape_of-area-then-area-q
 shape_of-area-then-area-q c =
-    elim c.match-find.branch
-    [ in-New w ↦ ap length w.area-is ∙ w.write_row-q.ensures.same ∙ c.loop-c.invariant.same
-    | in_default w ↦ ap length w.area-is ∙ c.loop-c.invariant.same ]
+    elim c.match-find.branch [
+      | in-New w ↦ ap length w.area-is ∙ w.write_row-q.ensures.same ∙ c.loop-c.invariant.same
+      | in_default w ↦ ap length w.area-is ∙ c.loop-c.invariant.same
+    ]
 
 pub returns-then-area-q : goal.returns-then-area-q
 returns-then-area-q c =
-    elim c.match-find.branch
-    [ in-New w ↦ rw (w.area-is, w.q-is) (rows_full c.loop-c.invariant c.loop-c-test.true (row_kept c.loop-c.invariant c.loop-c-test.true (cell_new c.requires.2 c.find.ensures w.in-New.is) w.write_row-q.ensures) (rw (w.area-is, w.q-is) at c.if-area-q.true))
-    | in_default w ↦ rw (w.area-is, w.q-is) (rows_full c.loop-c.invariant c.loop-c-test.true (row_gone c.loop-c.invariant c.loop-c-test.true (cell_gone c.requires.2 c.find.ensures w.in_default.is)) (rw (w.area-is, w.q-is) at c.if-area-q.true)) ]
+    elim c.match-find.branch [
+      | in-New w ↦ rw (w.area-is, w.q-is) (rows_full c.loop-c.invariant c.loop-c-test.true (row_kept c.loop-c.invariant c.loop-c-test.true (cell_new c.requires.2 c.find.ensures w.in-New.is) w.write_row-q.ensures) (rw (w.area-is, w.q-is) at c.if-area-q.true))
+      | in_default w ↦ rw (w.area-is, w.q-is) (rows_full c.loop-c.invariant c.loop-c-test.true (row_gone c.loop-c.invariant c.loop-c-test.true (cell_gone c.requires.2 c.find.ensures w.in_default.is)) (rw (w.area-is, w.q-is) at c.if-area-q.true))
+    ]
 
 pub overflow_add-p : goal.overflow_add-p
 overflow_add-p c = omega (arith, rows_row c.loop-c.invariant c.loop-c-test.true)
 
 pub loop-c-preserved : goal.loop-c-preserved
 loop-c-preserved c =
-    elim c.match-find.branch
-    [ in-New w ↦ rw (w.area-is, w.q-is) (rows_turn c.loop-c.invariant c.loop-c-test.true (row_kept c.loop-c.invariant c.loop-c-test.true (cell_new c.requires.2 c.find.ensures w.in-New.is) w.write_row-q.ensures) (rw (w.area-is, w.q-is) at c.if-area-q.false))
-    | in_default w ↦ rw (w.area-is, w.q-is) (rows_turn c.loop-c.invariant c.loop-c-test.true (row_gone c.loop-c.invariant c.loop-c-test.true (cell_gone c.requires.2 c.find.ensures w.in_default.is)) (rw (w.area-is, w.q-is) at c.if-area-q.false)) ]
+    elim c.match-find.branch [
+      | in-New w ↦ rw (w.area-is, w.q-is) (rows_turn c.loop-c.invariant c.loop-c-test.true (row_kept c.loop-c.invariant c.loop-c-test.true (cell_new c.requires.2 c.find.ensures w.in-New.is) w.write_row-q.ensures) (rw (w.area-is, w.q-is) at c.if-area-q.false))
+      | in_default w ↦ rw (w.area-is, w.q-is) (rows_turn c.loop-c.invariant c.loop-c-test.true (row_gone c.loop-c.invariant c.loop-c-test.true (cell_gone c.requires.2 c.find.ensures w.in_default.is)) (rw (w.area-is, w.q-is) at c.if-area-q.false))
+    ]
 
 pub shape_of-area : goal.shape_of-area
 shape_of-area c = c.loop-c.invariant.same

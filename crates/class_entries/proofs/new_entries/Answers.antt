@@ -42,9 +42,10 @@ bounds-t-list-then-new-ne0 c = entering_room c.loop-e.invariant c.loop-e-test.tr
 
 pub loop-e-preserved : goal.loop-e-preserved
 loop-e-preserved c =
-    elim c.if-new-ne0.branch
-    [ then-new-ne0 w ↦ rw (w.t-is, w.k-is) (entering_one c.loop-e.invariant c.loop-e-test.true c.new_class-new.ensures w.if-new-ne0.true)
-    | else-new-ne0 w ↦ rw (w.t-is, w.k-is) (entering_none c.loop-e.invariant c.loop-e-test.true c.new_class-new.ensures w.if-new-ne0.false) ]
+    elim c.if-new-ne0.branch [
+      | then-new-ne0 w ↦ rw (w.t-is, w.k-is) (entering_one c.loop-e.invariant c.loop-e-test.true c.new_class-new.ensures w.if-new-ne0.true)
+      | else-new-ne0 w ↦ rw (w.t-is, w.k-is) (entering_none c.loop-e.invariant c.loop-e-test.true c.new_class-new.ensures w.if-new-ne0.false)
+    ]
 
 pub shape_of-t : goal.shape_of-t
 shape_of-t c = c.loop-e.invariant.elsewhere.size

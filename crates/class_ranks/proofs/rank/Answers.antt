@@ -42,9 +42,10 @@ overflow_add-count c = omega (arith, c.loop-class-test.true, c.loop-class.invari
 
 pub loop-class-preserved : goal.loop-class-preserved
 loop-class-preserved c =
-    elim c.if-t-cell.branch
-    [ then-t-cell w ↦ rw (w.t-is, w.count-is) (ranking_one c.loop-class.invariant c.loop-class-test.true w.if-t-cell.true)
-    | else-t-cell w ↦ rw (w.t-is, w.count-is) (ranking_none c.loop-class.invariant c.loop-class-test.true w.if-t-cell.false) ]
+    elim c.if-t-cell.branch [
+      | then-t-cell w ↦ rw (w.t-is, w.count-is) (ranking_one c.loop-class.invariant c.loop-class-test.true w.if-t-cell.true)
+      | else-t-cell w ↦ rw (w.t-is, w.count-is) (ranking_none c.loop-class.invariant c.loop-class-test.true w.if-t-cell.false)
+    ]
 
 pub shape_of-t : goal.shape_of-t
 shape_of-t c = c.loop-class.invariant.elsewhere.size

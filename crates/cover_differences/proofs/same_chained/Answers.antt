@@ -17,12 +17,11 @@ returns-then-not-same_row-2 c =
     chained_input c.args.left.now c.args.right.now c.same_row.ensures c.if-not-same_row.false c.word_at.ensures.0 refl c.same_row-2.ensures c.if-not-same_row-2.true
 
 pub same_row-requires-3 : goal.same_row-requires-3
-same_row-requires-3 c =
-    (
-      omega arith,
-      ahead_sound_left c.args.left.now c.args.right.now c.same_row.ensures c.if-not-same_row.false c.word_at.ensures.0 refl c.same_row-2.ensures c.if-not-same_row-2.false c.word_at-2.ensures.0 refl c.requires.0,
-      ahead_sound_right c.args.left.now c.args.right.now c.same_row.ensures c.if-not-same_row.false c.word_at.ensures.0 refl c.same_row-2.ensures c.if-not-same_row-2.false c.word_at-2.ensures.0 refl c.requires.1,
-    )
+same_row-requires-3 c = (
+  omega arith,
+  ahead_sound_left c.args.left.now c.args.right.now c.same_row.ensures c.if-not-same_row.false c.word_at.ensures.0 refl c.same_row-2.ensures c.if-not-same_row-2.false c.word_at-2.ensures.0 refl c.requires.0,
+  ahead_sound_right c.args.left.now c.args.right.now c.same_row.ensures c.if-not-same_row.false c.word_at.ensures.0 refl c.same_row-2.ensures c.if-not-same_row-2.false c.word_at-2.ensures.0 refl c.requires.1,
+)
 
 pub returns-then-not-same_row-3 : goal.returns-then-not-same_row-3
 returns-then-not-same_row-3 c =

@@ -7,12 +7,11 @@ returns-then-n-word_at c =
     plain_count c.args.left.now c.args.right.now c.word_at-n.ensures.0 c.word_at.ensures.0 c.if-n-word_at.true
 
 pub same_covers-requires : goal.same_covers-requires
-same_covers-requires c =
-    (
-      omega arith,
-      left_sound c.args.left.now c.args.right.now c.word_at-n.ensures.0 c.word_at.ensures.0 (omega arith) 6 c.requires.0,
-      right_sound c.args.left.now c.args.right.now c.word_at-n.ensures.0 c.word_at.ensures.0 (omega arith) 6 c.requires.1,
-    )
+same_covers-requires c = (
+  omega arith,
+  left_sound c.args.left.now c.args.right.now c.word_at-n.ensures.0 c.word_at.ensures.0 (omega arith) 6 c.requires.0,
+  right_sound c.args.left.now c.args.right.now c.word_at-n.ensures.0 c.word_at.ensures.0 (omega arith) 6 c.requires.1,
+)
 
 pub returns-then-not-same_covers : goal.returns-then-not-same_covers
 returns-then-not-same_covers c =

@@ -29,11 +29,10 @@ overflow_add-at-2 c =
     omega (arith, header_fits c.args.src.now c.args.at c.requires.0)
 
 pub range_glyph-requires : goal.range_glyph-requires
-range_glyph-requires c =
-    (
-      rw c.word_at-n.ensures.0 (ranges_sound c.args.src.now c.args.at c.requires.0 (omega arith)),
-      range_index c.args.src.now c.args.at c.word_at-n.ensures.0 (omega arith) c.requires.1,
-    )
+range_glyph-requires c = (
+  rw c.word_at-n.ensures.0 (ranges_sound c.args.src.now c.args.at c.requires.0 (omega arith)),
+  range_index c.args.src.now c.args.at c.word_at-n.ensures.0 (omega arith) c.requires.1,
+)
 
 pub returns : goal.returns
 returns c = give_ranges _ _ c.word_at-n.ensures.0 (omega arith) c.range_glyph.ensures

@@ -13,12 +13,11 @@ pub slice_bounds-cut_in-end-4 : goal.slice_bounds-cut_in-end-4
 slice_bounds-cut_in-end-4 c = front_length c.args.area.now c.least-bytes.ensures
 
 pub cut_in-requires : goal.cut_in-requires
-cut_in-requires c =
-    (
-      c.requires,
-      omega (arith, front_length c.args.t.now c.least-cells.ensures, c.least-cells.ensures.second),
-      omega (arith, front_length c.args.area.now c.least-bytes.ensures, c.least-bytes.ensures.second),
-    )
+cut_in-requires c = (
+  c.requires,
+  omega (arith, front_length c.args.t.now c.least-cells.ensures, c.least-cells.ensures.second),
+  omega (arith, front_length c.args.area.now c.least-bytes.ensures, c.least-bytes.ensures.second),
+)
 
 pub returns : goal.returns
 returns c =

@@ -47,12 +47,11 @@ overflow_add-at-4 c =
     omega (arith, plain_inside c.args.src.now c.args.at c.requires.0, c.word_inside-count.ensures.0)
 
 pub write_records-end-requires : goal.write_records-end-requires
-write_records-end-requires c =
-    (
-      omega (arith, plain_inside c.args.src.now c.args.at c.requires.0, c.word_inside-count.ensures.0, c.word_inside-records.ensures.0),
-      c.requires.1.lookups,
-      omega (arith, c.renumber-q.ensures.same, plain_place (maps_in c.args.t.now c.args.maps) c.args.src.now c.args.at c.word_inside-count.ensures.0 c.if-count-eq0.false refl c.args.pos c.renumber-q.ensures (omega arith) c.if-q-eq0.false),
-    )
+write_records-end-requires c = (
+  omega (arith, plain_inside c.args.src.now c.args.at c.requires.0, c.word_inside-count.ensures.0, c.word_inside-records.ensures.0),
+  c.requires.1.lookups,
+  omega (arith, c.renumber-q.ensures.same, plain_place (maps_in c.args.t.now c.args.maps) c.args.src.now c.args.at c.word_inside-count.ensures.0 c.if-count-eq0.false refl c.args.pos c.renumber-q.ensures (omega arith) c.if-q-eq0.false),
+)
 
 pub returns : goal.returns
 returns c =

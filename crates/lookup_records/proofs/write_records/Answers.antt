@@ -9,9 +9,10 @@ loop-i-init c = recording_all (omega arith)
 
 pub loop-i-preserved : goal.loop-i-preserved
 loop-i-preserved c =
-    elim c.match-find.branch
-    [ in-New w ↦ rw (w.area-is, w.p-is) (recording_one c.loop-i.invariant c.loop-i-test.true c.word_inside-old.ensures.0 (cell_new c.requires.1 c.find.ensures w.in-New.is) w.word_inside.ensures.0 w.put_two-p.ensures)
-    | in_default w ↦ rw (w.area-is, w.p-is) (recording_none c.loop-i.invariant c.loop-i-test.true c.word_inside-old.ensures.0 (cell_gone c.requires.1 c.find.ensures w.in_default.is)) ]
+    elim c.match-find.branch [
+      | in-New w ↦ rw (w.area-is, w.p-is) (recording_one c.loop-i.invariant c.loop-i-test.true c.word_inside-old.ensures.0 (cell_new c.requires.1 c.find.ensures w.in-New.is) w.word_inside.ensures.0 w.put_two-p.ensures)
+      | in_default w ↦ rw (w.area-is, w.p-is) (recording_none c.loop-i.invariant c.loop-i-test.true c.word_inside-old.ensures.0 (cell_gone c.requires.1 c.find.ensures w.in_default.is))
+    ]
 
 pub shape_of-area : goal.shape_of-area
 shape_of-area c = c.loop-i.invariant.extends.same

@@ -27,9 +27,10 @@ overflow_cast-t c = omega (arith, small (goal.at.overflow_cast-t c).In-At)
 
 pub loop-e-preserved : goal.loop-e-preserved
 loop-e-preserved c =
-    elim c.match-index_of.branch
-    [ in-At w ↦ rw (w.t-is, w.k-is) (asking_one c.requires c.loop-e.invariant c.loop-e-test.true c.word_inside.ensures.0 c.index_of.ensures w.in-At.is w.word_inside-in-At.ensures.0 w.word_inside-in-At.ensures.1)
-    | in-Not w ↦ rw (w.t-is, w.k-is) (asking_none c.requires c.loop-e.invariant c.loop-e-test.true c.word_inside.ensures.0 c.index_of.ensures w.in-Not.is) ]
+    elim c.match-index_of.branch [
+      | in-At w ↦ rw (w.t-is, w.k-is) (asking_one c.requires c.loop-e.invariant c.loop-e-test.true c.word_inside.ensures.0 c.index_of.ensures w.in-At.is w.word_inside-in-At.ensures.0 w.word_inside-in-At.ensures.1)
+      | in-Not w ↦ rw (w.t-is, w.k-is) (asking_none c.requires c.loop-e.invariant c.loop-e-test.true c.word_inside.ensures.0 c.index_of.ensures w.in-Not.is)
+    ]
 
 pub shape_of-t : goal.shape_of-t
 shape_of-t c = c.loop-e.invariant.kept.size

@@ -40,13 +40,12 @@ pub word_inside-index-requires : goal.word_inside-index-requires
 word_inside-index-requires c = omega (arith, c.requires.inside, c.loop-i-test.true)
 
 pub reach-e-requires : goal.reach-e-requires
-reach-e-requires c =
-    (
-      c.requires.map,
-      c.loop-i.invariant.reached,
-      ranging_past c.requires c.loop-i.invariant c.loop-i-test.true c.word_inside-first.ensures.0 c.word_inside-last.ensures c.word_inside-index.ensures.0,
-      omega (arith, c.word_inside-first.ensures.1),
-    )
+reach-e-requires c = (
+  c.requires.map,
+  c.loop-i.invariant.reached,
+  ranging_past c.requires c.loop-i.invariant c.loop-i-test.true c.word_inside-first.ensures.0 c.word_inside-last.ensures c.word_inside-index.ensures.0,
+  omega (arith, c.word_inside-first.ensures.1),
+)
 
 pub meet_span-k-requires : goal.meet_span-k-requires
 meet_span-k-requires c = ranging_asks c.requires c.loop-i.invariant c.loop-i-test.true c.word_inside-first.ensures.0 c.word_inside-last.ensures c.word_inside-index.ensures.0 c.reach-e.ensures

@@ -9,13 +9,12 @@ pub loop-g-init : goal.loop-g-init
 loop-g-init c = through_all
 
 pub list_glyph-at-requires : goal.list_glyph-at-requires
-list_glyph-at-requires c =
-    (
-      pair_table_lem c.args.left.now c.requires.1 c.requires.0 (bytes_known c.args.left.now (λ i. omega (arith, c.type_inv.left i))),
-      pair_table_lem c.args.right.now c.requires.3 c.requires.2 (bytes_known c.args.right.now (λ i. omega (arith, c.type_inv.right i))),
-      c.loop-g-test.true,
-      omega arith,
-    )
+list_glyph-at-requires c = (
+  pair_table_lem c.args.left.now c.requires.1 c.requires.0 (bytes_known c.args.left.now (λ i. omega (arith, c.type_inv.left i))),
+  pair_table_lem c.args.right.now c.requires.3 c.requires.2 (bytes_known c.args.right.now (λ i. omega (arith, c.type_inv.right i))),
+  c.loop-g-test.true,
+  omega arith,
+)
 
 pub loop-g-preserved : goal.loop-g-preserved
 loop-g-preserved c =

@@ -43,9 +43,10 @@ overflow_add-p-in-loop-i c = omega (arith, pairing_inside c.loop-i.invariant c.l
 
 pub loop-i-preserved : goal.loop-i-preserved
 loop-i-preserved c =
-    elim c.match-find.branch
-    [ in-New w ↦ rw (w.area-is, w.k-is, w.q-is) (pairing_one c.loop-i.invariant c.loop-i-test.true c.word_inside-second.ensures.0 (cell_new c.requires.2 c.find.ensures w.in-New.is) w.write_pair-q.ensures)
-    | in_default w ↦ rw (w.area-is, w.k-is, w.q-is) (pairing_gone c.loop-i.invariant c.loop-i-test.true c.word_inside-second.ensures.0 (cell_gone c.requires.2 c.find.ensures w.in_default.is)) ]
+    elim c.match-find.branch [
+      | in-New w ↦ rw (w.area-is, w.k-is, w.q-is) (pairing_one c.loop-i.invariant c.loop-i-test.true c.word_inside-second.ensures.0 (cell_new c.requires.2 c.find.ensures w.in-New.is) w.write_pair-q.ensures)
+      | in_default w ↦ rw (w.area-is, w.k-is, w.q-is) (pairing_gone c.loop-i.invariant c.loop-i-test.true c.word_inside-second.ensures.0 (cell_gone c.requires.2 c.find.ensures w.in_default.is))
+    ]
 
 pub shape_of-area-then-k-eq0 : goal.shape_of-area-then-k-eq0
 shape_of-area-then-k-eq0 c = c.loop-i.invariant.same

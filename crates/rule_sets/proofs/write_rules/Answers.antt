@@ -12,12 +12,11 @@ pub word_inside-n-requires : goal.word_inside-n-requires
 word_inside-n-requires c = omega (arith, set_inside _ _ _ c.requires.0)
 
 pub returns-then-area-first : goal.returns-then-area-first
-returns-then-area-first c =
-    (
-      rules_said (maps_in c.args.t.now c.args.maps) c.args.src.now c.args.at c.args.chained c.word_inside-n.ensures.0
-          (gathering_short (rule c.args.chained c.args.src.now) _ _ _ _ _ c.word_inside-n.ensures.1 (omega arith) c.over.ensures),
-      c.requires.4,
-    )
+returns-then-area-first c = (
+  rules_said (maps_in c.args.t.now c.args.maps) c.args.src.now c.args.at c.args.chained c.word_inside-n.ensures.0
+      (gathering_short (rule c.args.chained c.args.src.now) _ _ _ _ _ c.word_inside-n.ensures.1 (omega arith) c.over.ensures),
+  c.requires.4,
+)
 
 pub loop-i-init : goal.loop-i-init
 loop-i-init c =
@@ -51,9 +50,8 @@ pub close_set-requires : goal.close_set-requires
 close_set-requires c = omega (arith, c.loop-i.invariant.0, c.word_inside-n.ensures.1)
 
 pub returns : goal.returns
-returns c =
-    (
-      rules_said (maps_in c.args.t.now c.args.maps) c.args.src.now c.args.at c.args.chained c.word_inside-n.ensures.0
-          (gathering_end _ _ _ _ _ _ c.loop-i.invariant.0 c.loop-i-test.false c.close_set.ensures),
-      c.loop-i.invariant.1,
-    )
+returns c = (
+  rules_said (maps_in c.args.t.now c.args.maps) c.args.src.now c.args.at c.args.chained c.word_inside-n.ensures.0
+      (gathering_end _ _ _ _ _ _ c.loop-i.invariant.0 c.loop-i-test.false c.close_set.ensures),
+  c.loop-i.invariant.1,
+)
