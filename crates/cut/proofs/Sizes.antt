@@ -1,18 +1,14 @@
 -- What the sizes of the scratch say.
 use Prim.Native.Nat.{ℕ, ◌≤◌, ◌<◌}
-use mathlib.Core.Path.{◌≡◌}
+use mathlib.Core.Path.{◌≡◌, refl}
 use mathlib.Core.Bool.{true, false}
-use mathlib.Core.List.{List, [], ◌∷◌}
-use mathlib.Core.Logic.{⊎_elim}
+use mathlib.Core.List.{List}
 use native.Mathlib.Omega.{arith}
 use lib.ListN.{replicate}
-use types.Run.{OneOf}
-use denote.Enum.Declared.{tag_of}
 use Rattle.meaning.specs.Subset.{Outcome}
 use Rattle.room.specs.Laid.{enough_area, outcome_of}
 use Rattle.room.specs.declared.Laid.{Laid}
 use Rattle.tried.specs.Tries.{Tries, tries_less}
-use Rattle.tried.specs.contracts.Tried.{the_type}
 use Rattle.tried.specs.declared.Tried.{Tried}
 use Rattle.tried.specs.declared.Tried.TheVariants.{FewCells, Short, Became}
 use Rattle.cut_sizes.specs.Cutting.{class_pair_cells, class_pair_bytes, other_cells, pairs_by_class, cells_for, bytes_for, UnlessShort, NeverShort}
@@ -44,10 +40,10 @@ pub became : (few short : Type 0) (r : Tried) (before after : List ℕ) (made : 
 became few short r before after made {laid} h e = (rw e at h)
 
 -- else the buffer is untouched
-pub untouched : (few short : Type 0) (r : Tried) (before after : List ℕ) (made : Outcome) → Tries few short r before after made → OneOf (0 ∷ 1 ∷ []) (tag_of the_type r) → after ≡ before
+pub untouched : (few short : Type 0) (r : Tried) (before after : List ℕ) (made : Outcome) → Tries few short r before after made → ((l : Laid) → r ≡ Became l → ⊥) → after ≡ before
 untouched few short FewCells before after made h n = h.1
 untouched few short Short before after made h n = h.1
-untouched few short (Became laid) before after made h n = absurd (⊎_elim (λ e. omega arith) (λ e. omega arith) n)
+untouched few short (Became laid) before after made h n = absurd (n laid refl)
 
 -- what too little scratch says
 pub unless_short : (kind : ℕ) (s : List ℕ) (cells area : ℕ) {r : Tried} {before after : List ℕ} {made : Outcome} → Tries (cells < cells_for kind s) (area < bytes_for kind s) r before after made → UnlessShort r before after made
@@ -62,17 +58,17 @@ module _ {r : Tried} {before after : List ℕ} {made : Outcome} where
   pub small_became : {laid : Laid} → UnlessShort r before after made → r ≡ Became laid → outcome_of laid after ≡ made
   small_became h e = became (Unit {0}) (Unit {0}) r before after made h.tried e
 
-  pub small_untouched : UnlessShort r before after made → OneOf (0 ∷ 1 ∷ []) (tag_of the_type r) → after ≡ before
+  pub small_untouched : UnlessShort r before after made → ((l : Laid) → r ≡ Became l → ⊥) → after ≡ before
   small_untouched h n = untouched (Unit {0}) (Unit {0}) r before after made h.tried n
 
   pub large_became : {laid : Laid} → NeverShort r before after made → r ≡ Became laid → outcome_of laid after ≡ made
   large_became h e = became (⊥) (⊥) r before after made h.tried e
 
 -- with enough scratch something became of it
-pub not_short : {r : Tried} {before after : List ℕ} {made : Outcome} → NeverShort r before after made → OneOf (0 ∷ 1 ∷ []) (tag_of the_type r) → ⊥
+pub not_short : {r : Tried} {before after : List ℕ} {made : Outcome} → NeverShort r before after made → ((l : Laid) → r ≡ Became l → ⊥) → ⊥
 not_short {r} {before} {after} {made} h n = step r h.tried n
   where
-    step : (r : Tried) → Tries (⊥) (⊥) r before after made → OneOf (0 ∷ 1 ∷ []) (tag_of the_type r) → ⊥
+    step : (r : Tried) → Tries (⊥) (⊥) r before after made → ((l : Laid) → r ≡ Became l → ⊥) → ⊥
     step FewCells h n = h.0
     step Short h n = h.0
-    step (Became laid) h n = ⊎_elim (λ e. omega arith) (λ e. omega arith) n
+    step (Became laid) h n = n laid refl

@@ -19,7 +19,7 @@ numbers_last t i zero v h =
     rw e (ap (λ (x : ℕ). x ∷ []) (get_or-set_same t i v 0 (omega arith)))
 numbers_last t i (suc n) v h =
     let e : i + suc n ≡ i + 1 + n = omega arith in
-    ap₂ (λ (x : ℕ) (l : List ℕ). x ∷ l) (get_or-set_other t (i + suc n) i v 0 (λ q. omega arith)) (rw e (numbers_last t (i + 1) n v (omega arith)))
+    ap₂ (λ (x : ℕ) (l : List ℕ). x ∷ l) (get_or-set_other t (i + suc n) i v 0 (λ q. omega arith)) (ap (λ (x : ℕ). numbers_from (set t x v) (i + 1) (suc n)) e ∙ numbers_last t (i + 1) n v (omega arith))
 
 -- the numbers that stand, and those of the codes that are left, are all
 pub record Gathering (num all : List ℕ) (from n : ℕ) (old left new : List ℕ) (m i : ℕ) : Type 0 where

@@ -108,7 +108,7 @@ module _ (left : ℕ → Option (List ℕ)) (s : List ℕ) (slots : ℕ) (t₀ :
             kept = c.kept;
             count = c.count;
             glyphs = c.glyphs;
-            left_over_lem = rw d at c.left_over;
+            left_over_lem = rw d at c.left_over_lem;
             standing = c.standing;
           }
 
@@ -154,7 +154,7 @@ module _ (left : ℕ → Option (List ℕ)) (s : List ℕ) (slots : ℕ) (t₀ :
               kept = c.kept;
               count = c.count;
               glyphs = c.glyphs;
-              left_over_lem = rw d at c.left_over;
+              left_over_lem = rw d at c.left_over_lem;
               standing = g.1;
             }
 
@@ -179,7 +179,7 @@ module _ (left : ℕ → Option (List ℕ)) (s : List ℕ) (slots : ℕ) (t₀ :
               glyphs = rw f (ap (map (λ x. x % 65536)) (part_store t at k note room) ∙ map-append (λ x. x % 65536) (part t at k) (note ∷ [])
                   ∙ ap (λ (l : List ℕ). l ++ (note % 65536 ∷ [])) c.glyphs ∙ ap (λ (l : List ℕ). glyphs_of c.kept ++ l) (sym (glyphs_one (note % 65536) g.words))
                   ∙ sym (glyphs_append c.kept (mine ∷ [])));
-              left_over_lem = append_assoc c.kept (mine ∷ []) (from (i + 1)) ∙ rw d at c.left_over;
+              left_over_lem = append_assoc c.kept (mine ∷ []) (from (i + 1)) ∙ rw d at c.left_over_lem;
               standing = rw (words_append c.kept (mine ∷ [])) g.standing;
             }
 
@@ -190,10 +190,10 @@ module _ (left : ℕ → Option (List ℕ)) (s : List ℕ) (slots : ℕ) (t₀ :
             let rest = words_of (from (i + 1)) in
             let whole : sofar ++ rest ≡ words_of all =
             append_assoc (words_of c.kept) (push (left off) []) rest ∙ ap (λ (l : List (List ℕ)). words_of c.kept ++ l) (sym (ap words_of there ∙ words_push (left off) (note % 65536) (from (i + 1))))
-            ∙ sym (words_append c.kept (from i)) ∙ ap words_of c.left_over in
+            ∙ sym (words_append c.kept (from i)) ∙ ap words_of c.left_over_lem in
             rw (packs_same book₀ book c.size) (omega (arith, w.full next_turn a (omega (arith, w.same)) (omega (arith, c.same)), taken_most (packs book) sofar rest, ap (λ (l : List (List ℕ)). length (blocks_in (packs book) (members l))) whole))
 
     -- all is written where the loop ends
     pub keeping_whole : m ≤ i → c.kept ≡ all
     unfolding kept_of
-    keeping_whole h = sym (append-nil c.kept) ∙ rw (part_none t₀ at m i h) at c.left_over
+    keeping_whole h = sym (append-nil c.kept) ∙ rw (part_none t₀ at m i h) at c.left_over_lem

@@ -35,4 +35,4 @@ returns c =
     ahead_settles c.requires.1 c.requires.0 (counted_written c.requires.1 c.requires.0 c.write_counted_records-first.ensures) c.put.ensures.1 c.write_counted_row-q.ensures c.if-q-eq0.false c.write_counted_row-r.ensures c.if-r-eq0.false c.write_counted_row.ensures
 
 pub shape_of-area : goal.shape_of-area
-shape_of-area c = (returns-3 (goal.at.shape_of-area c).After-slice_known-14-1).same
+shape_of-area c = (ahead_settles c.requires.1 c.requires.0 (counted_written c.requires.1 c.requires.0 c.write_counted_records-first.ensures) c.put.ensures.1 c.write_counted_row-q.ensures c.if-q-eq0.false c.write_counted_row-r.ensures c.if-r-eq0.false c.write_counted_row.ensures).same

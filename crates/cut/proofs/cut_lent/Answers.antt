@@ -12,7 +12,7 @@ use Rattle.cut.proofs.cut_lent.Goals as goal
 
 pub returns-in_default : goal.returns-in_default
 returns-in_default c =
-    c.cut_own.ensures ∙ ap (λ (o : List ℕ). written_in c.args.marks.layout o (cut (glyph_entries c.args.marks.form c.args.glyphs.now) (map_entries c.args.lookups.now) (table c.args.marks.kind c.args.src.now))) (untouched (length c.args.t.now < cells_for c.args.marks.kind c.args.src.now) (length c.args.area.now < bytes_for c.args.marks.kind c.args.src.now) c.cut_in.result c.args.out.now c.cut_in.new.out (written_in c.args.marks.layout c.args.out.now (cut (glyph_entries c.args.marks.form c.args.glyphs.now) (map_entries c.args.lookups.now) (table c.args.marks.kind c.args.src.now))) c.cut_in.ensures c.in_default.in_default-own.keys2)
+    c.cut_own.ensures ∙ ap (λ (o : List ℕ). written_in c.args.marks.layout o (cut (glyph_entries c.args.marks.form c.args.glyphs.now) (map_entries c.args.lookups.now) (table c.args.marks.kind c.args.src.now))) (untouched (length c.args.t.now < cells_for c.args.marks.kind c.args.src.now) (length c.args.area.now < bytes_for c.args.marks.kind c.args.src.now) c.cut_in.result c.args.out.now c.cut_in.new.out (written_in c.args.marks.layout c.args.out.now (cut (glyph_entries c.args.marks.form c.args.glyphs.now) (map_entries c.args.lookups.now) (table c.args.marks.kind c.args.src.now))) c.cut_in.ensures c.in_default.not-Became)
 
 pub returns : goal.returns
 returns c =

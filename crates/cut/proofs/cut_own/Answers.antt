@@ -14,10 +14,10 @@ returns-in-Became c =
 
 pub loop-size-preserved : goal.loop-size-preserved
 loop-size-preserved c =
-    small_untouched c.in_size.ensures c.in_default.in_default-own.keys2 ∙ c.loop-size.invariant
+    small_untouched c.in_size.ensures c.in_default.not-Became ∙ c.loop-size.invariant
 
 pub returns-in_default-in_most : goal.returns-in_default-in_most
-returns-in_default-in_most c = absurd (not_short c.in_most.ensures c.in_default-in_most.in_default-in_most-own.keys2)
+returns-in_default-in_most c = absurd (not_short c.in_most.ensures c.in_default-in_most.not-Became)
 
 pub returns : goal.returns
 returns c =

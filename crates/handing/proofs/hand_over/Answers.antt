@@ -11,7 +11,7 @@ use Rattle.handing.proofs.hand_over.Goals as goal
 
 pub returns-in_default : goal.returns-in_default
 returns-in_default c =
-    hand_refused c.args.area.now c.args.head c.args.first (c.args.end - c.args.first) c.args.fits c.args.out.now c.room-laid.ensures (not_kept c.room-laid.result c.in_default.in_default-own.keys2)
+    hand_refused c.args.area.now c.args.head c.args.first (c.args.end - c.args.first) c.args.fits c.args.out.now c.room-laid.ensures (not_kept c.room-laid.result c.in_default.not-Kept)
 
 pub copy-requires : goal.copy-requires
 copy-requires c =

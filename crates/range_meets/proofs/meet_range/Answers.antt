@@ -15,21 +15,21 @@ returns-then-last-old c =
     noting_past c.requires c.loop-k.invariant c.loop-k-test.true c.word_inside-old.ensures.0 c.if-last-old.true
 
 -- the entry is not below the range
-low-entry : (c : After-word_inside-new) → c.args.first ≤ c.word_inside-old.result
-low-entry c =
+low_entry : (c : After-word_inside-new) → c.args.first ≤ c.word_inside-old.result
+low_entry c =
     noting_low c.requires c.loop-k.invariant c.loop-k-test.true c.word_inside-old.ensures.0
 
 pub overflow_sub-t : goal.overflow_sub-t
-overflow_sub-t c = low-entry (goal.at.overflow_sub-t c).After-word_inside-new
+overflow_sub-t c = low_entry (goal.at.overflow_sub-t c).After-word_inside-new
 
 pub overflow_mul-t : goal.overflow_mul-t
-overflow_mul-t c = omega (arith, low-entry (goal.at.overflow_mul-t c).After-word_inside-new)
+overflow_mul-t c = omega (arith, low_entry (goal.at.overflow_mul-t c).After-word_inside-new)
 
 pub overflow_add-t-in-loop-k : goal.overflow_add-t-in-loop-k
-overflow_add-t-in-loop-k c = omega (arith, low-entry (goal.at.overflow_add-t-in-loop-k c).After-word_inside-new)
+overflow_add-t-in-loop-k c = omega (arith, low_entry (goal.at.overflow_add-t-in-loop-k c).After-word_inside-new)
 
 pub overflow_cast-t : goal.overflow_cast-t
-overflow_cast-t c = omega (arith, low-entry (goal.at.overflow_cast-t c).After-word_inside-new)
+overflow_cast-t c = omega (arith, low_entry (goal.at.overflow_cast-t c).After-word_inside-new)
 
 pub loop-k-preserved : goal.loop-k-preserved
 loop-k-preserved c =
