@@ -6,6 +6,4 @@ pub mod OneClosed
 pub mod Fields
 pub mod Cells
 pub mod Formats
-pub mod Both
 pub mod Needed
-pub mod Promises

@@ -16,7 +16,8 @@ use Rattle.laws.specs.CutCells.{insert_up_lem, held_up}
 use Rattle.promises.specs.Classes.{insert_member}
 use Rattle.promises.specs.Pairs.{second_zero}
 use Rattle.twice.specs.Answers.{Then, some_twice}
-use Rattle.twice.specs.Maps.{all_members, Moved, Along, along_keys, along_values, Injective}
+use Rattle.twice.specs.Maps.{Moved, Along, Injective}
+use Rattle.twice.proofs.Maps.{all_members, along_keys, along_values}
 use Rattle.twice_laws.specs.Classes.{rank_order, insert_moved, held_moved, numbered_moved, zero_first, held_class, follow_under, under_twice}
 use Rattle.twice_laws.specs.Pairs.{pair_twice, KeptAlike, first_format, second_format, thin_kept, cut_alike, thinned_sets}
 

@@ -18,7 +18,8 @@ use Rattle.laws.specs.CutCells.{held_up}
 use Rattle.promises.specs.Covers.{keys_same}
 use Rattle.promises.specs.Classes.{numbered_member, insert_member, held_member, slot_at, trim_same}
 use Rattle.twice.specs.Answers.{Then}
-use Rattle.twice.specs.Maps.{Moved, Along, along_keys, Injective}
+use Rattle.twice.specs.Maps.{Moved, Along, Injective}
+use Rattle.twice.proofs.Maps.{along_keys}
 
 -- A renumbering that keeps the order.
 abbrev pub Order : (ℕ → Option ℕ) → Type 0

@@ -14,7 +14,7 @@ use Rattle.laws.specs.Through.{Opt}
 use Rattle.laws.specs.CutGood.{find_word}
 use Rattle.promises.specs.Numbers.{injective}
 use Rattle.twice.specs.Definitions.{combined, Within, same, Identity, rule_lookups, set_lookups, lookups_of}
-use Rattle.twice.specs.Maps.{all_members, find_combined, all_found, along}
+use Rattle.twice.proofs.Maps.{all_members, find_combined, all_found, along}
 use Rattle.twice_laws.specs.Cuts.{cut_twice}
 
 pub same_keys : (vs : List ℕ) → keys (same vs) ≡ vs

@@ -14,7 +14,7 @@ use Rattle.laws.specs.ReadsBack.{Good}
 use Rattle.laws.specs.CutCells.{insert_up_lem}
 use Rattle.promises.specs.Classes.{insert_member}
 use Rattle.twice.specs.Definitions.{same, Identity, rule_lookups, set_lookups, lookups_of, ordered, identity_lookups}
-use Rattle.twice.specs.Maps.{all_members}
+use Rattle.twice.proofs.Maps.{all_members}
 use Rattle.twice_laws.specs.Identity.{same_keys, same_identity}
 use Rattle.twice_laws.specs.Written.{lookups_written}
 

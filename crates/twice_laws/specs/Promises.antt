@@ -23,7 +23,7 @@ use Rattle.promises.specs.Tested.{GoodSource, GoodMaps, tests, kept_tested, test
 use Rattle.promises.specs.Forms.{as_runs}
 use Rattle.promises.specs.Promises.{BytesOf, says, small_says, reads_back}
 use Rattle.twice.specs.Definitions.{combined, Within, combined_glyphs, combined_lookups, same, Identity, identity_map, lookups_of, identity_lookups}
-use Rattle.twice.specs.Maps.{find_combined, all_found, along}
+use Rattle.twice.proofs.Maps.{find_combined, all_found, along}
 use Rattle.twice_laws.specs.Cuts as Cuts
 use Rattle.twice_laws.specs.Identity.{cut_same}
 use Rattle.twice_laws.specs.Written.{glyphs_written, runs_written, combined_good, combined_lookups_lem, same_good}

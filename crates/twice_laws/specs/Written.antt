@@ -14,7 +14,7 @@ use Rattle.laws.specs.CutGood.{GoodMap, cut_records_lem}
 use Rattle.laws.specs.CallBack.{map_words}
 use Rattle.promises.specs.Forms.{as_runs, as_runs_lem}
 use Rattle.twice.specs.Definitions.{combined, Within, map_bytes, combined_lookups, same}
-use Rattle.twice.specs.Maps.{along, along_values}
+use Rattle.twice.proofs.Maps.{along, along_values}
 use Rattle.twice_laws.specs.Identity.{same_keys, same_values}
 
 bytes_length : (es : List (ℕ × ℕ)) → length (map_bytes es) ≡ 4 * length es

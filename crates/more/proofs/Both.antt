@@ -27,12 +27,14 @@ use Rattle.promises.specs.Walks.{walk}
 use Rattle.promises.specs.Refusals.{Call, answer, glyph_map, lookup_map, laid, laid_words, refusals, first, NoneOf, answer_meets, given_exactly, kept_exactly}
 use Rattle.promises.specs.Tested.{GoodMaps, tests, tested, kept_tested}
 use Rattle.promises.specs.Promises.{BytesOf, says, small_says, reads_back, context_same, ligature_same, pair_same, pair_skipped, single_same, walk_same}
-use Rattle.more.specs.Wider.{Wider, table_also}
+use Rattle.more.specs.Wider.{Wider}
+use Rattle.more.proofs.Wider.{table_also}
 use Rattle.more.specs.Records.{records_within}
 use Rattle.more.specs.Alike.{retained_more, Alike, alike_map, alike_same, SameMatch, SameLigature, SameSubstitute}
 use Rattle.more.specs.Formed.{formed_kept}
 use Rattle.more.specs.OneClosed.{one_closed_forms}
-use Rattle.more.specs.Formats.{first_format, first_stays, second_stays, stays_also, StandIn, KeepsFields, formats_left, MoreFields, fields_wider, second_wider}
+use Rattle.more.specs.Formats.{first_format, first_stays, second_stays, StandIn, KeepsFields, MoreFields}
+use Rattle.more.proofs.Formats.{stays_also, formats_left, fields_wider, second_wider}
 
 -- two calls on one source: the second's maps hold all old ids of the first's. New ids, the forms of the glyph maps and the buffers may differ
 pub record KeepsMore (c d : Call) : Type 0 where

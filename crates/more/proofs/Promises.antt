@@ -18,13 +18,13 @@ use Rattle.promises.specs.Walks.{walk}
 use Rattle.promises.specs.Refusals.{Call, answer, glyph_map, lookup_map}
 use Rattle.promises.specs.Tested.{GoodMaps}
 use Rattle.promises.specs.Promises.{BytesOf, says, small_says}
-use Rattle.more.specs.Wider as Wide
+use Rattle.more.proofs.Wider as Wide
 use Rattle.more.specs.Wider.{Also, Wider, slot_kept, first_class_kept, second_class_kept, cell_survives}
-use Rattle.more.specs.Formats as Formats
+use Rattle.more.proofs.Formats as Formats
 use Rattle.more.specs.Formats.{first_format, first_stays, second_stays, StandIn, KeepsFields, MoreFields}
 use Rattle.more.specs.Alike.{Alike, SameMatch, SameLigature, SameSubstitute}
-use Rattle.more.specs.Both as Both
-use Rattle.more.specs.Both.{KeepsMore, LaidOut}
+use Rattle.more.proofs.Both as Both
+use Rattle.more.proofs.Both.{KeepsMore, LaidOut}
 
 -- What survives under the first glyph map g survives under the second, h: the whole table and each of its parts, in the words of Survives.antt, without `cut`.
 module _ (g h : List (ℕ × ℕ)) (wider : Wider g h) where
