@@ -16,7 +16,7 @@ returns-then-not-sweep_lookup c =
 
 pub loop-lookup-preserved : goal.loop-lookup-preserved
 loop-lookup-preserved c =
-    ordering_turn c.loop-lookup.invariant c.loop-lookup-test.true c.sweep_lookup.result c.sweep_lookup.new.string c.sweep_lookup.ensures c.sweep_lookup.auto.1.1.0 c.if-not-sweep_lookup.false-raw
+    ordering_turn c.loop-lookup.invariant c.loop-lookup-test.true c.sweep_lookup.result c.sweep_lookup.new.string c.sweep_lookup.ensures c.sweep_lookup.auto.string c.if-not-sweep_lookup.false-raw
 
 pub returns : goal.returns
 returns c = ordering_end c.loop-lookup.invariant c.loop-lookup-test.false

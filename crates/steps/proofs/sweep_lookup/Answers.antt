@@ -23,7 +23,7 @@ onward-place-requires c =
 
 pub loop-place-preserved : goal.loop-place-preserved
 loop-place-preserved c =
-    sweeping_turn c.loop-place.invariant c.loop-place-test.true c.lookup_step.ensures c.lookup_step.auto.1.1.0 c.in-Took.is c.onward-place.ensures
+    sweeping_turn c.loop-place.invariant c.loop-place-test.true c.lookup_step.ensures c.lookup_step.auto.string c.in-Took.is c.onward-place.ensures
 
 pub returns : goal.returns
 returns c = sweeping_end c.loop-place.invariant c.loop-place-test.false
