@@ -95,7 +95,9 @@ fn check_each(
     low
 }
 
-// The same with a mark for each place that an offset can lead to. It calls itself as `shared_within` does.
+// The same with a mark for each place that an offset can lead to. It calls itself as `shared_within` does. It is never put into its callers: LLVM asks for the pages
+// of a large frame in a loop over a register, and takes one that is in use where the caller may return before it needs the frame.
+#[inline(never)]
 fn check_shared(part: Part, src: &[u8], slot: usize, n: usize, rounds: usize) -> Fault
     requires { slot + 2 * n < 0x1_0000_0000_0000 }
     ensures { result ≡ fault_of (fault_through (fault_of_part part src.now) src.now 0 slot n) }

@@ -8,7 +8,6 @@ ghost use Rattle.compare_job.specs.Program.{compare_file, said, outcome_of, prog
 use compare::{compare, length_of, number_of};
 use compare_file::{good_file, kind_of, left_of, put_answer, right_of};
 use input::{Input, read_input};
-use std::alloc::AllocError;
 use std::io::Write;
 
 // One byte more than the longest compare file has, so that a longer one is seen.
@@ -77,17 +76,15 @@ fn answer(file: &[u8], text: &mut [u8]) -> usize
 }
 
 // Reads the file, and writes the text at once. Where that fails, a sentence on standard error says so; a failed read leaves standard output empty.
-// The buffer for the file is on the heap, since a comparison takes most of the stack.
-fn main(rt: HostRuntime) -> Result<(), AllocError> {
-    let mut file = vec![in rt.alloc(); 0u8; FILE]?;
+fn main(rt: HostRuntime) {
+    let mut file = [0u8; FILE];
     let Input::Bytes(n) = read_input(&mut rt.stdin(), &mut file) else {
         let _ = eprintln!(rt; "compare_job: standard input could not be read");
-        return Ok(());
+        return;
     };
     let mut text = blank();
     let k = answer(&file[..n], &mut text);
     if rt.stdout().write_all(&text[..k]).is_err() {
         let _ = eprintln!(rt; "compare_job: the answer could not be written");
     }
-    Ok(())
 }
