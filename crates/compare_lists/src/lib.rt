@@ -102,6 +102,7 @@ fn lay_rules(
 
 // The same with cells of our own.
 // It calls itself, so that the compiler keeps its arrays out of its caller's frame: only a caller that lends too little pays for them. How often it does, `rounds`, is 0 for kinds 1 to 3.
+#[inline(never)]
 fn lay_own(kind: usize, left: &[u8], right: &[u8], rounds: usize, out: &mut [u8]) -> usize
     requires { (compared_kind kind ≡ true) × Passes kind left.now × Passes kind right.now × (by_rules kind (word left.now 0) (word right.now 0) ≡ true) }
     ensures { LaidList (differences (content (table kind left.now)) (content (table kind right.now))) out.old out.new result × (result ≤ 0x100_0000_0000) }
