@@ -99,7 +99,7 @@ module _ (c : Call) where
       let k = empty_exactly (left_sound c h) (right_sound c h) in
       (λ e. k.0 (sym (kept_length c h) ∙ e), λ e. kept_length c h ∙ k.1 e)
 
-  -- `same-use`: where the list is kept and empty, the two tables do the same. A slice's contents are bytes, and strings are of ids.
+  -- `same_use`: where the list is kept and empty, the two tables do the same. A slice's contents are bytes, and strings are of ids.
   module _ (left-bytes : Bytes c.left) (right-bytes : Bytes c.right) (kept : (answer c).number ≡ 0) (empty : (answer c).len ≡ 0) where
     -- Contexts match at the same places, with the same input length and records.
     pub same_matches : c.kind < 3 → (before : List ℕ) (g : ℕ) (after : List ℕ) → Ids before → g < 65536 → Ids after
