@@ -2,7 +2,7 @@
 use Prim.Native.Nat.{ℕ, ◌+◌, ◌*◌, ◌/◌, ◌%◌, ◌≤◌, ◌<◌}
 use mathlib.Core.Path.{◌≡◌, refl}
 use mathlib.Core.Bool.{Bool, true, false, cond, ◌&&◌, ◌||◌, not}
-use mathlib.Core.Option.{Option, none, some}
+use Rattle.std.specs.Prelude.{Option, None, Some, Result, Ok, Err}
 use mathlib.Core.List.{List, ◌++◌}
 use native.Mathlib.Omega.{arith}
 use lib.ListN.{length, drop, get_or}
@@ -19,8 +19,8 @@ use Rattle.meaning.specs.Subset.{Outcome, refused, limit, good_kind, has_format,
 use Rattle.laws.specs.CallBack.{subset_is}
 use Rattle.checks.specs.Near.{place_near}
 use Rattle.refusals.specs.Answers.{number_of, length_of, outcome, decoded}
-use Rattle.refusals.specs.declared.Answer.{Answer}
-use Rattle.refusals.specs.declared.Answer.TheVariants.{Kept, BadKind, BadForm, BadLayout, BadGlyphs, BadLookups, LongSource, BadFormat, Malformed, Device, PastRule, Nothing, TooBig, NoRoom, BadJob}
+use Rattle.refusals.specs.declared.Refusal.{Refusal}
+use Rattle.refusals.specs.declared.Refusal.TheVariants.{BadKind, BadForm, BadLayout, BadGlyphs, BadLookups, LongSource, BadFormat, Malformed, Device, PastRule, Nothing, TooBig, NoRoom, BadJob}
 
 -- the length, a place or a number of bytes, is not over the limit
 record Short (r : Outcome) : Type 0 where
@@ -51,8 +51,8 @@ laid_short out ws = step (ltb limit (length bytes)) (not (words_fit ws)) (ltb (l
 
 written_short : (layout : ℕ) (out : List ℕ) (o : Option Table) → Short (written_in layout out o)
 unfolding written_in
-written_short layout out none = record { most = omega arith }
-written_short layout out (some t) = laid_short out (words_in layout t)
+written_short layout out None = record { most = omega arith }
+written_short layout out (Some t) = laid_short out (words_in layout t)
 
 -- the length of a call on a source of bytes
 subset_short : (kind form layout : ℕ) (s g l out : List ℕ) → ((i : ℕ) → get_or s i 0 < 256) → Short (subset kind form layout s g l out)
@@ -70,24 +70,24 @@ subset_short kind form layout s g l out bytes =
     (or_refused (not (records_within (table kind s))) out 12 (written_short layout out (cut (glyph_entries form g) (map_entries l) (table kind s)))))))))))))
 
 -- no number is over 14
-pub number_most : (a : Answer) → number_of a ≤ 14
-number_most (Kept n) = omega arith
-number_most BadKind = omega arith
-number_most BadForm = omega arith
-number_most BadLayout = omega arith
-number_most BadGlyphs = omega arith
-number_most BadLookups = omega arith
-number_most LongSource = omega arith
-number_most BadFormat = omega arith
-number_most (Malformed p) = omega arith
-number_most Device = omega arith
-number_most PastRule = omega arith
-number_most Nothing = omega arith
-number_most TooBig = omega arith
-number_most (NoRoom n) = omega arith
-number_most BadJob = omega arith
+pub number_most : (a : Result ℕ Refusal) → number_of a ≤ 14
+number_most (Ok n) = omega arith
+number_most (Err BadKind) = omega arith
+number_most (Err BadForm) = omega arith
+number_most (Err BadLayout) = omega arith
+number_most (Err BadGlyphs) = omega arith
+number_most (Err BadLookups) = omega arith
+number_most (Err LongSource) = omega arith
+number_most (Err BadFormat) = omega arith
+number_most (Err (Malformed p)) = omega arith
+number_most (Err Device) = omega arith
+number_most (Err PastRule) = omega arith
+number_most (Err Nothing) = omega arith
+number_most (Err TooBig) = omega arith
+number_most (Err (NoRoom n)) = omega arith
+number_most (Err BadJob) = omega arith
 
-module _ (kind form layout : ℕ) (s g l out : List ℕ) (a : Answer) {after : List ℕ} (e : outcome a after ≡ subset kind form layout s g l out) (bytes : (i : ℕ) → get_or s i 0 < 256) where
+module _ (kind form layout : ℕ) (s g l out : List ℕ) (a : Result ℕ Refusal) {after : List ℕ} (e : outcome a after ≡ subset kind form layout s g l out) (bytes : (i : ℕ) → get_or s i 0 < 256) where
   -- the length of an answer that a call gives
   pub length_most : length_of a ≤ 262144
   length_most = rw (← e) at (subset_short kind form layout s g l out bytes).most

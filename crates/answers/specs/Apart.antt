@@ -1,8 +1,8 @@
 -- The answer that a number and a length stand for.
-use Rattle.std.specs.Prelude.{ℕ, List, [], ◌∷◌, get_or}
-use Rattle.refusals.specs.declared.Answer.{Answer}
-use Rattle.refusals.specs.declared.Answer.TheVariants.{Kept, BadKind, BadForm, BadLayout, BadGlyphs, BadLookups, LongSource, BadFormat, Malformed, Device, PastRule, Nothing, TooBig, NoRoom, BadJob}
+use Rattle.std.specs.Prelude.{ℕ, [], ◌∷◌, get_or, Result, Ok, Err}
+use Rattle.refusals.specs.declared.Refusal.{Refusal}
+use Rattle.refusals.specs.declared.Refusal.TheVariants.{BadKind, BadForm, BadLayout, BadGlyphs, BadLookups, LongSource, BadFormat, Malformed, Device, PastRule, Nothing, TooBig, NoRoom, BadJob}
 
 -- the answer of a number and a length, by a list in the order of the numbers; past its end any will do
-unfoldable pub answer_by : ℕ → ℕ → Answer
-answer_by number len = get_or (Kept len ∷ BadKind ∷ BadGlyphs ∷ BadLookups ∷ LongSource ∷ BadFormat ∷ Malformed len ∷ Device ∷ Nothing ∷ TooBig ∷ NoRoom len ∷ BadJob ∷ PastRule ∷ BadForm ∷ BadLayout ∷ []) number BadJob
+unfoldable pub answer_by : ℕ → ℕ → Result ℕ Refusal
+answer_by number len = get_or (Ok len ∷ Err BadKind ∷ Err BadGlyphs ∷ Err BadLookups ∷ Err LongSource ∷ Err BadFormat ∷ Err (Malformed len) ∷ Err Device ∷ Err Nothing ∷ Err TooBig ∷ Err (NoRoom len) ∷ Err BadJob ∷ Err PastRule ∷ Err BadForm ∷ Err BadLayout ∷ []) number (Err BadJob)

@@ -1,3 +1,4 @@
 pub mod Extends
 pub mod Part
 pub mod Stored
+pub mod AtOnce

@@ -5,7 +5,9 @@ use mathlib.Core.Bool.{Bool, true, false, cond, ◌&&◌}
 use mathlib.Core.List.{List, [], ◌∷◌, ◌++◌, map}
 use native.Mathlib.Decide.{dec_lt}
 use native.Mathlib.Omega.{arith}
-use lib.ListN.{length, get_or, replicate, length-append, length-replicate, length-map}
+use lib.ListN.{length, get_or, replicate, take, drop, length-append, length-drop, length-replicate, length-map}
+use Rattle.std.proofs.lemmas.List.{length-take-le}
+use borrow.Rule.Slice.PartMut.{put_mid}
 use lib.Seq.{sets, length-sets}
 use lib.Dec.{leb, eqb}
 use borrow.Author.Tests.{le-leb, lt-leb, eq-eqb, ne_eqb, eqb-true, eqb-false}
@@ -18,6 +20,7 @@ use Rattle.laws.specs.RunsLeft.{goes_on, from, runs_begin, runs_on_lem, runs_end
 use Rattle.laws.specs.Written.{Wrote, wrote_none, wrote_two, wrote_three, wrote_more, wrote_said, wrote_length, sets_flat}
 use Rattle.laws.specs.ToWrite.{ToWrite, write_all, write_said, write_one, write_three, write_end}
 use Rattle.area.specs.Extends.{Tried, tried_wrote, tried_over}
+use Rattle.area.specs.AtOnce.{at_once}
 use Rattle.area.specs.Part.{part, part_length, part_all, part_left, part_none, notes, new_at, old_at, CountsClasses}
 use Rattle.area_parts.proofs.Cover.{to_write_length}
 
@@ -158,37 +161,22 @@ module _ {t : List ℕ} {at n : ℕ} {out₀ : List ℕ} {to : ℕ} where
 
 -- The class array.
 
--- zeros: one and the others
-zeros_left : (n i : ℕ) → i < n → replicate {A = ℕ} (n - i) 0 ≡ 0 ∷ replicate (n - (i + 1)) 0
-zeros_left n i h =
-    let e : n - i ≡ suc (n - (i + 1)) = omega arith in
-    rw e
+-- as many bytes 0 as n words 0 have
+flat_zeros : (n : ℕ) → replicate (2 * n) 0 ≡ flat (replicate n 0)
+unfolding flat bytes2
+flat_zeros zero = refl
+flat_zeros (suc n) =
+    let e : 2 * suc n ≡ suc (suc (2 * n)) = omega arith in
+    rw e (ap (λ (l : List ℕ). 0 ∷ 0 ∷ l) (flat_zeros n))
 
--- What the loop of `put_zeros` keeps.
-pub record Zeroing (n : ℕ) (out₀ : List ℕ) (to : ℕ) (out : List ℕ) (p i : ℕ) : Type 0 where
-  pub within : i ≤ n
-  pub near : p ≡ to + 2 * i
-  pub same : length out ≡ length out₀
-  pub left : ToWrite out₀ to (replicate n 0) out p (replicate (n - i) 0)
-
-module _ {n : ℕ} {out₀ : List ℕ} {to : ℕ} where
-  pub zeroing_all : Zeroing n out₀ to out₀ to 0
-  zeroing_all =
-      let e : n - 0 ≡ n = omega arith in
-      record { within = omega arith; near = omega arith; same = refl; left = rw e write_all }
-
-  pub zeroing_one : {out next : List ℕ} {p q i : ℕ} → Zeroing n out₀ to out p i → i < n → (q ≡ p + 2) × (next ≡ sets out p (bytes2 0)) → Zeroing n out₀ to next q (i + 1)
-  zeroing_one {out} {p = p} {i = i} h l e = record {
-    within = omega arith;
-    near = omega (arith, h.near);
-    same = ap length e.1 ∙ length-sets out p (bytes2 0) ∙ h.same;
-    left = write_one (write_said h.left (zeros_left n i l)) e;
-  }
-
-  pub zeroing_end : {out : List ℕ} {p i : ℕ} → Zeroing n out₀ to out p i → n ≤ i → Wrote out₀ to (replicate n 0) out p
-  zeroing_end {i = i} h l =
-      let e : n - i ≡ 0 = omega arith in
-      write_end (rw e at h.left)
+-- bytes that are filled with 0 are words 0
+pub zeroed : (out : List ℕ) {ys : List ℕ} (to n : ℕ) → to + 2 * n ≤ length out → ys ≡ replicate (length (take (to + 2 * n - to) (drop to out))) 0 → Wrote out to (replicate n 0) (put_mid to (to + 2 * n - to) out ys) (to + 2 * n)
+zeroed out {ys} to n h e =
+    let b : to + 2 * n - to ≡ 2 * n = omega arith in
+    let k : length (take (2 * n) (drop to out)) ≡ 2 * n = length-take-le (2 * n) (drop to out) (omega (arith, length-drop to out)) in
+    let p : ys ≡ flat (replicate n 0) = rw (b, k) at e ∙ flat_zeros n in
+    let l : length (flat (replicate n 0)) ≡ 2 * n = ap length (sym (flat_zeros n)) ∙ length-replicate (2 * n) 0 in
+    record { place = omega (arith, length-replicate {A = ℕ} n 0); bytes = rw (b, p) (at_once to (2 * n) out (flat (replicate n 0)) l h) }
 
 -- a row of words was written, of what is left to write
 write_row : {out₀ : List ℕ} {at : ℕ} {all out next rest : List ℕ} {p q : ℕ} (vs : List ℕ) → ToWrite out₀ at all out p (vs ++ rest) → Wrote out p vs next q → ToWrite out₀ at all next q rest

@@ -33,12 +33,10 @@ fn count_runs(t: &[u32], at: usize, n: usize) -> usize
     ensures { CountsRuns t.now at n result }
 {
     let mut runs = 1;
-    let mut i = 0;
-    while i < n - 1 {
+    for i in 0..n - 1 {
         if !neighbours(t, at + i) {
             runs += 1;
         }
-        i += 1;
     }
     runs
 }
@@ -60,10 +58,8 @@ fn put_glyphs(t: &[u32], at: usize, n: usize, area: &mut [u8], to: usize) -> usi
     ensures { Wrote area.old to (news t.now at n) area.new result }
 {
     let mut p = to;
-    let mut i = 0;
-    while i < n {
+    for i in 0..n {
         p = put(area, p, new_in(t, at + i));
-        i += 1;
     }
     p
 }
@@ -75,16 +71,14 @@ fn put_ranges(t: &[u32], at: usize, n: usize, area: &mut [u8], to: usize) -> usi
 {
     let mut p = to;
     let mut first = 0;
-    let mut i = 0;
-    while i < n {
-        let next = i + 1;
-        if !goes_on(t, at, n, i) {
-            let start = new_in(t, at + first);
-            let end = new_in(t, at + i);
-            p = put_three(area, p, start, end, first);
-            first = next;
+    for i in 0..n {
+        if goes_on(t, at, n, i) {
+            continue;
         }
-        i = next;
+        let start = new_in(t, at + first);
+        let end = new_in(t, at + i);
+        p = put_three(area, p, start, end, first);
+        first = i + 1;
     }
     p
 }
@@ -131,12 +125,10 @@ fn class_runs(t: &[u32], at: usize, n: usize) -> usize
     ensures { CountsClasses t.now at n result }
 {
     let mut runs = 1;
-    let mut i = 0;
-    while i < n - 1 {
+    for i in 0..n - 1 {
         if !same_run(t, at + i) {
             runs += 1;
         }
-        i += 1;
     }
     runs
 }
@@ -159,17 +151,15 @@ fn put_class_ranges(t: &[u32], at: usize, n: usize, area: &mut [u8], to: usize) 
 {
     let mut p = to;
     let mut first = 0;
-    let mut i = 0;
-    while i < n {
-        let next = i + 1;
-        if !class_goes_on(t, at, n, i) {
-            let start = old_in(t, at + first);
-            let end = old_in(t, at + i);
-            let class = new_in(t, at + i);
-            p = put_three(area, p, start, end, class);
-            first = next;
+    for i in 0..n {
+        if class_goes_on(t, at, n, i) {
+            continue;
         }
-        i = next;
+        let start = old_in(t, at + first);
+        let end = old_in(t, at + i);
+        let class = new_in(t, at + i);
+        p = put_three(area, p, start, end, class);
+        first = i + 1;
     }
     p
 }
@@ -179,13 +169,9 @@ fn put_zeros(area: &mut [u8], to: usize, n: usize) -> usize
     requires { to + 2 * n ≤ length area.old }
     ensures { Wrote area.old to (replicate n 0) area.new result }
 {
-    let mut p = to;
-    let mut i = 0;
-    while i < n {
-        p = put(area, p, 0);
-        i += 1;
-    }
-    p
+    let end = to + 2 * n;
+    area[to..end].fill(0);
+    end
 }
 
 // The class of each glyph from the first entry's to the last one's, from `to` on; the place after them.
@@ -195,13 +181,11 @@ fn put_class_array(t: &[u32], at: usize, n: usize, area: &mut [u8], to: usize) -
 {
     let mut p = to;
     let mut id = old_in(t, at);
-    let mut i = 0;
-    while i < n {
+    for i in 0..n {
         let glyph = old_in(t, at + i);
         let q = put_zeros(area, p, glyph - id);
         p = put(area, q, new_in(t, at + i));
         id = glyph + 1;
-        i += 1;
     }
     p
 }

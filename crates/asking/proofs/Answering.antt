@@ -2,7 +2,7 @@
 use Prim.Native.Nat.{ℕ, zero, suc, ◌+◌, ◌*◌, ◌/◌, ◌≤◌, ◌<◌}
 use mathlib.Core.Path.{◌≡◌, refl, sym, ◌∙◌}
 use mathlib.Core.Bool.{Bool, true, false, cond, true≢false}
-use mathlib.Core.Option.{Option, none}
+use Rattle.std.specs.Prelude.{Option, None, Some, option_map}
 use mathlib.Core.List.{List, [], ◌∷◌, map}
 use native.Mathlib.Omega.{arith}
 use lib.ListN.{length, get_or, drop}
@@ -21,11 +21,8 @@ use Rattle.replaying.specs.Asking.{Answer, answer_of, ask}
 use Rattle.replaying.specs.Listed.{entry_at, entries_from, listed, source_of, lookup_of, lookups_of}
 use Rattle.replaying.specs.Applying.{lookup_at}
 use Rattle.matching.specs.Fitting.{told_by, Told}
-use Rattle.substitutes.specs.Substitutes.{SoundCover, substitute_by, Substitutes}
-use Rattle.substitutes.specs.declared.Substituted.{Substituted}
-use Rattle.substitutes.specs.declared.Substituted.TheVariants.{By, Not}
+use Rattle.substitutes.specs.Substitutes.{SoundCover}
 use Rattle.matching.specs.declared.Matched.{Matched}
-use Rattle.matching.specs.declared.Matched.TheVariants.{Nothing as NoRule, Rule as ARule}
 use Rattle.holding.proofs.Holding.{place_glyph}
 use Rattle.matching.proofs.Rows.{offset_sound, cover_fine}
 use Rattle.lookup_list.specs.Ready.{Lookup, source_at, Ready}
@@ -48,15 +45,15 @@ module _ (kind : ℕ) (s : List ℕ) (h : Lookup kind s) where
   context_table z true e = rw (eqb-true kind 2 e)
   context_table z false e = rw (h.known z (kind_two kind e))
 
-  context_sound : (kind ≡ 5 → ⊥) → (b : Bool) → eqb kind 2 ≡ b → context_fault b s ≡ none
+  context_sound : (kind ≡ 5 → ⊥) → (b : Bool) → eqb kind 2 ≡ b → context_fault b s ≡ None
   unfolding fault
   context_sound z true e = (part_sound 0 (inside s 0 2) (context_fault true s) (rw (eqb-true kind 2 e) at h.sound)).1
   context_sound z false e = (part_sound 0 (inside s 0 2) (context_fault false s) (rw (h.known z (kind_two kind e)) at h.sound)).1
 
-  pub rule_sound_lem : (kind ≡ 5 → ⊥) → context_fault (eqb kind 2) s ≡ none
+  pub rule_sound_lem : (kind ≡ 5 → ⊥) → context_fault (eqb kind 2) s ≡ None
   rule_sound_lem z = context_sound z (eqb kind 2) refl
 
-  single_fault_lem : kind ≡ 5 → single_fault s ≡ none
+  single_fault_lem : kind ≡ 5 → single_fault s ≡ None
   unfolding fault
   single_fault_lem e = (part_sound 0 (inside s 0 2) (single_fault s) (rw e at h.sound)).1
 
@@ -65,22 +62,22 @@ module _ (kind : ℕ) (s : List ℕ) (h : Lookup kind s) where
   cover_sound e = (offset_sound s (coverage_fault s) (coverage_sound s) (cover_fine s) 2 0 (part_sound 0 _ (fault_through (coverage_fault s) s 0 2 1) (single_fault_lem e)).1).0
 
 -- No table has both a rule and a substitute.
-no_substitute : (b : Bool) (s : List ℕ) (g : ℕ) → substitute (context b s) g ≡ none
+no_substitute : (b : Bool) (s : List ℕ) (g : ℕ) → substitute (context b s) g ≡ None
 unfolding context class_context cover_context substitute
 no_substitute b s g = step b (eqb (word s 0) 1) (eqb (word s 0) 2)
   where
-    step : (b x y : Bool) → substitute (cond x (Table.by_glyph b (reach (coverage s) s 0 2) (reaches (rule_set b s) s 0 6 (word s 4))) (cond y (class_context b s) (cover_context b s))) g ≡ none
+    step : (b x y : Bool) → substitute (cond x (Table.by_glyph b (reach (coverage s) s 0 2) (reaches (rule_set b s) s 0 6 (word s 4))) (cond y (class_context b s) (cover_context b s))) g ≡ None
     step b true y = refl
     step true false true = refl
     step false false true = refl
     step true false false = refl
     step false false false = refl
 
-no_match : (s before : List ℕ) (g : ℕ) (after : List ℕ) → match (single s) before g after ≡ none
+no_match : (s before : List ℕ) (g : ℕ) (after : List ℕ) → match (single s) before g after ≡ None
 unfolding single match
 no_match s before g after = step (eqb (word s 0) 1)
   where
-    step : (b : Bool) → match (cond b (Table.single_delta (reach (coverage s) s 0 2) (word s 4)) (Table.single_list (reach (coverage s) s 0 2) (words s 6 (word s 4)))) before g after ≡ none
+    step : (b : Bool) → match (cond b (Table.single_delta (reach (coverage s) s 0 2) (word s 4)) (Table.single_list (reach (coverage s) s 0 2) (words s 6 (word s 4)))) before g after ≡ None
     step true = refl
     step false = refl
 
@@ -94,8 +91,8 @@ module _ (kind : ℕ) (s : List ℕ) (h : Lookup kind s) (string : List ℕ) (n 
   abbrev asked : Answer
   asked = ask (table kind s) text place
 
-  module _ (e : kind ≡ 5) {g : ℕ} (f : g ≡ word string (2 * place)) {r : Substituted} (k : Substitutes (substitute (single s) g) r) where
-    single_asked : asked ≡ answer_of none (substitute_by r)
+  module _ (e : kind ≡ 5) {g : ℕ} (f : g ≡ word string (2 * place)) {r : Option ℕ} (k : r ≡ substitute (single s) g) where
+    single_asked : asked ≡ answer_of None r
     unfolding ask
     single_asked =
         rw (
@@ -104,19 +101,19 @@ module _ (kind : ℕ) (s : List ℕ) (h : Lookup kind s) (string : List ℕ) (n 
           no_match s (backward text place) (get_or text place 0) (drop (suc place) text),
           at_place_lem (λ before g after. substitute (single s) g) text place (omega (arith, words_length string 0 n)),
           place_glyph string n place l f,
-          ← k.says,
+          ← k,
         )
 
-    pub single_nothing : r ≡ Not → Asks s place n asked Nothing
+    pub single_nothing : r ≡ None → Asks s place n asked Nothing
     unfolding answer_of
     single_nothing q = asks (single_asked ∙ rw q) (record { says = refl; small = tt })
 
-    pub single_instead : {w : ℕ} → r ≡ By w → Asks s place n asked (Instead w)
+    pub single_instead : {w : ℕ} → r ≡ Some w → w < 65536 → Asks s place n asked (Instead w)
     unfolding answer_of
-    single_instead {w} q = asks (single_asked ∙ rw q) (record { says = refl; small = (rw q at k.small, l) })
+    single_instead q m = asks (single_asked ∙ rw q) (record { says = refl; small = (m, l) })
 
-  module _ (e : kind ≡ 5 → ⊥) {m : Matched} (k : Told s (at_place (match (context (eqb kind 2) s)) [] text place) m) where
-    context_asked : asked ≡ answer_of (told_by s m) none
+  module _ (e : kind ≡ 5 → ⊥) {m : Option Matched} (k : Told s (at_place (match (context (eqb kind 2) s)) [] text place) m) where
+    context_asked : asked ≡ answer_of (option_map (told_by s) m) None
     unfolding ask
     context_asked =
         rw (
@@ -126,11 +123,11 @@ module _ (kind : ℕ) (s : List ℕ) (h : Lookup kind s) (string : List ℕ) (n 
           no_substitute (eqb kind 2) s (get_or text place 0),
         )
 
-    pub context_nothing : m ≡ NoRule → Asks s place n asked Nothing
+    pub context_nothing : m ≡ None → Asks s place n asked Nothing
     unfolding answer_of
     context_nothing q = asks (context_asked ∙ rw q) (record { says = refl; small = tt })
 
-    pub context_rule : {c at len : ℕ} → m ≡ ARule c at len → Asks s place n asked (Rule c at len)
+    pub context_rule : {r : Matched} → m ≡ Some r → Asks s place n asked (Rule r)
     unfolding answer_of
     context_rule q = asks (context_asked ∙ rw q) (record { says = refl; small = rw q at k.small })
 
@@ -158,17 +155,17 @@ listed_table list buffer k h =
     rw e at (entries_at list 0 (length list / 10) k buffer (Table.by_cover false [] [] [] []) h)
 
 -- what answers nothing anywhere answers nothing at a place
-nowhere : {A : Type 0} (ask : List ℕ → ℕ → List ℕ → Option A) → ((b : List ℕ) (g : ℕ) (a : List ℕ) → ask b g a ≡ none) → (text before : List ℕ) (place : ℕ) → at_place ask before text place ≡ none
+nowhere : {A : Type 0} (ask : List ℕ → ℕ → List ℕ → Option A) → ((b : List ℕ) (g : ℕ) (a : List ℕ) → ask b g a ≡ None) → (text before : List ℕ) (place : ℕ) → at_place ask before text place ≡ None
 unfolding at_place
 nowhere ask h [] before place = refl
 nowhere ask h (g ∷ text) before zero = h before g text
 nowhere ask h (g ∷ text) before (suc place) = nowhere ask h text (g ∷ before) place
 
-no_rule : (b : List ℕ) (g : ℕ) (a : List ℕ) → match (Table.by_cover false [] [] [] []) b g a ≡ none
+no_rule : (b : List ℕ) (g : ℕ) (a : List ℕ) → match (Table.by_cover false [] [] [] []) b g a ≡ None
 unfolding match
 no_rule b g a = refl
 
-no_glyph : (b : List ℕ) (g : ℕ) (a : List ℕ) → substitute (Table.by_cover false [] [] [] []) g ≡ none
+no_glyph : (b : List ℕ) (g : ℕ) (a : List ℕ) → substitute (Table.by_cover false [] [] [] []) g ≡ None
 unfolding substitute
 no_glyph b g a = refl
 
@@ -213,4 +210,4 @@ module _ (list buffer : List ℕ) (lookup : ℕ) (h : lookup < length list / 10)
 pub in_any : {lookup many : ℕ} (a : Asked) → lookup < many → InList lookup many a
 in_any Nothing h = tt
 in_any (Instead g) h = tt
-in_any (Rule k at len) h = h
+in_any (Rule m) h = h

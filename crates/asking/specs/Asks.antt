@@ -1,7 +1,8 @@
 -- What the answer of a lookup tells.
-use Rattle.std.specs.Prelude.{ℕ, ◌≤◌, ◌<◌, ◌≡◌, List}
+use Rattle.std.specs.Prelude.{ℕ, ◌<◌, ◌≡◌, List}
 use Rattle.meaning.specs.Words.{entries}
 use Rattle.replaying.specs.Asking.{Answer}
+use Rattle.matching.specs.Fitting.{Small as SmallRule}
 use Rattle.asking.specs.declared.Asked.{Asked}
 use Rattle.asking.specs.declared.Asked.TheVariants.{Nothing, Instead, Rule}
 
@@ -9,13 +10,13 @@ use Rattle.asking.specs.declared.Asked.TheVariants.{Nothing, Instead, Rule}
 abbrev pub answer_by : List ℕ → Asked → Answer
 answer_by s Nothing = Answer.nothing
 answer_by s (Instead g) = Answer.instead g
-answer_by s (Rule n at len) = Answer.matched n (entries s at len)
+answer_by s (Rule m) = Answer.matched m.input_len (entries s m.records.at m.records.len)
 
 -- its numbers are small, and a glyph stands in the string
 abbrev pub Small : ℕ → ℕ → Asked → Type 0
 Small place n Nothing = Unit {0}
 Small place n (Instead g) = (g < 65536) × (place < n)
-Small place n (Rule k at len) = (k ≤ 65536) × (at < 0x1_0000_0000) × (len < 65536)
+Small place n (Rule m) = SmallRule m
 
 -- a tells what is answered
 pub record Asks (s : List ℕ) (place n : ℕ) (x : Answer) (a : Asked) : Type 0 where
@@ -26,4 +27,4 @@ pub record Asks (s : List ℕ) (place n : ℕ) (x : Answer) (a : Asked) : Type 0
 abbrev pub InList : ℕ → ℕ → Asked → Type 0
 InList lookup many Nothing = Unit {0}
 InList lookup many (Instead g) = Unit {0}
-InList lookup many (Rule k at len) = lookup < many
+InList lookup many (Rule m) = lookup < many

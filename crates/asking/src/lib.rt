@@ -12,15 +12,15 @@ ghost use Rattle.asking.specs.Asks.{Asks, InList};
 
 use lookup_list::{long_at, part};
 use matching::{Matched, match_context};
-use substitutes::{Substituted, substitute};
+use substitutes::substitute;
 use wire::word_at;
 
-// What a lookup answers at a place: nothing, a glyph that stands there from now on, or a rule's input length, where its records start, and how many they are.
+// What a lookup answers at a place: nothing, a glyph that stands there from now on, or the rule that matches.
 #[derive(Clone, Copy)]
 pub enum Asked {
     Nothing,
     Instead(usize),
-    Rule(usize, usize, usize),
+    Rule(Matched),
 }
 
 // What a lookup of this kind answers at a place of a string.
@@ -29,15 +29,15 @@ fn ask_source(kind: usize, src: &[u8], string: &[u8], n: usize, place: usize) ->
     ensures { Asks src.now place n (ask (table kind src.now) (words string.now 0 n) place) result }
 {
     if kind == 5 {
-        let Substituted::By(glyph) = substitute(src, word_at(string, 2 * place)) else {
+        let Some(glyph) = substitute(src, word_at(string, 2 * place)) else {
             return Asked::Nothing;
         };
         return Asked::Instead(glyph);
     }
-    let Matched::Rule(count, at, len) = match_context(kind == 2, src, string, n, place) else {
+    let Some(rule) = match_context(kind == 2, src, string, n, place) else {
         return Asked::Nothing;
     };
-    Asked::Rule(count, at, len)
+    Asked::Rule(rule)
 }
 
 // The same of a lookup of the list; past the list, and past the string's end, nothing.

@@ -14,6 +14,7 @@ use lib.Dec.{eqb}
 use lib.ListN.{length, get_or, set, length-set}
 use lib.Seq.{set_out, get_or-set_same, get_or-set_other}
 use borrow.Author.Tests.{eq-eqb}
+use Rattle.cells.specs.Filled.{Filled}
 use Rattle.bits.specs.Bits.{marked, Put, Cleared}
 use Rattle.bits.specs.Reading.{blank_unmarked, same_cell}
 
@@ -107,38 +108,10 @@ module _ (at x : ℕ) (t : List ℕ) where
 pub put_none : (at x : ℕ) (t : List ℕ) → length t ≤ at + x / 32 → Put at x t t
 put_none at x t h = record { size = refl; cells = λ i n. refl; own = λ l. absurd (omega arith); others = λ y n. refl }
 
--- the first i of the n cells are cleared
-pub record Clearing (at n : ℕ) (old t : List ℕ) (i : ℕ) : Type 0 where
-  pub within : i ≤ n
-  pub room : at + n ≤ length old
-  pub size : length t ≡ length old
-  pub ahead : (j : ℕ) → j < at → get_or t j 0 ≡ get_or old j 0
-  pub behind : (j : ℕ) → at + i ≤ j → get_or t j 0 ≡ get_or old j 0
-  pub blank : (j : ℕ) → j < i → get_or t (at + j) 0 ≡ 0
-
-module _ {at n : ℕ} {old : List ℕ} where
-  pub clearing_none : at + n ≤ length old → Clearing at n old old 0
-  clearing_none h = record { within = omega arith; room = h; size = refl; ahead = λ j l. refl; behind = λ j l. refl; blank = λ j l. absurd (omega arith) }
-
-  pub clearing_turn : {t next : List ℕ} {i : ℕ} → Clearing at n old t i → i < n → next ≡ set t (at + i) 0 → Clearing at n old next (i + 1)
-  clearing_turn {t} {next} {i} k h e = rw e (record {
-    within = omega arith;
-    room = k.room;
-    size = length-set t (at + i) 0 ∙ k.size;
-    ahead = λ j l. get_or-set_other t (at + i) j 0 0 (λ z. omega arith) ∙ k.ahead j l;
-    behind = λ j l. get_or-set_other t (at + i) j 0 0 (λ z. omega arith) ∙ k.behind j (omega arith);
-    blank = λ j l. step j l (dec_lt j i);
-  })
-    where
-      step : (j : ℕ) → j < i + 1 → Dec (j < i) → get_or (set t (at + i) 0) (at + j) 0 ≡ 0
-      step j l (yes q) = get_or-set_other t (at + i) (at + j) 0 0 (λ z. omega arith) ∙ k.blank j q
-      step j l (no q) =
-          let d : j ≡ i = omega arith in
-          rw d (get_or-set_same t (at + i) 0 0 (omega (arith, k.room, k.size)))
-
-  pub clearing_end : {t : List ℕ} {i : ℕ} → Clearing at n old t i → n ≤ i → Cleared at n old t
-  clearing_end {t} {i} k h = record {
-    size = k.size;
-    cells = λ j. ⊎_elim (k.ahead j) (λ l. k.behind j (omega (arith, k.within)));
-    none = λ x l. blank_unmarked t at x (k.blank (x / 32) (omega arith));
-  }
+-- cells that are filled with 0 have no mark
+pub cleared : {at n : ℕ} {old t : List ℕ} → Filled at (at + n) old t → Cleared at n old t
+cleared {at} {n} {old} {t} f = record {
+  size = f.size;
+  cells = λ i. ⊎_elim (f.before i) (f.behind i);
+  none = λ x l. blank_unmarked t at x (f.blank (at + x / 32) (omega arith) (omega arith));
+}

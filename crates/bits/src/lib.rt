@@ -36,9 +36,5 @@ pub fn clear_bits(t: &mut [u32], at: usize, n: usize)
     requires { at + n ≤ length t.old }
     ensures { Cleared at n t.old t.new }
 {
-    let mut i = 0;
-    while i < n {
-        t[at + i] = 0;
-        i += 1;
-    }
+    t[at..at + n].fill(0);
 }

@@ -1,8 +1,7 @@
 // Format 1 of ligatures and contexts, cut in one walk: the retained covered glyphs are noted in cells, what is left of their sets is written into the area, and the table is handed over to the buffer.
 #![tactic(auto)]
 
-ghost use Rattle.std.specs.Prelude.{◌≡◌, true, [], ◌+◌, ◌≤◌, ◌<◌, length};
-ghost use Rattle.std.proofs.Math.Option.{none};
+ghost use Rattle.std.specs.Prelude.{◌≡◌, true, [], ◌+◌, ◌≤◌, ◌<◌, length, None};
 ghost use Rattle.meaning.specs.Words.{word, ascends, keys};
 ghost use Rattle.meaning.specs.Maps.{map_entries, glyph_entries};
 ghost use Rattle.meaning.specs.Fault.{header_fault, enough};
@@ -21,8 +20,8 @@ use fold_pairs::lay;
 use kept_rules::Maps;
 use marks::Marks;
 use placed_sets::Sort;
-use room::{AREA, Laid};
-use tried::{Tried, least};
+use room::{AREA, NotLaid};
+use tried::{NotCut, least};
 use wire::word_inside;
 
 // What `cut_sets::cut_sets` does, from the source and the map's list on, for ligatures.
@@ -33,16 +32,16 @@ fn cut_ligatures(
     t: &mut [u32],
     area: &mut [u8],
     out: &mut [u8],
-) -> Tried
-    requires { (header_fault (enough src.now (word src.now 4)) 0 4 (set_fault_of Ligatures src.now) src.now ≡ none) × (length src.now ≤ limit) × GlyphMap marks.form glyphs.now × (length area.old ≤ enough_area) }
+) -> Result<usize, NotCut>
+    requires { (header_fault (enough src.now (word src.now 4)) 0 4 (set_fault_of Ligatures src.now) src.now ≡ None) × (length src.now ≤ limit) × GlyphMap marks.form glyphs.now × (length area.old ≤ enough_area) }
     ensures { Tries (length t.old < cells_most) (length area.old < enough_area) result out.old out.new (written_in marks.layout out.old (cut (glyph_entries marks.form glyphs.now) [] (ligature_table src.now))) }
 {
     if word_inside(src, 2) == 0 {
-        return Tried::Became(Laid::Nothing);
+        return Err(NotCut::Refused(NotLaid::Nothing));
     }
     let g = lay_glyphs(glyphs, marks.form, t, 0);
     if g.mask == 0 {
-        return Tried::FewCells;
+        return Err(NotCut::FewCells);
     }
     let maps = Maps {
         back: g,
@@ -63,20 +62,20 @@ fn cut_contexts(
     t: &mut [u32],
     area: &mut [u8],
     out: &mut [u8],
-) -> Tried
-    requires { (header_fault (enough src.now (word src.now 4)) 0 4 (set_fault_of (Rules chained) src.now) src.now ≡ none) × (length src.now ≤ limit) × GlyphMap marks.form glyphs.now × (ascends (keys (map_entries lookups.now)) ≡ true) × (length area.old ≤ enough_area) }
+) -> Result<usize, NotCut>
+    requires { (header_fault (enough src.now (word src.now 4)) 0 4 (set_fault_of (Rules chained) src.now) src.now ≡ None) × (length src.now ≤ limit) × GlyphMap marks.form glyphs.now × (ascends (keys (map_entries lookups.now)) ≡ true) × (length area.old ≤ enough_area) }
     ensures { Tries (length t.old < cells_most) (length area.old < enough_area) result out.old out.new (written_in marks.layout out.old (cut (glyph_entries marks.form glyphs.now) (map_entries lookups.now) (glyph_context chained src.now))) }
 {
     if word_inside(src, 2) == 0 {
-        return Tried::Became(Laid::Nothing);
+        return Err(NotCut::Refused(NotLaid::Nothing));
     }
     let g = lay_glyphs(glyphs, marks.form, t, 0);
     if g.mask == 0 {
-        return Tried::FewCells;
+        return Err(NotCut::FewCells);
     }
     let l = lay(lookups, t, g.mask + 1);
     if l.mask == 0 {
-        return Tried::FewCells;
+        return Err(NotCut::FewCells);
     }
     let maps = Maps {
         back: g,
@@ -96,8 +95,8 @@ pub fn ligatures(
     t: &mut [u32],
     area: &mut [u8],
     out: &mut [u8],
-) -> Tried
-    requires { (header_fault (enough src.now (word src.now 4)) 0 4 (set_fault_of Ligatures src.now) src.now ≡ none) × (length src.now ≤ limit) × GlyphMap marks.form glyphs.now }
+) -> Result<usize, NotCut>
+    requires { (header_fault (enough src.now (word src.now 4)) 0 4 (set_fault_of Ligatures src.now) src.now ≡ None) × (length src.now ≤ limit) × GlyphMap marks.form glyphs.now }
     ensures { Tries (length t.old < cells_most) (length area.old < enough_area) result out.old out.new (written_in marks.layout out.old (cut (glyph_entries marks.form glyphs.now) [] (ligature_table src.now))) }
 {
     let bytes = least(area.len(), AREA);
@@ -114,8 +113,8 @@ pub fn contexts(
     t: &mut [u32],
     area: &mut [u8],
     out: &mut [u8],
-) -> Tried
-    requires { (header_fault (enough src.now (word src.now 4)) 0 4 (set_fault_of (Rules chained) src.now) src.now ≡ none) × (length src.now ≤ limit) × GlyphMap marks.form glyphs.now × (ascends (keys (map_entries lookups.now)) ≡ true) }
+) -> Result<usize, NotCut>
+    requires { (header_fault (enough src.now (word src.now 4)) 0 4 (set_fault_of (Rules chained) src.now) src.now ≡ None) × (length src.now ≤ limit) × GlyphMap marks.form glyphs.now × (ascends (keys (map_entries lookups.now)) ≡ true) }
     ensures { Tries (length t.old < cells_most) (length area.old < enough_area) result out.old out.new (written_in marks.layout out.old (cut (glyph_entries marks.form glyphs.now) (map_entries lookups.now) (glyph_context chained src.now))) }
 {
     let bytes = least(area.len(), AREA);

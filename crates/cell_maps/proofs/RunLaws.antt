@@ -2,7 +2,7 @@
 use Prim.Native.Nat.{ℕ, zero, suc, ◌+◌, ◌-◌, ◌*◌, ◌/◌, ◌%◌, ◌≤◌, ◌<◌}
 use mathlib.Core.Path.{◌≡◌, refl, sym, ap, ◌∙◌}
 use mathlib.Core.Bool.{Bool, true, false}
-use mathlib.Core.Option.{none}
+use Rattle.std.specs.Prelude.{None}
 use mathlib.Core.List.{List, [], ◌∷◌, ◌++◌, append-nil, append_assoc}
 use native.Mathlib.Decide.{dec_lt}
 use native.Mathlib.Nat.{zero-add}
@@ -231,7 +231,7 @@ module _ {list t₀ : List ℕ} {m : Map} {k old new count : ℕ} (good : good_r
       holds = rw (steps_last old new i, ← append_assoc (run_pairs (triples list 0 k)) (steps old new i) ((old + i, new + i) ∷ [])) (step r refl);
     }
       where
-        fresh : find (run_pairs (triples list 0 k) ++ steps old new i) (old + i) ≡ none
+        fresh : find (run_pairs (triples list 0 k) ++ steps old new i) (old + i) ≡ None
         fresh =
             find_behind (run_pairs (triples list 0 k)) (steps old new i) (old + i)
             (runs_before list k (length list / 6) 0 0 0 (old + i) l (both (eqb (length list % 6) 0) _ good).1 (rw (zero-add (6 * k)) (omega (arith, eo))))

@@ -1,7 +1,6 @@
 -- Maps in cells: what the cells answer, and what they hold.
-use Rattle.std.specs.Prelude.{ℕ, zero, suc, ◌+◌, ◌-◌, ◌*◌, ◌/◌, ◌%◌, ◌^◌, ◌≤◌, ◌<◌, ◌≡◌, refl, Bool, true, false, cond, ◌||◌, ◌&&◌, List, [], ◌⊎◌, length, get_or, set, leb, ltb, eqb}
+use Rattle.std.specs.Prelude.{ℕ, zero, suc, ◌+◌, ◌-◌, ◌*◌, ◌/◌, ◌%◌, ◌^◌, ◌≤◌, ◌<◌, ◌≡◌, refl, Bool, true, false, cond, ◌||◌, ◌&&◌, List, [], ◌⊎◌, length, get_or, set, leb, ltb, eqb, Option, None, Some}
 use Rattle.std.proofs.Common.{sym, ap, ◌∙◌, inl, inr, ⊎_elim, arith, length-set, get_or-set_other, lt-ltb, le-ltb, ltb-true, eq-eqb, ne_eqb, eqb-true}
-use Rattle.std.proofs.Math.Option.{Option, none, some}
 use Rattle.std.specs.Int.Bits.{bit_and, and_zero_l, and_step}
 use Rattle.std.proofs.lemmas.Nat.{and_le_r}
 use Rattle.std.specs.Int.Count.{ones}
@@ -76,7 +75,7 @@ cell_entry t m x = cond (even_mask m) (even_entry t m x) (cell_at t m x)
 
 -- what an entry e answers to x: its new number, if its old number is x
 unfoldable pub answer_in : ℕ → ℕ → Option ℕ
-answer_in e x = cond (eqb (e / 65536) x) (some (e % 65536)) none
+answer_in e x = cond (eqb (e / 65536) x) (Some (e % 65536)) None
 
 -- what the cells of m answer to x
 abbrev pub folded : List ℕ → Map → ℕ → Option ℕ
@@ -229,44 +228,44 @@ holds_kept {at} {t₀} {t} {m} k h o = record {
 }
 
 -- what an entry answers to its own number, and to another
-pub answer_own : (e x : ℕ) → e / 65536 ≡ x → answer_in e x ≡ some (e % 65536)
+pub answer_own : (e x : ℕ) → e / 65536 ≡ x → answer_in e x ≡ Some (e % 65536)
 unfolding answer_in
 answer_own e x h = rw (eq-eqb (e / 65536) x h) refl
 
-pub answer_other : (e x : ℕ) → (e / 65536 ≡ x → ⊥) → answer_in e x ≡ none
+pub answer_other : (e x : ℕ) → (e / 65536 ≡ x → ⊥) → answer_in e x ≡ None
 unfolding answer_in
 answer_other e x h = rw (ne_eqb (e / 65536) x h) refl
 
-pub answer_none : (x : ℕ) → answer_in (no_entry x) x ≡ none
+pub answer_none : (x : ℕ) → answer_in (no_entry x) x ≡ None
 unfolding no_entry
 answer_none x = step (eqb x 0) refl
   where
-    step : (b : Bool) → eqb x 0 ≡ b → answer_in (cond b 65536 0) x ≡ none
+    step : (b : Bool) → eqb x 0 ≡ b → answer_in (cond b 65536 0) x ≡ None
     step true e = answer_other 65536 x (λ q. omega (arith, eqb-true x 0 e))
     step false e = answer_other 0 x (λ q. eqb-false x 0 e (omega arith))
 
 -- with an even mask they answer to words only
-run_words : (t : List ℕ) (at k x : ℕ) → 65536 ≤ x → answer_in (run_entry t at k x) x ≡ none
+run_words : (t : List ℕ) (at k x : ℕ) → 65536 ≤ x → answer_in (run_entry t at k x) x ≡ None
 unfolding run_entry
 run_words t at k x h = rw (lt-ltb (run_end t at k % 65536) x (omega arith)) (step (eqb k 0))
   where
-    step : (b : Bool) → answer_in (cond (b || true) (no_entry x) (x * 65536 + (run_start t at k % 65536 + 65536 + x - run_start t at k / 65536) % 65536)) x ≡ none
+    step : (b : Bool) → answer_in (cond (b || true) (no_entry x) (x * 65536 + (run_start t at k % 65536 + 65536 + x - run_start t at k / 65536) % 65536)) x ≡ None
     step true = answer_none x
     step false = answer_none x
 
-rank_words : (t : List ℕ) (at x : ℕ) → 65536 ≤ x → answer_in (rank_entry t at x) x ≡ none
+rank_words : (t : List ℕ) (at x : ℕ) → 65536 ≤ x → answer_in (rank_entry t at x) x ≡ None
 unfolding rank_entry
 rank_words t at x h = rw (le-ltb x 65536 h) (answer_none x)
 
-pub even_words : (t : List ℕ) (m : Map) → m.mask % 2 ≡ 0 → (x : ℕ) → 65536 ≤ x → folded t m x ≡ none
+pub even_words : (t : List ℕ) (m : Map) → m.mask % 2 ≡ 0 → (x : ℕ) → 65536 ≤ x → folded t m x ≡ None
 unfolding even_entry
 even_words t m e x h = ap (λ (v : ℕ). answer_in v x) (entry_even t m e x) ∙ step (eqb m.mask ranked_mask)
   where
-    step : (b : Bool) → answer_in (cond b (rank_entry t m.at x) (run_entry t m.at (last_run t m.at x (runs_end m) 0 (runs_end m)) x)) x ≡ none
+    step : (b : Bool) → answer_in (cond b (rank_entry t m.at x) (run_entry t m.at (last_run t m.at x (runs_end m) 0 (runs_end m)) x)) x ≡ None
     step true = rank_words t m.at x h
     step false = run_words t m.at _ x h
 
-none_found : (x : ℕ) → none ≡ find [] x
+none_found : (x : ℕ) → None ≡ find [] x
 unfolding find
 none_found x = refl
 
@@ -278,10 +277,10 @@ pub holds_none : {t : List ℕ} {m : Map} → Inside t m → Odd m → get_or t 
     → ((i : ℕ) → m.at < i → i < m.at + m.mask + 1 → get_or t i 0 ≡ 0) → Holds t m []
 holds_none {t} {m} k o f z = record { inside = k; answers = λ x. nothing x ∙ none_found x }
   where
-    nothing : (x : ℕ) → folded t m x ≡ none
+    nothing : (x : ℕ) → folded t m x ≡ None
     nothing x = ap (λ (e : ℕ). answer_in e x) (entry_folded t m o x) ∙ step (eqb (bit_and x m.mask) 0) refl
       where
-        step : (b : Bool) → eqb (bit_and x m.mask) 0 ≡ b → answer_in (cell_at t m x) x ≡ none
+        step : (b : Bool) → eqb (bit_and x m.mask) 0 ≡ b → answer_in (cell_at t m x) x ≡ None
         step true e =
             let c : bit_and x m.mask ≡ 0 = eqb-true _ _ e in
             let d : cell_of m x ≡ m.at = omega arith in

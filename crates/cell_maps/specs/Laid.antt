@@ -1,8 +1,7 @@
 -- Laying a listed map into cells: one entry after another, each into a cell that has none.
-use Rattle.std.specs.Prelude.{ℕ, suc, ◌+◌, ◌-◌, ◌*◌, ◌/◌, ◌%◌, ◌^◌, ◌≤◌, ◌<◌, ◌≡◌, refl, Bool, true, false, cond, not, List, [], ◌∷◌, ◌++◌, length, set, eqb}
+use Rattle.std.specs.Prelude.{ℕ, suc, ◌+◌, ◌-◌, ◌*◌, ◌/◌, ◌%◌, ◌^◌, ◌≤◌, ◌<◌, ◌≡◌, refl, Bool, true, false, cond, not, List, [], ◌∷◌, ◌++◌, length, set, eqb, Option, None, Some}
 use Rattle.std.proofs.Math.Path.{sym, ap}
 use Rattle.std.proofs.Common.{◌∙◌, true≢false, pow-suc, mod-eq_of_lt, arith, length-set, get_or-set_same, get_or-set_other, pow_pos}
-use Rattle.std.proofs.Math.Option.{Option, none, some}
 use Rattle.std.proofs.Math.Decide.{dec_lt}
 use Rattle.std.proofs.Math.ListN.{get_or}
 use Rattle.std.proofs.Math.Pow.{pow-lt}
@@ -100,24 +99,24 @@ own_cell {p} w x h =
     ap (bit_and x) (sym e) ∙ and_mask x (suc w.exponent) ∙ mod-eq_of_lt (omega (arith, w.power))
 
 -- What is found when one entry more stands last.
-find_last : (es : List (ℕ × ℕ)) (old new x : ℕ) → find es x ≡ none → find (es ++ ((old, new) ∷ [])) x ≡ cond (eqb old x) (some new) none
+find_last : (es : List (ℕ × ℕ)) (old new x : ℕ) → find es x ≡ None → find (es ++ ((old, new) ∷ [])) x ≡ cond (eqb old x) (Some new) None
 unfolding find
 find_last [] old new x h = refl
 find_last (e ∷ es) old new x h = step (eqb e.0 x) h (λ g. find_last es old new x g)
   where
-    step : (b : Bool) → cond b (some e.1) (find es x) ≡ none → (find es x ≡ none → find (es ++ ((old, new) ∷ [])) x ≡ cond (eqb old x) (some new) none)
-        → cond b (some e.1) (find (es ++ ((old, new) ∷ [])) x) ≡ cond (eqb old x) (some new) none
+    step : (b : Bool) → cond b (Some e.1) (find es x) ≡ None → (find es x ≡ None → find (es ++ ((old, new) ∷ [])) x ≡ cond (eqb old x) (Some new) None)
+        → cond b (Some e.1) (find (es ++ ((old, new) ∷ [])) x) ≡ cond (eqb old x) (Some new) None
     step true h r = cc
     step false h r = r h
 
 find_before : (es : List (ℕ × ℕ)) (old new x : ℕ) → (old ≡ x → ⊥) → find (es ++ ((old, new) ∷ [])) x ≡ find es x
 unfolding find
 find_before [] old new x h = rw (ne_eqb old x h) refl
-find_before (e ∷ es) old new x h = ap (λ (o : Option ℕ). cond (eqb e.0 x) (some e.1) o) (find_before es old new x h)
+find_before (e ∷ es) old new x h = ap (λ (o : Option ℕ). cond (eqb e.0 x) (Some e.1) o) (find_before es old new x h)
 
 -- An entry more: its cell was free, so that no number of this cell was found.
 module _ {t : List ℕ} {m : Map} {es : List (ℕ × ℕ)} (d : Odd m) (o : Holds t m es) (old new : ℕ) (s : new < 65536) (f : taken t m old ≡ false) where
-  free_none : (x : ℕ) → bit_and x m.mask ≡ bit_and old m.mask → find es x ≡ none
+  free_none : (x : ℕ) → bit_and x m.mask ≡ bit_and old m.mask → find es x ≡ None
   unfolding taken
   free_none x e =
       let c : cell_of m x ≡ cell_of m old = ap (λ (i : ℕ). m.at + i) e in
@@ -130,10 +129,10 @@ module _ {t : List ℕ} {m : Map} {es : List (ℕ × ℕ)} (d : Odd m) (o : Hold
     answers = λ x. step x (eqb (bit_and x m.mask) (bit_and old m.mask)) refl;
   }
     where
-      here : (x : ℕ) (b : Bool) → eqb old x ≡ b → answer_in (old * 65536 + new) x ≡ cond b (some new) none
+      here : (x : ℕ) (b : Bool) → eqb old x ≡ b → answer_in (old * 65536 + new) x ≡ cond b (Some new) None
       here x true e =
           let r : (old * 65536 + new) % 65536 ≡ new = omega arith in
-          answer_own (old * 65536 + new) x (omega (arith, eqb-true old x e)) ∙ ap some r
+          answer_own (old * 65536 + new) x (omega (arith, eqb-true old x e)) ∙ ap Some r
       here x false e =
           let q : (old * 65536 + new) / 65536 ≡ old = omega arith in
           answer_other (old * 65536 + new) x (λ n. eqb-false old x e (sym q ∙ n))
@@ -158,11 +157,11 @@ same_number k a b e ha hb h =
     let g : a % 65536 ≡ b % 65536 = sym (and_mask a 16) ∙ f ∙ and_mask b 16 in
     omega arith
 
-some_none : {v : ℕ} → some v ≡ none → ⊥
+some_none : {v : ℕ} → Some v ≡ None → ⊥
 unfolding is_some
 some_none h = true≢false (ap is_some h)
 
-taken_found : {t : List ℕ} {m : Map} {es : List (ℕ × ℕ)} → Odd m → Holds t m es → (old : ℕ) → old < 65536 → cell_at t m old < 4294967296 → m.mask ≡ 65535 → taken t m old ≡ true → find es old ≡ none → ⊥
+taken_found : {t : List ℕ} {m : Map} {es : List (ℕ × ℕ)} → Odd m → Holds t m es → (old : ℕ) → old < 65536 → cell_at t m old < 4294967296 → m.mask ≡ 65535 → taken t m old ≡ true → find es old ≡ None → ⊥
 unfolding taken
 taken_found {t} {m} d o old s w e k n =
     let q : cell_at t m old / 65536 ≡ old = same_number m.mask (cell_at t m old / 65536) old e (omega arith) s (eqb-true _ _ k) in
@@ -183,5 +182,5 @@ module _ {t next : List ℕ} {m : Map} {old new : ℕ} {r : Bool} (a : Added t n
         let f : next ≡ set t (cell_of m old) (old * 65536 + new) = rw e at a.cells in
         rw f (holds_more d o old new s (not-true (taken t m old) (sym a.free ∙ e)))
 
-    pub added_clash : r ≡ false → m.mask ≡ 65535 → old < 65536 → find es old ≡ none → ⊥
+    pub added_clash : r ≡ false → m.mask ≡ 65535 → old < 65536 → find es old ≡ None → ⊥
     added_clash e k s n = taken_found d o old s a.small k (not-false (taken t m old) (sym a.free ∙ e)) n

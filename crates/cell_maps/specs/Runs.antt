@@ -1,9 +1,8 @@
 -- Runs of pairs in step: what is found in them, and what cells hold in which they are laid.
 use Prim.Native.Nat.{ℕ, zero, suc, ◌+◌, ◌-◌, ◌*◌, ◌/◌, ◌%◌, ◌≤◌, ◌<◌}
-use Rattle.std.specs.Prelude.{◌≡◌, Bool, true, false, cond, ◌⊎◌, length, set, leb, ltb, eqb}
+use Rattle.std.specs.Prelude.{◌≡◌, Bool, true, false, cond, ◌⊎◌, length, set, leb, ltb, eqb, None, Some}
 use Rattle.std.proofs.Math.Path.{refl, sym}
 use Rattle.std.proofs.Common.{ap, ◌∙◌, inl, inr, zero-add, add-zero}
-use Rattle.std.proofs.Math.Option.{none, some}
 use mathlib.Core.List.{List, [], ◌∷◌, ◌++◌, append-nil, append_assoc}
 use Rattle.std.proofs.Math.Decide.{dec_lt}
 use native.Mathlib.Omega.{arith}
@@ -15,31 +14,31 @@ use Rattle.cell_maps.specs.Cells.{answer_in, folded, run_start, run_end, last_ru
 use Rattle.cell_maps.specs.declared.Map.{Map}
 
 -- What is found in a run, and in what stands behind it.
-pub steps_out : (old new n x : ℕ) → (old ≤ x → x < old + n → ⊥) → find (steps old new n) x ≡ none
+pub steps_out : (old new n x : ℕ) → (old ≤ x → x < old + n → ⊥) → find (steps old new n) x ≡ None
 unfolding steps find
 steps_out old new zero x h = refl
 steps_out old new (suc n) x h = rw (ne_eqb old x (λ e. h (omega arith) (omega arith))) (steps_out (old + 1) (new + 1) n x (λ l g. h (omega arith) (omega arith)))
 
-pub steps_in : (old new n x : ℕ) → old ≤ x → x < old + n → find (steps old new n) x ≡ some (new + (x - old))
+pub steps_in : (old new n x : ℕ) → old ≤ x → x < old + n → find (steps old new n) x ≡ Some (new + (x - old))
 unfolding steps find
 steps_in old new zero x l g = absurd (omega arith)
 steps_in old new (suc n) x l g = step (eqb old x) refl (λ a b. steps_in (old + 1) (new + 1) n x a b)
   where
-    step : (b : Bool) → eqb old x ≡ b → (old + 1 ≤ x → x < old + 1 + n → find (steps (old + 1) (new + 1) n) x ≡ some (new + 1 + (x - (old + 1)))) → cond b (some new) (find (steps (old + 1) (new + 1) n) x) ≡ some (new + (x - old))
+    step : (b : Bool) → eqb old x ≡ b → (old + 1 ≤ x → x < old + 1 + n → find (steps (old + 1) (new + 1) n) x ≡ Some (new + 1 + (x - (old + 1)))) → cond b (Some new) (find (steps (old + 1) (new + 1) n) x) ≡ Some (new + (x - old))
     step true e r =
         let q : new ≡ new + (x - old) = omega (arith, eqb-true old x e) in
-        ap some q
+        ap Some q
     step false e r =
         let d : old ≡ x → ⊥ = eqb-false old x e in
         let q : new + 1 + (x - (old + 1)) ≡ new + (x - old) = omega arith in
-        r (omega arith) (omega arith) ∙ ap some q
+        r (omega arith) (omega arith) ∙ ap Some q
 
-pub find_behind : (a b : List (ℕ × ℕ)) (x : ℕ) → find a x ≡ none → find (a ++ b) x ≡ find b x
+pub find_behind : (a b : List (ℕ × ℕ)) (x : ℕ) → find a x ≡ None → find (a ++ b) x ≡ find b x
 unfolding find
 find_behind [] b x h = refl
 find_behind (e ∷ a) b x h = step (eqb e.0 x) h (λ k. find_behind a b x k)
   where
-    step : (c : Bool) → cond c (some e.1) (find a x) ≡ none → (find a x ≡ none → find (a ++ b) x ≡ find b x) → cond c (some e.1) (find (a ++ b) x) ≡ find b x
+    step : (c : Bool) → cond c (Some e.1) (find a x) ≡ None → (find a x ≡ None → find (a ++ b) x ≡ find b x) → cond c (Some e.1) (find (a ++ b) x) ≡ find b x
     step true k r = cc
     step false k r = r k
 
@@ -53,12 +52,12 @@ steps_last old new (suc n) =
     let g : new + suc n ≡ new + 1 + n = omega arith in
     rw (e, f, g) (ap (λ (l : List (ℕ × ℕ)). (old, new) ∷ l) (steps_last (old + 1) (new + 1) n))
 
-find_front : (a b : List (ℕ × ℕ)) (x v : ℕ) → find a x ≡ some v → find (a ++ b) x ≡ some v
+find_front : (a b : List (ℕ × ℕ)) (x v : ℕ) → find a x ≡ Some v → find (a ++ b) x ≡ Some v
 unfolding find
 find_front [] b x v h = cc
 find_front (e ∷ a) b x v h = step (eqb e.0 x) h (λ k. find_front a b x v k)
   where
-    step : (c : Bool) → cond c (some e.1) (find a x) ≡ some v → (find a x ≡ some v → find (a ++ b) x ≡ some v) → cond c (some e.1) (find (a ++ b) x) ≡ some v
+    step : (c : Bool) → cond c (Some e.1) (find a x) ≡ Some v → (find a x ≡ Some v → find (a ++ b) x ≡ Some v) → cond c (Some e.1) (find (a ++ b) x) ≡ Some v
     step true k r = k
     step false k r = r k
 
@@ -117,7 +116,7 @@ module _ (m : List ℕ) where
       rw (e, d) (runs_apart p q n (at + 6) _ _ (omega arith) (omega arith) (first_run at n old new h).others)
 
   -- a number in no run is not found, and one in the run i is found there
-  pub runs_out : (n at x : ℕ) → ((i : ℕ) → i < n → word m (at + 6 * i) ≤ x → x < word m (at + 6 * i) + word m (at + 6 * i + 4) → ⊥) → find (run_pairs (triples m at n)) x ≡ none
+  pub runs_out : (n at x : ℕ) → ((i : ℕ) → i < n → word m (at + 6 * i) ≤ x → x < word m (at + 6 * i) + word m (at + 6 * i + 4) → ⊥) → find (run_pairs (triples m at n)) x ≡ None
   unfolding triples run_pairs find
   runs_out zero at x h = refl
   runs_out (suc n) at x h =
@@ -126,7 +125,7 @@ module _ (m : List ℕ) where
       ∙ runs_out n (at + 6) x (λ i l. let d : at + 6 * suc i ≡ at + 6 + 6 * i = omega arith in rw d at (h (suc i) (omega arith)))
 
   pub runs_in : (i n at old new x : ℕ) → i < n → runs_rise old new (triples m at n) ≡ true → word m (at + 6 * i) ≤ x → x < word m (at + 6 * i) + word m (at + 6 * i + 4)
-      → find (run_pairs (triples m at n)) x ≡ some (word m (at + 6 * i + 2) + (x - word m (at + 6 * i)))
+      → find (run_pairs (triples m at n)) x ≡ Some (word m (at + 6 * i + 2) + (x - word m (at + 6 * i)))
   unfolding triples run_pairs
   runs_in i zero at old new x l h a b = absurd (omega arith)
   runs_in zero (suc n) at old new x l h a b =
@@ -142,7 +141,7 @@ module _ (m : List ℕ) where
       ∙ runs_in i n (at + 6) _ _ x (omega arith) f.others c (rw e at b))
 
   -- nor is a number that a later run has, or one behind it, found in the runs before that one
-  pub runs_before : (k n at old new x : ℕ) → k < n → runs_rise old new (triples m at n) ≡ true → word m (at + 6 * k) ≤ x → find (run_pairs (triples m at k)) x ≡ none
+  pub runs_before : (k n at old new x : ℕ) → k < n → runs_rise old new (triples m at n) ≡ true → word m (at + 6 * k) ≤ x → find (run_pairs (triples m at k)) x ≡ None
   runs_before k n at old new x l h a = runs_out k at x (λ i g b c. omega (arith, runs_apart i k n at old new g l h))
 
   -- the pairs of the last run stand last
@@ -242,7 +241,7 @@ module _ {list t : List ℕ} {m : Map} (c : RunsIn list t m (length list / 6)) (
   found = last_run_lem t m.at x (n + 1) rise (n + 1) 0 (n + 1) (omega arith) (omega arith) (λ z. absurd (z refl)) (λ j l g h. absurd (omega arith))
 
   -- no run has x
-  none_has : ((i : ℕ) → i < n → word list (6 * i) ≤ x → x < word list (6 * i) + word list (6 * i + 4) → ⊥) → none ≡ find (run_pairs (triples list 0 n)) x
+  none_has : ((i : ℕ) → i < n → word list (6 * i) ≤ x → x < word list (6 * i) + word list (6 * i + 4) → ⊥) → None ≡ find (run_pairs (triples list 0 n)) x
   none_has h = sym (runs_out list n 0 x (λ i l. rw (zero-add (6 * i)) (h i l)))
 
   -- a later run starts after x
@@ -284,7 +283,7 @@ module _ {list t : List ℕ} {m : Map} (c : RunsIn list t m (length list / 6)) (
           rw (← a, start_of r l, new_of r l) (omega (arith, first, near, (at_run r l).new_ends)) in
           let w : x * 65536 + (word list (6 * r + 2) + (x - word list (6 * r))) < x * 65536 + 65536 = omega (arith, near, first, (at_run r l).new_ends) in
           rw v
-          (answer_own _ x (omega (arith, w)) ∙ ap some (rest (word list (6 * r + 2) + (x - word list (6 * r))) (omega (arith, w)))
+          (answer_own _ x (omega (arith, w)) ∙ ap Some (rest (word list (6 * r + 2) + (x - word list (6 * r))) (omega (arith, w)))
           ∙ sym (rw (zero-add (6 * r)) at (runs_in list r n 0 0 0 x l up (rw (zero-add (6 * r)) first) (rw (zero-add (6 * r)) near))))
         where
           rest : (y : ℕ) → y < 65536 → (x * 65536 + y) % 65536 ≡ y

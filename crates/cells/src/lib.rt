@@ -28,9 +28,6 @@ pub fn put_cell(t: &mut [u32], i: usize, v: usize)
 pub fn clear(t: &mut [u32], n: usize)
     ensures { Cleared n t.old t.new }
 {
-    let mut i = 0;
-    while i < n {
-        put_cell(t, i, 0);
-        i += 1;
-    }
+    let end = n.min(t.len());
+    t[..end].fill(0);
 }

@@ -1,7 +1,7 @@
 -- No part has a fault before its own start.
 use Prim.Native.Nat.{ℕ, zero, suc, ◌+◌, ◌≤◌}
 use mathlib.Core.Bool.{Bool, true, false, cond}
-use mathlib.Core.Option.{Option, none, some}
+use Rattle.std.specs.Prelude.{Option, None, Some}
 use mathlib.Core.List.{List}
 use native.Mathlib.Omega.{arith}
 use lib.Dec.{leb, eqb}
@@ -13,16 +13,16 @@ use Rattle.check_parts.specs.declared.Part.{Part}
 use Rattle.check_parts.specs.declared.Part.TheVariants.{Coverage, Classes, Rules, ChainedRules, Ligatures, Pairs}
 
 from_later : (a b : ℕ) (o : Option ℕ) → a ≤ b → From b o → From a o
-from_later a b none h k = from_none a
-from_later a b (some p) h k = record { least = omega (arith, k.least) }
+from_later a b None h k = from_none a
+from_later a b (Some p) h k = record { least = omega (arith, k.least) }
 
 from_lowest : (at : ℕ) (o p : Option ℕ) → From at o → From at p → From at (lowest o p)
 unfolding lowest
-from_lowest at none p h k = k
-from_lowest at (some x) none h k = h
-from_lowest at (some x) (some y) h k = step (leb x y)
+from_lowest at None p h k = k
+from_lowest at (Some x) None h k = h
+from_lowest at (Some x) (Some y) h k = step (leb x y)
   where
-    step : (b : Bool) → From at (some (cond b x y))
+    step : (b : Bool) → From at (Some (cond b x y))
     step true = h
     step false = k
 
@@ -30,7 +30,7 @@ from_through : (fault_at : ℕ → Option ℕ) → ((p : ℕ) → From p (fault_
 unfolding fault_through
 from_through fault_at h s base slot zero = from_none base
 from_through fault_at h s base slot (suc n) =
-    from_lowest base (cond (eqb (word s slot) 0) none (fault_at (base + word s slot))) (fault_through fault_at s base (slot + 2) n)
+    from_lowest base (cond (eqb (word s slot) 0) None (fault_at (base + word s slot))) (fault_through fault_at s base (slot + 2) n)
     (from_cond base (eqb (word s slot) 0) (from_none base) (from_later base (base + word s slot) (fault_at (base + word s slot)) (omega arith) (h (base + word s slot))))
     (from_through fault_at h s base (slot + 2) n)
 

@@ -1,6 +1,5 @@
 -- The fault of a part, by its sort.
-use Rattle.std.specs.Prelude.{ℕ, Bool, true, false, cond, ◌&&◌, List}
-use Rattle.std.proofs.Math.Option.{Option, none}
+use Rattle.std.specs.Prelude.{ℕ, Bool, true, false, cond, ◌&&◌, List, Option, None}
 use Rattle.meaning.specs.Words.{word}
 use Rattle.meaning.specs.Tables.{field_count}
 use Rattle.meaning.specs.Fault.{lowest, part_fault, fault_through, coverage_fault, classes_fault, rule_fault, ligature_fault, set_fault, pair_set_fault, enough, header_fault, good_formats}
@@ -21,12 +20,12 @@ fault_of_part Pairs s = pair_set_fault (field_count (word s 4)) (field_count (wo
 
 -- the fault of the member at a place of a part that has members; in the others there is none
 abbrev pub member_of_part : Part → List ℕ → ℕ → Option ℕ
-member_of_part Coverage s at = none
-member_of_part Classes s at = none
+member_of_part Coverage s at = None
+member_of_part Classes s at = None
 member_of_part Rules s at = member_fault Rule s at
 member_of_part ChainedRules s at = member_fault ChainedRule s at
 member_of_part Ligatures s at = member_fault Ligature s at
-member_of_part Pairs s at = none
+member_of_part Pairs s at = None
 
 -- the fault of a context by its format, of a ligature table and of a pair table by its format, once the first two bytes stand
 abbrev pub by_glyph_fault : Bool → List ℕ → Option ℕ

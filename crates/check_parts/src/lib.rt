@@ -1,17 +1,14 @@
 // The parts that a header reaches by offsets: each is checked, and one that is reached twice is checked once.
 #![tactic(auto)]
 
-ghost use Rattle.std.specs.Prelude.{◌≡◌, true, ◌+◌, ◌*◌, ◌<◌};
-ghost use Rattle.std.proofs.Math.Option.{none};
+ghost use Rattle.std.specs.Prelude.{◌≡◌, true, ◌+◌, ◌*◌, ◌<◌, None};
 ghost use Rattle.meaning.specs.Fault.{lowest, fault_through, enough};
-ghost use Rattle.faults.specs.Fault.{fault_of, place_of};
-ghost use Rattle.faults.specs.declared.Fault.TheVariants.{Sound};
 ghost use Rattle.gsubgpos.specs.Marks.{Marked};
 ghost use Rattle.check_parts.specs.Seen.{Seen};
 ghost use Rattle.check_parts.specs.Parts.{fault_of_part, member_of_part};
 
 use bits::{has_bit, put_bit};
-use faults::{Fault, found_before, lowest};
+use faults::{found_before, lowest};
 use gsubgpos::Member;
 use places::{MEMBER_MARKS, PART_MARKS};
 use view::subtable_place;
@@ -32,9 +29,9 @@ pub enum Part {
 }
 
 // The lowest fault of the part at `at`, and of what it reaches. The value formats of pairs stand in the header. `sound` has marks of its members that were found sound.
-fn check_part(part: Part, src: &[u8], at: usize, sound: &mut [u32]) -> Fault
-    requires { (at < 65536) × Marked (member_of_part part src.now) none sound.old }
-    ensures { (result ≡ fault_of (fault_of_part part src.now at)) × Marked (member_of_part part src.now) none sound.new }
+fn check_part(part: Part, src: &[u8], at: usize, sound: &mut [u32]) -> Option<usize>
+    requires { (at < 65536) × Marked (member_of_part part src.now) None sound.old }
+    ensures { (result ≡ fault_of_part part src.now at) × Marked (member_of_part part src.now) None sound.new }
 {
     match part {
         Part::Coverage => coverage::check(src, at),
@@ -52,12 +49,12 @@ fn check_once(
     part: Part,
     src: &[u8],
     at: usize,
-    low: Fault,
+    low: Option<usize>,
     marks: &mut [u32],
     sound: &mut [u32],
-) -> Fault
-    requires { (at < 65536) × Seen (fault_of_part part src.now) low marks.old × Marked (member_of_part part src.now) none sound.old }
-    ensures { (result ≡ fault_of (lowest (place_of low) (fault_of_part part src.now at))) × Seen (fault_of_part part src.now) result marks.new × Marked (member_of_part part src.now) none sound.new }
+) -> Option<usize>
+    requires { (at < 65536) × Seen (fault_of_part part src.now) low marks.old × Marked (member_of_part part src.now) None sound.old }
+    ensures { (result ≡ lowest low (fault_of_part part src.now at)) × Seen (fault_of_part part src.now) result marks.new × Marked (member_of_part part src.now) None sound.new }
 {
     if has_bit(marks, 0, at) {
         return low;
@@ -78,19 +75,16 @@ fn check_each(
     n: usize,
     marks: &mut [u32],
     sound: &mut [u32],
-) -> Fault
-    requires { (slot + 2 * n < 0x1_0000_0000_0000) × Seen (fault_of_part part src.now) Sound marks.old × Marked (member_of_part part src.now) none sound.old }
-    ensures { result ≡ fault_of (fault_through (fault_of_part part src.now) src.now 0 slot n) }
+) -> Option<usize>
+    requires { (slot + 2 * n < 0x1_0000_0000_0000) × Seen (fault_of_part part src.now) None marks.old × Marked (member_of_part part src.now) None sound.old }
+    ensures { result ≡ fault_through (fault_of_part part src.now) src.now 0 slot n }
 {
-    let mut low = Fault::Sound;
-    let mut i = 0;
-    while i < n {
+    let mut low = None;
+    for i in 0..n {
         let off = word_at(src, slot + 2 * i);
-        i += 1;
-        if off == 0 {
-            continue;
+        if off != 0 {
+            low = check_once(part, src, off, low, marks, sound);
         }
-        low = check_once(part, src, off, low, marks, sound);
     }
     low
 }
@@ -98,9 +92,9 @@ fn check_each(
 // The same with a mark for each place that an offset can lead to. It calls itself as `shared_within` does. It is never put into its callers: LLVM asks for the pages
 // of a large frame in a loop over a register, and takes one that is in use where the caller may return before it needs the frame.
 #[inline(never)]
-fn check_shared(part: Part, src: &[u8], slot: usize, n: usize, rounds: usize) -> Fault
+fn check_shared(part: Part, src: &[u8], slot: usize, n: usize, rounds: usize) -> Option<usize>
     requires { slot + 2 * n < 0x1_0000_0000_0000 }
-    ensures { result ≡ fault_of (fault_through (fault_of_part part src.now) src.now 0 slot n) }
+    ensures { result ≡ fault_through (fault_of_part part src.now) src.now 0 slot n }
 {
     if rounds != 0 {
         return check_shared(part, src, slot, n, rounds - 1);
@@ -111,9 +105,9 @@ fn check_shared(part: Part, src: &[u8], slot: usize, n: usize, rounds: usize) ->
 }
 
 // The same of any offsets. Marks are made only where there are many, since clearing them takes longer than most tables do.
-pub fn check_through(part: Part, src: &[u8], slot: usize, n: usize) -> Fault
+pub fn check_through(part: Part, src: &[u8], slot: usize, n: usize) -> Option<usize>
     requires { slot + 2 * n < 0x1_0000_0000_0000 }
-    ensures { result ≡ fault_of (fault_through (fault_of_part part src.now) src.now 0 slot n) }
+    ensures { result ≡ fault_through (fault_of_part part src.now) src.now 0 slot n }
 {
     if MANY <= n {
         return check_shared(part, src, slot, n, slot % 2);
@@ -124,6 +118,7 @@ pub fn check_through(part: Part, src: &[u8], slot: usize, n: usize) -> Fault
 }
 
 // Whether there is a set for each covered glyph, where there are `n` sets; not judged where the coverage is null or faulty.
+#[tactic(auto, unfolding(meaning::specs::Fault::enough, meaning::specs::Fault::coverage_fault, meaning::specs::Fault::part_fault))]
 pub fn enough_sets(src: &[u8], n: usize) -> bool
     ensures { result ≡ enough src.now n }
 {
@@ -131,8 +126,8 @@ pub fn enough_sets(src: &[u8], n: usize) -> bool
     if at == 0 {
         return true;
     }
-    let Fault::Sound = coverage::check(src, at) else {
+    if coverage::check(src, at).is_some() {
         return true;
-    };
+    }
     coverage_glyphs::count(src, at) <= n
 }

@@ -1,9 +1,7 @@
 -- How far the place of a fault lies. An offset is a word, so that what the header reaches starts at 65,535 at most, and what a set reaches twice as far.
 use Prim.Native.Nat.{ℕ, zero, suc, ◌+◌, ◌*◌, ◌≤◌, ◌<◌}
-use Rattle.std.specs.Prelude.{Bool, cond, ◌&&◌, List, get_or, leb, eqb}
+use Rattle.std.specs.Prelude.{Bool, cond, ◌&&◌, List, get_or, leb, eqb, Option, None, Some, unwrap_or}
 use Rattle.std.proofs.Math.Bool.{true, false}
-use Rattle.std.proofs.Math.Option
-use Rattle.std.proofs.Math.Option.{Option, none, some}
 use Rattle.std.proofs.Common.{arith}
 use Rattle.meaning.specs.Words.{word, inside}
 use Rattle.meaning.specs.Parts.{coverage_sound, classes_sound}
@@ -13,18 +11,18 @@ use Rattle.laws.specs.ReadsBack.{fault_is}
 
 -- a place, where there is one, is not past twice the highest offset
 record Near (o : Option ℕ) : Type 0 where
-  most : Option.get_or o 0 ≤ 131070
+  most : unwrap_or o 0 ≤ 131070
 
-near_none : Near none
+near_none : Near None
 near_none = record { most = omega arith }
 
 near_lowest : (a b : Option ℕ) → Near a → Near b → Near (lowest a b)
 unfolding lowest
-near_lowest none b h k = k
-near_lowest (some p) none h k = h
-near_lowest (some p) (some q) h k = step (leb p q)
+near_lowest None b h k = k
+near_lowest (Some p) None h k = h
+near_lowest (Some p) (Some q) h k = step (leb p q)
   where
-    step : (t : Bool) → Near (some (cond t p q))
+    step : (t : Bool) → Near (Some (cond t p q))
     step true = h
     step false = k
 
@@ -108,5 +106,5 @@ module _ (s : List ℕ) (bytes : (i : ℕ) → get_or s i 0 < 256) where
       (near_header (enough s (word s 4)) 0 4 _ (near_set (ligature_fault s) (λ p h. near_part p _ h near_none)))
       (near_cond (eqb kind 4) near_pairs near_single)))))
 
-  pub place_near : (kind : ℕ) → Option.get_or (fault kind s) 0 ≤ 131070
+  pub place_near : (kind : ℕ) → unwrap_or (fault kind s) 0 ≤ 131070
   place_near kind = (near_fault kind).most

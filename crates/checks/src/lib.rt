@@ -5,16 +5,16 @@ ghost use Rattle.std.specs.Prelude.{◌≡◌, true, false, ◌&&◌, not, ◌+�
 ghost use Rattle.meaning.specs.Words.{word, inside};
 ghost use Rattle.meaning.specs.Subset.{last_format, has_format};
 ghost use Rattle.meaning.specs.Fault.{lowest, header_fault, covers_fault, context_fault, pair_fault, fault};
-ghost use Rattle.faults.specs.Fault.{fault_of};
 ghost use Rattle.check_parts.specs.Parts.{fault_of_part, by_glyph_fault, by_class_fault, ligatures_fault, pair_fields, glyph_pairs_fault, class_pairs_fault};
 
 use check_parts::{Part, check_through, enough_sets};
 use class_counts::{good_formats, good_header};
-use faults::{Fault, lowest};
+use faults::lowest;
 use view::header;
 use wire::{inside, word_at};
 
 // The last format of a kind: 3 for contexts, 1 for ligatures, 2 for pairs and single substitutions.
+#[tactic(auto, unfolding(meaning::specs::Subset::last_format))]
 fn last_format(kind: usize) -> usize
     ensures { result ≡ last_format kind }
 {
@@ -28,6 +28,7 @@ fn last_format(kind: usize) -> usize
 }
 
 // Whether the kind has this format: from 1 to its last.
+#[tactic(auto, unfolding(meaning::specs::Subset::has_format))]
 fn has_format(kind: usize, format: usize) -> bool
     ensures { result ≡ has_format kind format }
 {
@@ -49,19 +50,20 @@ pub fn other_format(kind: usize, src: &[u8]) -> bool
 
 // The lowest fault of a table whose header ends with a count at `slot` and as many offsets to sets: the coverage's offset stands at 2, and those of class tables from 4 on.
 // `good` says whether the header's other fields are.
-fn check_header(src: &[u8], good: bool, tables: usize, slot: usize, part: Part) -> Fault
+#[tactic(auto, unfolding(meaning::specs::Fault::header_fault, meaning::specs::Fault::part_fault))]
+fn check_header(src: &[u8], good: bool, tables: usize, slot: usize, part: Part) -> Option<usize>
     requires { (tables < 4) × (slot < 16) }
-    ensures { result ≡ fault_of (header_fault good tables slot (fault_of_part part src.now) src.now) }
+    ensures { result ≡ header_fault good tables slot (fault_of_part part src.now) src.now }
 {
     if !inside(src, 0, slot + 2) {
-        return Fault::At(0);
+        return Some(0);
     }
     let n = word_at(src, slot);
     if !inside(src, slot + 2, 2 * n) {
-        return Fault::At(0);
+        return Some(0);
     }
     if !good {
-        return Fault::At(0);
+        return Some(0);
     }
     let cover = check_through(Part::Coverage, src, 2, 1);
     let classes = check_through(Part::Classes, src, 4, tables);
@@ -70,22 +72,23 @@ fn check_header(src: &[u8], good: bool, tables: usize, slot: usize, part: Part) 
 }
 
 // Format 3 of a plain context: the counts first, then the coverages' offsets and the records.
-fn check_plain_covers(src: &[u8]) -> Fault
-    ensures { result ≡ fault_of (covers_fault false src.now) }
+#[tactic(auto, unfolding(meaning::specs::Fault::covers_fault, meaning::specs::Fault::part_fault))]
+fn check_plain_covers(src: &[u8]) -> Option<usize>
+    ensures { result ≡ covers_fault false src.now }
 {
     if !inside(src, 0, 6) {
-        return Fault::At(0);
+        return Some(0);
     }
     let n = word_at(src, 2);
     if !inside(src, 6, 2 * n + 4 * word_at(src, 4)) {
-        return Fault::At(0);
+        return Some(0);
     }
     check_through(Part::Coverage, src, 6, n)
 }
 
 // Format 3 of a chained context: each count before its array.
-fn check_chained_covers(src: &[u8]) -> Fault
-    ensures { result ≡ fault_of (covers_fault true src.now) }
+fn check_chained_covers(src: &[u8]) -> Option<usize>
+    ensures { result ≡ covers_fault true src.now }
 {
     let b = word_at(src, 2);
     let input = 4 + 2 * b;
@@ -95,7 +98,7 @@ fn check_chained_covers(src: &[u8]) -> Fault
     let records = ahead + 2 + 2 * a;
     // Each count lies before the next one, so that the last array's end says it of all.
     if !inside(src, records, 2 + 4 * word_at(src, records)) {
-        return Fault::At(0);
+        return Some(0);
     }
     let back = check_through(Part::Coverage, src, 4, b);
     let middle = check_through(Part::Coverage, src, input + 2, i);
@@ -104,8 +107,8 @@ fn check_chained_covers(src: &[u8]) -> Fault
 }
 
 // Format 3, plain or chained.
-fn check_covers(chained: bool, src: &[u8]) -> Fault
-    ensures { result ≡ fault_of (covers_fault chained src.now) }
+fn check_covers(chained: bool, src: &[u8]) -> Option<usize>
+    ensures { result ≡ covers_fault chained src.now }
 {
     if chained {
         return check_chained_covers(src);
@@ -114,8 +117,8 @@ fn check_covers(chained: bool, src: &[u8]) -> Fault
 }
 
 // Format 2: a chained context has three class tables, a plain one has one.
-fn check_by_class(chained: bool, src: &[u8]) -> Fault
-    ensures { result ≡ fault_of (by_class_fault chained src.now) }
+fn check_by_class(chained: bool, src: &[u8]) -> Option<usize>
+    ensures { result ≡ by_class_fault chained src.now }
 {
     if chained {
         return check_header(src, true, 3, 10, Part::ChainedRules);
@@ -124,8 +127,8 @@ fn check_by_class(chained: bool, src: &[u8]) -> Fault
 }
 
 // Format 1: a set for each covered glyph.
-fn check_by_glyph(chained: bool, src: &[u8]) -> Fault
-    ensures { result ≡ fault_of (by_glyph_fault chained src.now) }
+fn check_by_glyph(chained: bool, src: &[u8]) -> Option<usize>
+    ensures { result ≡ by_glyph_fault chained src.now }
 {
     let good = enough_sets(src, header(src, 4));
     if chained {
@@ -135,8 +138,9 @@ fn check_by_glyph(chained: bool, src: &[u8]) -> Fault
 }
 
 // A context, plain or chained, by its format.
-fn check_context(chained: bool, src: &[u8]) -> Fault
-    ensures { result ≡ fault_of (context_fault chained src.now) }
+#[tactic(auto, unfolding(meaning::specs::Fault::context_fault))]
+fn check_context(chained: bool, src: &[u8]) -> Option<usize>
+    ensures { result ≡ context_fault chained src.now }
 {
     let format = header(src, 0);
     match format {
@@ -147,8 +151,8 @@ fn check_context(chained: bool, src: &[u8]) -> Fault
 }
 
 // A ligature table.
-fn check_ligatures(src: &[u8]) -> Fault
-    ensures { result ≡ fault_of (ligatures_fault src.now) }
+fn check_ligatures(src: &[u8]) -> Option<usize>
+    ensures { result ≡ ligatures_fault src.now }
 {
     check_header(src, enough_sets(src, header(src, 4)), 0, 4, Part::Ligatures)
 }
@@ -161,18 +165,19 @@ fn pair_fields(src: &[u8]) -> bool
 }
 
 // Pairs by glyph.
-fn check_glyph_pairs(src: &[u8]) -> Fault
-    ensures { result ≡ fault_of (glyph_pairs_fault src.now) }
+fn check_glyph_pairs(src: &[u8]) -> Option<usize>
+    ensures { result ≡ glyph_pairs_fault src.now }
 {
     check_header(src, pair_fields(src), 0, 8, Part::Pairs)
 }
 
 // Pairs by class: the header with its cells, then coverage and class tables.
-fn check_class_pairs(src: &[u8]) -> Fault
-    ensures { result ≡ fault_of (class_pairs_fault src.now) }
+#[tactic(auto, unfolding(meaning::specs::Fault::part_fault))]
+fn check_class_pairs(src: &[u8]) -> Option<usize>
+    ensures { result ≡ class_pairs_fault src.now }
 {
     if !good_header(src) {
-        return Fault::At(0);
+        return Some(0);
     }
     let cover = check_through(Part::Coverage, src, 2, 1);
     let tables = check_through(Part::Classes, src, 8, 2);
@@ -180,8 +185,9 @@ fn check_class_pairs(src: &[u8]) -> Fault
 }
 
 // A pair table, by its format.
-fn check_pairs(src: &[u8]) -> Fault
-    ensures { result ≡ fault_of (pair_fault src.now) }
+#[tactic(auto, unfolding(meaning::specs::Fault::pair_fault))]
+fn check_pairs(src: &[u8]) -> Option<usize>
+    ensures { result ≡ pair_fault src.now }
 {
     if header(src, 0) == 1 {
         return check_glyph_pairs(src);
@@ -190,11 +196,12 @@ fn check_pairs(src: &[u8]) -> Fault
 }
 
 // Where the lowest faulty part of a source of this kind starts, or that it is sound: 1 context, 2 chained, 3 ligature, 4 pair, and single substitution for any other.
-pub fn check(kind: usize, src: &[u8]) -> Fault
-    ensures { result ≡ fault_of (fault kind src.now) }
+#[tactic(auto, unfolding(meaning::specs::Fault::fault, meaning::specs::Fault::part_fault))]
+pub fn check(kind: usize, src: &[u8]) -> Option<usize>
+    ensures { result ≡ fault kind src.now }
 {
     if !inside(src, 0, 2) {
-        return Fault::At(0);
+        return Some(0);
     }
     match kind {
         1 => check_context(false, src),

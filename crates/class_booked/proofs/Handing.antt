@@ -2,7 +2,7 @@
 use Prim.Native.Nat.{ℕ, ◌+◌, ◌-◌, ◌*◌, ◌≤◌, ◌<◌}
 use mathlib.Core.Path.{◌≡◌, refl, sym, ap, ◌∙◌, subst}
 use mathlib.Core.Bool.{Bool, true, false, true≢false}
-use mathlib.Core.Option.{Option, none, some}
+use Rattle.std.specs.Prelude.{Option, None, Some, Err}
 use mathlib.Core.List.{List, [], ◌∷◌, ◌++◌}
 use native.Mathlib.Omega.{arith}
 use lib.ListN.{length, replicate, length-replicate}
@@ -21,13 +21,13 @@ use Rattle.meaning.specs.Subset.{Outcome, refused}
 use Rattle.room.specs.Laid.{enough_area, laid_as, laid_unfit}
 use Rattle.area.specs.Part.{part}
 use Rattle.class_spots.specs.SlotWalk.{trim_words}
-use Rattle.class_spots.specs.Sets.{slots_at, slots_near}
+use Rattle.class_places.specs.Places.{slots_at, slots_near}
 use Rattle.class_spots.specs.Slots.{slot_blocks, blocks_many, Noted, Filled, WroteSlots}
 use Rattle.class_spots.specs.declared.Slots.{Slots}
 use Rattle.tried.specs.Tries.{Tries}
-use Rattle.tried.specs.declared.Tried.{Tried}
-use Rattle.tried.specs.declared.Tried.TheVariants.{Short, Became}
-use Rattle.room.specs.declared.Laid.TheVariants.{TooBig}
+use Rattle.tried.specs.declared.NotCut.{NotCut}
+use Rattle.tried.specs.declared.NotCut.TheVariants.{Short, Refused}
+use Rattle.room.specs.declared.NotLaid.TheVariants.{TooBig}
 use Rattle.remade_classes.specs.Tail.{tail_many, cover_of, table_blocks, tail_words, tail_fit}
 use Rattle.class_finish.specs.Table.{cover_place, class_table, table_into, Finishes, Finished}
 use Rattle.class_finish.specs.Written.{BookFor, NoRoom, Writes, left_into}
@@ -38,11 +38,11 @@ use Rattle.new_class_tables.proofs.Fitting.{tail_fit_lem}
 pub too_short : {n : ℕ} → n < enough_area → NoRoom n Short
 too_short h = record { told = λ out made k. (h, refl) }
 
-pub too_big : {n : ℕ} → enough_area ≤ n → NoRoom n (Became TooBig)
+pub too_big : {n : ℕ} → enough_area ≤ n → NoRoom n (Refused TooBig)
 too_big h = record { told = λ out made k. k h }
 
-pub room_told : {n m : ℕ} {r : Tried} {out : List ℕ} {made : Outcome} → NoRoom n r → n ≡ m → (enough_area ≤ n → refused out 9 ≡ made) → Tries ⊥ (m < enough_area) r out out made
-room_told {n} {m} {r} {out} {made} h e k = subst (λ (i : ℕ). Tries ⊥ (i < enough_area) r out out made) e (h.told out made k)
+pub room_told : {n m : ℕ} {r : NotCut} {out : List ℕ} {made : Outcome} → NoRoom n r → n ≡ m → (enough_area ≤ n → refused out 9 ≡ made) → Tries ⊥ (m < enough_area) (Err r) out out made
+room_told {n} {m} {r} {out} {made} h e k = subst (λ (i : ℕ). Tries ⊥ (i < enough_area) (Err r) out out made) e (h.told out made k)
 
 -- Books.
 
@@ -70,14 +70,14 @@ finished_said e f = rw e at f
 -- nulls at the end have no block
 keep_dropped : (x : Option (List ℕ)) (l : List (Option (List ℕ))) → drop_null (keep_slot x l) ≡ drop_null (x ∷ l)
 unfolding keep_slot drop_null
-keep_dropped none [] = refl
-keep_dropped none (y ∷ l) = refl
-keep_dropped (some b) l = refl
+keep_dropped None [] = refl
+keep_dropped None (y ∷ l) = refl
+keep_dropped (Some b) l = refl
 
 cons_dropped : (x : Option (List ℕ)) (l r : List (Option (List ℕ))) → drop_null l ≡ drop_null r → drop_null (x ∷ l) ≡ drop_null (x ∷ r)
 unfolding drop_null
-cons_dropped none l r e = e
-cons_dropped (some b) l r e = ap (λ (k : List (List ℕ)). b ∷ k) e
+cons_dropped None l r e = e
+cons_dropped (Some b) l r e = ap (λ (k : List (List ℕ)). b ∷ k) e
 
 trim_dropped : (l : List (Option (List ℕ))) → drop_null (trim l) ≡ drop_null l
 unfolding trim

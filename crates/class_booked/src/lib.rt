@@ -9,12 +9,13 @@ ghost use Rattle.tried.specs.Tries.{Tries};
 ghost use Rattle.class_finish.specs.Written.{BookFor, Writes, left_into};
 
 use class_finish::{Prepared, finish, no_room};
+use class_places::slots_at;
 use class_slots::write_slots;
-use class_spots::{Classes, slots_at};
+use class_spots::Classes;
 use handing::hand_over;
 use repeats::BOOK;
-use room::Laid;
-use tried::Tried;
+use room::NotLaid;
+use tried::NotCut;
 
 // What is left of a context, of which the cells hold what is needed, written into the area by this book and handed over if there is room. `dead` has marks at the places of rules that are known to go.
 pub fn write_booked(
@@ -26,7 +27,7 @@ pub fn write_booked(
     area: &mut [u8],
     book: &mut [u32],
     out: &mut [u8],
-) -> Tried
+) -> Result<usize, NotCut>
     requires { Writes src.now glyphs.now t.old prepared area.old × Dead (rule_left prepared.tail.chained (maps_in t.old prepared.maps) src.now) dead.old × BookFor prepared.packing book.old }
     ensures { Tries ⊥ (length area.old < enough_area) result out.old out.new (left_into out.old src.now glyphs.now t.old prepared) }
 {
@@ -39,17 +40,17 @@ pub fn write_booked(
     };
     let slots = write_slots(chained, src, t, prepared.maps, all, dead, area, book);
     if area.len() < slots.end {
-        return no_room(area);
+        return Err(no_room(area));
     }
     if slots.count == 0 {
-        return Tried::Became(Laid::Nothing);
+        return Err(NotCut::Refused(NotLaid::Nothing));
     }
     let end = finish(src, glyphs, t, prepared.tail, slots, classes, area, book);
     if area.len() < end {
-        return no_room(area);
+        return Err(no_room(area));
     }
     let at = slots_at(chained);
-    Tried::Became(hand_over(area, at + 2 * slots.count, at + 2 * classes, end, true, out))
+    Ok(hand_over(area, at + 2 * slots.count, at + 2 * classes, end, true, out)?)
 }
 
 // The same with a book for the packed layout.
@@ -63,7 +64,7 @@ pub fn write_packed(
     rounds: usize,
     area: &mut [u8],
     out: &mut [u8],
-) -> Tried
+) -> Result<usize, NotCut>
     requires { Writes src.now glyphs.now t.old prepared area.old × Dead (rule_left prepared.tail.chained (maps_in t.old prepared.maps) src.now) dead.old × (prepared.packing ≡ 1) }
     ensures { Tries ⊥ (length area.old < enough_area) result out.old out.new (left_into out.old src.now glyphs.now t.old prepared) }
 {

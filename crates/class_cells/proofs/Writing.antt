@@ -1,7 +1,7 @@
 -- What the loops over cells and over rows keep that write them.
 use Prim.Native.Nat.{ℕ, zero, suc, ◌+◌, ◌-◌, ◌*◌, ◌≤◌, ◌<◌}
 use mathlib.Core.Path.{◌≡◌, refl, sym, ap, ap₂, ◌∙◌}
-use mathlib.Core.Option.{Option, none, some}
+use Rattle.std.specs.Prelude.{Option, None, Some}
 use mathlib.Core.List.{List, [], ◌∷◌, ◌++◌, map, append_assoc, append-nil}
 use native.Mathlib.Omega.{arith}
 use lib.ListN.{length, take, length-append}
@@ -34,13 +34,13 @@ module _ {a : List ℕ} {p : ℕ} where
 
 -- The three ways through `write_cell`: the class goes, there is no room, the values are written.
 module _ (m2 : List (ℕ × ℕ)) (c : ℕ) {a : List ℕ} {p : ℕ} (ws : List ℕ) where
-  pub cell_gone : find m2 c ≡ none → p ≤ length a → Tried a p (if_kept (find m2 c) ws) a p
+  pub cell_gone : find m2 c ≡ None → p ≤ length a → Tried a p (if_kept (find m2 c) ws) a p
   cell_gone e h = rw e (tried_fits (extends_none h))
 
-  pub cell_full : {y r : ℕ} → find m2 c ≡ some y → length a < p + 2 * length ws → length a < r → Tried a p (if_kept (find m2 c) ws) a r
+  pub cell_full : {y r : ℕ} → find m2 c ≡ Some y → length a < p + 2 * length ws → length a < r → Tried a p (if_kept (find m2 c) ws) a r
   cell_full e h l = rw e (tried_over l h)
 
-  pub cell_fits : {y r : ℕ} {b : List ℕ} → find m2 c ≡ some y → Extends a p ws b r → Tried a p (if_kept (find m2 c) ws) b r
+  pub cell_fits : {y r : ℕ} {b : List ℕ} → find m2 c ≡ Some y → Extends a p ws b r → Tried a p (if_kept (find m2 c) ws) b r
   cell_fits e x = rw e (tried_fits x)
 
 -- What the loop of `write_row` keeps.
@@ -137,10 +137,10 @@ module _ {m1 m2 : List (ℕ × ℕ)} {s : List ℕ} {size : ℕ} {places : List 
           rw k.step (rw d at k.left)
 
       -- a row that goes, and one that is kept
-      pub row_gone : find m1 c ≡ none → Tried area q (if_kept (find m1 c) (row_left m2 s size places 0 p (word s 14))) area q
+      pub row_gone : find m1 c ≡ None → Tried area q (if_kept (find m1 c) (row_left m2 s size places 0 p (word s 14))) area q
       row_gone e = rw e (tried_fits (extends_none k.room))
 
-      pub row_kept : {y r : ℕ} {after : List ℕ} → find m1 c ≡ some y → Tried area q (row_left m2 s size places 0 p (word s 14)) after r
+      pub row_kept : {y r : ℕ} {after : List ℕ} → find m1 c ≡ Some y → Tried area q (row_left m2 s size places 0 p (word s 14)) after r
           → Tried area q (if_kept (find m1 c) (row_left m2 s size places 0 p (word s 14))) after r
       row_kept e t = rw e t
 
@@ -166,8 +166,8 @@ module _ {m1 m2 : List (ℕ × ℕ)} {s : List ℕ} {size : ℕ} {places : List 
 -- Without places no words are left.
 module _ (m1 m2 : List (ℕ × ℕ)) (s : List ℕ) (size : ℕ) where
   silent : (o : Option ℕ) (ws : List ℕ) → if_kept o [] ++ ws ≡ ws
-  silent none ws = refl
-  silent (some y) ws = refl
+  silent None ws = refl
+  silent (Some y) ws = refl
 
   no_cells : (n c p : ℕ) → row_left m2 s size [] c p n ≡ []
   unfolding row_left

@@ -12,7 +12,7 @@ ghost use Rattle.class_formats.specs.Kept.{AsksCells, AsksRows, kept_cells};
 
 use area::over;
 use cell_maps::Map;
-use fold::{Found, find};
+use fold::find;
 use pair_places::kept_places;
 use pair_sets::{Formats, write_values};
 use wire::word_inside;
@@ -31,7 +31,7 @@ fn write_cell(
     requires { Reads src.now p places.now × Inside t.now seconds × (pos ≤ length area.old) }
     ensures { Tried area.old pos (if_kept (find (entries_in t.now seconds) c) (map (value_at src.now p) places.now)) area.new result }
 {
-    let Found::New(_) = find(t, seconds, c) else {
+    let Some(_) = find(t, seconds, c) else {
         return pos;
     };
     if area.len() < pos + 2 * places.len() {
@@ -57,14 +57,12 @@ fn write_row(
     let n = word_inside(src, 14);
     let mut q = pos;
     let mut cell = p;
-    let mut c = 0;
-    while c < n {
+    for c in 0..n {
         q = write_cell(src, cell, places, t, seconds, c, area, q);
         if area.len() < q {
             return q;
         }
         cell += size;
-        c += 1;
     }
     q
 }
@@ -90,16 +88,14 @@ fn write_rows(
     let row = size * word_inside(src, 14);
     let mut q = pos;
     let mut p = 14;
-    let mut c = 0;
-    while c < n {
-        if let Found::New(_) = find(t, firsts, c) {
+    for c in 0..n {
+        if let Some(_) = find(t, firsts, c) {
             q = write_row(src, p, size, places, t, seconds, area, q);
         }
         if area.len() < q {
             return q;
         }
         p += row;
-        c += 1;
     }
     q
 }

@@ -2,7 +2,7 @@
 use Prim.Native.Nat.{ℕ, suc, ◌+◌, ◌*◌, ◌≤◌, ◌<◌}
 use mathlib.Core.Path.{◌≡◌, refl, sym, ap, ◌∙◌, subst}
 use mathlib.Core.Bool.{Bool, true, false, cond, ◌&&◌}
-use mathlib.Core.Option.{Option, none, some}
+use Rattle.std.specs.Prelude.{Option, None, Some, Result}
 use mathlib.Core.List.{List, [], ◌∷◌, map}
 use native.Mathlib.Decide.{dec_lt}
 use native.Mathlib.Nat.{zero-add}
@@ -36,9 +36,10 @@ use Rattle.glyph_runs.specs.Found.{entries_few}
 use Rattle.class_stretches.specs.Tables.{classes_at, NullOrSound}
 use Rattle.class_spots.specs.SlotWalk.{trim_blocks}
 use Rattle.tried.specs.Tries.{Tries}
-use Rattle.tried.specs.declared.Tried.{Tried}
+use Rattle.tried.specs.declared.NotCut.{NotCut}
 use Rattle.class_finish.specs.Table.{table_into}
-use Rattle.context_classes.specs.Meaning.{input_at, sets_of, SoundContext, rules_maps, tables_of, cut_words}
+use Rattle.class_places.specs.Places.{input_at}
+use Rattle.context_classes.specs.Meaning.{sets_of, SoundContext, rules_maps, tables_of, cut_words}
 use Rattle.context_classes.specs.Cutting.{enough_cells, Sound, Behind, Covers, NotesCovered, Cuts}
 use Rattle.marks.specs.declared.Marks.{Marks}
 use Rattle.remade_classes.specs.declared.Noted.{Noted}
@@ -50,26 +51,26 @@ slot_sound P s slot o z = rw (zero-add) at (rw (ne_eqb (word s slot) 0 z) at o)
 
 module _ (s : List ℕ) where
   -- the coverage, and the class tables that offsets from 4 on lead to
-  cover_sound : fault_through (coverage_fault s) s 0 2 1 ≡ none → (word s 2 ≡ 0 → ⊥) → coverage_sound s (word s 2) ≡ true
+  cover_sound : fault_through (coverage_fault s) s 0 2 1 ≡ None → (word s 2 ≡ 0 → ⊥) → coverage_sound s (word s 2) ≡ true
   unfolding coverage_fault
-  cover_sound h = slot_sound (λ at. coverage_sound s at ≡ true) s 2 (one_good s (λ at. coverage_sound s at ≡ true) (λ (at : ℕ). at) (coverage_fault s) (λ at f. (part_sound at (coverage_sound s at) none f).0) 2 0 h).0
+  cover_sound h = slot_sound (λ at. coverage_sound s at ≡ true) s 2 (one_good s (λ at. coverage_sound s at ≡ true) (λ (at : ℕ). at) (coverage_fault s) (λ at f. (part_sound at (coverage_sound s at) None f).0) 2 0 h).0
 
-  class_sound : (slot n : ℕ) → fault_through (classes_fault s) s 0 slot (n + 1) ≡ none → NullOrSound s (word s slot) × (fault_through (classes_fault s) s 0 (slot + 2) n ≡ none)
+  class_sound : (slot n : ℕ) → fault_through (classes_fault s) s 0 slot (n + 1) ≡ None → NullOrSound s (word s slot) × (fault_through (classes_fault s) s 0 (slot + 2) n ≡ None)
   unfolding classes_fault
   class_sound slot n h =
-      let o = one_good s (λ at. classes_sound s at ≡ true) (λ (at : ℕ). at) (classes_fault s) (λ at f. (part_sound at (classes_sound s at) none f).0) slot n (rw add-one at h) in
+      let o = one_good s (λ at. classes_sound s at ≡ true) (λ (at : ℕ). at) (classes_fault s) (λ at f. (part_sound at (classes_sound s at) None f).0) slot n (rw add-one at h) in
       (record { sound = slot_sound (λ at. classes_sound s at ≡ true) s slot o.0 }, o.1)
 
   no_table : NullOrSound s 0
   no_table = record { sound = λ z. absurd (z refl) }
 
   -- the count and the offsets of a header lie inside
-  header_inside : (k slot : ℕ) (fault_at : ℕ → Option ℕ) → header_fault true k slot fault_at s ≡ none → slot + 2 + 2 * word s slot ≤ length s
+  header_inside : (k slot : ℕ) (fault_at : ℕ → Option ℕ) → header_fault true k slot fault_at s ≡ None → slot + 2 + 2 * word s slot ≤ length s
   unfolding header_fault
   header_inside k slot fault_at h = inside_is s (slot + 2) (2 * word s slot) (both (inside s (slot + 2) (2 * word s slot)) true (both (inside s 0 (slot + 2)) _ (part_sound 0 (inside s 0 (slot + 2) && (inside s (slot + 2) (2 * word s slot) && true)) _ h).0).1).0
 
 -- a context of format 2 without a fault is sound
-pub context_sound : (chained : Bool) (s : List ℕ) → context_fault chained s ≡ none → word s 0 ≡ 2 → length s ≤ limit → SoundContext chained s
+pub context_sound : (chained : Bool) (s : List ℕ) → context_fault chained s ≡ None → word s 0 ≡ 2 → length s ≤ limit → SoundContext chained s
 unfolding context_fault
 context_sound true s h e l =
     let q = rw e at h in
@@ -100,7 +101,7 @@ context_sound false s h e l =
     }
 
 -- a context of format 2 without a fault is a good table
-context_good : (chained : Bool) (s : List ℕ) → Bytes s → context_fault chained s ≡ none → word s 0 ≡ 2 → Good (class_context chained s)
+context_good : (chained : Bool) (s : List ℕ) → Bytes s → context_fault chained s ≡ None → word s 0 ≡ 2 → Good (class_context chained s)
 unfolding context_fault
 context_good true s b h e = class_context_good s b true (rw e at h)
 context_good false s b h e = class_context_good s b false (rw e at h)
@@ -111,10 +112,10 @@ unfolding new_coverage retained map_some push is_some
 retained_none g [] e = refl
 retained_none g (c ∷ cov) e = step (find g c) e (λ h. retained_none g cov h)
   where
-    step : (o : Option ℕ) → push o (map_some (find g) cov) ≡ [] → (map_some (find g) cov ≡ [] → map_some (λ x. cond (is_some (find g x)) (some x) none) cov ≡ [])
-        → push (cond (is_some o) (some c) none) (map_some (λ x. cond (is_some (find g x)) (some x) none) cov) ≡ []
-    step none e r = r e
-    step (some n) e r = absurd (let z : ◌≡◌ {A = ℕ} (suc (length (map_some (find g) cov))) 0 = ap length e in omega arith)
+    step : (o : Option ℕ) → push o (map_some (find g) cov) ≡ [] → (map_some (find g) cov ≡ [] → map_some (λ x. cond (is_some (find g x)) (Some x) None) cov ≡ [])
+        → push (cond (is_some o) (Some c) None) (map_some (λ x. cond (is_some (find g x)) (Some x) None) cov) ≡ []
+    step None e r = r e
+    step (Some n) e r = absurd (let z : ◌≡◌ {A = ℕ} (suc (length (map_some (find g) cov))) 0 = ap length e in omega arith)
 
 no_slots : (f : List Rule → Option (List Rule)) (sets : List (Option (List Rule))) (cs : List ℕ) → trim (slots f [] sets cs) ≡ []
 unfolding slots trim keep_slot member
@@ -220,5 +221,5 @@ module _ {chained : Bool} {s : List ℕ} {form : ℕ} {glyphs lookups : List ℕ
         }
 
     -- the cells are as many
-    pub noted_cut : (area : List ℕ) (r : Tried) (out after : List ℕ) (made : Outcome) → Tries (length t₁ < enough_cells) (length area < enough_area) r out after made → Tries (length t₀ < enough_cells) (length area < enough_area) r out after made
+    pub noted_cut : (area : List ℕ) (r : Result ℕ NotCut) (out after : List ℕ) (made : Outcome) → Tries (length t₁ < enough_cells) (length area < enough_area) r out after made → Tries (length t₀ < enough_cells) (length area < enough_area) r out after made
     noted_cut area r out after made h = subst (λ (i : ℕ). Tries (i < enough_cells) (length area < enough_area) r out after made) n.size h

@@ -13,15 +13,16 @@ ghost use Rattle.context_classes.specs.Cutting.{enough_cells, Sound, Behind, Cov
 use class_layouts::write_left;
 use class_lists::greater;
 use class_maps::MOST;
-use context_classes::{Begun, input_at, lay_classes, prepare};
+use class_places::input_at;
+use context_classes::{Begun, lay_classes, prepare};
 use fold_glyphs::lay_glyphs;
 use fold_pairs::{cells, lay};
 use marks::Marks;
 use meet_runs::meet;
 use meets::most;
 use remade_classes::Noted;
-use room::{AREA, Laid};
-use tried::{Tried, least};
+use room::{AREA, NotLaid};
+use tried::{NotCut, least};
 use wire::word_at;
 
 // The number of cells that is enough for any source: 65,536 that take turns as the glyph map, the list of a class table's classes and the lookup map, and as many for the notes of the covered glyphs; three class maps; and 2,048 for the marks, 32 in each.
@@ -36,17 +37,17 @@ fn cut_noted(
     t: &mut [u32],
     area: &mut [u8],
     out: &mut [u8],
-) -> Tried
+) -> Result<usize, NotCut>
     requires { Cuts src.now glyphs.now lookups.now begun t.old area.old }
     ensures { Tries (length t.old < enough_cells) (length area.old < enough_area) result out.old out.new (written_in begun.marks.layout out.old (cut (glyph_entries begun.marks.form glyphs.now) (map_entries lookups.now) (class_context begun.chained src.now))) }
 {
     let classed = lay_classes(begun, src, glyphs, t);
     if classed.input.map.mask == 0 {
-        return Tried::FewCells;
+        return Err(NotCut::FewCells);
     }
     let l = lay(lookups, &mut t[..begun.cover.at], 0);
     if l.mask == 0 {
-        return Tried::FewCells;
+        return Err(NotCut::FewCells);
     }
     let prepared = prepare(begun, src, classed, l);
     write_left(
@@ -99,22 +100,22 @@ fn cut_in(
     t: &mut [u32],
     area: &mut [u8],
     out: &mut [u8],
-) -> Tried
+) -> Result<usize, NotCut>
     requires { Sound chained src.now marks.form glyphs.now lookups.now × (length t.old ≤ 0x1_0000_0000) × (length area.old ≤ 0x1_0000_0000) }
     ensures { Tries (length t.old < enough_cells) (length area.old < enough_area) result out.old out.new (written_in marks.layout out.old (cut (glyph_entries marks.form glyphs.now) (map_entries lookups.now) (class_context chained src.now))) }
 {
     if word_at(src, 2) == 0 {
-        return Tried::Became(Laid::Nothing);
+        return Err(NotCut::Refused(NotLaid::Nothing));
     }
     if input_at(chained, src) == 0 {
-        return Tried::Became(Laid::Nothing);
+        return Err(NotCut::Refused(NotLaid::Nothing));
     }
     let cover = note_covered(src, glyphs, marks.form, lookups, t);
     if cover.at == 0 {
-        return Tried::FewCells;
+        return Err(NotCut::FewCells);
     }
     if cover.len == 0 {
-        return Tried::Became(Laid::Nothing);
+        return Err(NotCut::Refused(NotLaid::Nothing));
     }
     let begun = Begun {
         chained,
@@ -134,7 +135,7 @@ pub fn by_class(
     t: &mut [u32],
     area: &mut [u8],
     out: &mut [u8],
-) -> Tried
+) -> Result<usize, NotCut>
     requires { Sound chained src.now marks.form glyphs.now lookups.now }
     ensures { Tries (length t.old < enough_cells) (length area.old < enough_area) result out.old out.new (written_in marks.layout out.old (cut (glyph_entries marks.form glyphs.now) (map_entries lookups.now) (class_context chained src.now))) }
 {

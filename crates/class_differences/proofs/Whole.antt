@@ -2,7 +2,7 @@
 use Prim.Native.Nat.{ℕ, ◌+◌, ◌-◌, ◌*◌, ◌<◌}
 use mathlib.Core.Path.{◌≡◌, refl, sym, ap, ◌∙◌}
 use mathlib.Core.Bool.{Bool, true, false, cond}
-use mathlib.Core.Option.{none, some}
+use Rattle.std.specs.Prelude.{None, Some}
 use mathlib.Core.List.{List, [], ◌∷◌, map}
 use native.Mathlib.Omega.{arith}
 use lib.ListN.{get_or}
@@ -28,10 +28,11 @@ use Rattle.set_numbers.specs.Sets.{codes_of, AllNumbered, SetsNumbered, Told}
 use Rattle.gathered.specs.Gathered.{numbers_at}
 use Rattle.set_differences.specs.Said.{place_says, glyph_told}
 use Rattle.class_stretches.specs.Tables.{table_at}
-use Rattle.class_tables.specs.Contexts.{back_at, input_at, ahead_at, count_at, set_at, set_place, rules_at, SoundTables, TablesNumbered, class_says, class_says_by}
+use Rattle.class_places.specs.Places.{back_at, input_at, ahead_at, count_at, slots_at, slots_after}
+use Rattle.class_tables.specs.Contexts.{set_at, set_place, rules_at, SoundTables, TablesNumbered, class_says, class_says_by}
 use Rattle.class_tables.proofs.Telling.{class_says_tell, code_says}
 use Rattle.class_tables.proofs.Numbering.{class_table, tables_sound, class_set}
-use Rattle.class_differences.specs.Reached.{ByClass, shape_of, slot_at, numbers_by, ClassTable, by_glyph, in_classes}
+use Rattle.class_differences.specs.Reached.{ByClass, shape_of, numbers_by, ClassTable, by_glyph, in_classes}
 
 -- Sound contexts.
 
@@ -40,7 +41,7 @@ class_cover : (chained : Bool) (s : List ℕ) → ByClass chained s → sound_co
 unfolding context_fault
 class_cover chained s k = go chained (rw k.format at (part_sound 0 (inside s 0 2) (context_fault chained s) (sym (fault_context s chained) ∙ k.sound)).1)
   where
-    go : (c : Bool) → cond c (header_fault true 3 10 (set_fault (rule_fault c s) s) s) (header_fault true 1 6 (set_fault (rule_fault c s) s) s) ≡ none → sound_cover s ≡ true
+    go : (c : Bool) → cond c (header_fault true 3 10 (set_fault (rule_fault c s) s) s) (header_fault true 1 6 (set_fault (rule_fault c s) s) s) ≡ None → sound_cover s ≡ true
     go false f = sound_cover_lem s (header_good s true 1 6 (set_fault (rule_fault false s) s) f).1
     go true f = sound_cover_lem s (header_good s true 3 10 (set_fault (rule_fault true s) s) f).1
 
@@ -53,9 +54,9 @@ sound_class chained s k = record { cover = class_cover chained s k; input = (sou
 
 -- the rules of two contexts are told by numbers, where the classes are
 pub told_classes : (chained : Bool) {l r t num : List ℕ} {shape : Shape} {first : ℕ} → ((i : ℕ) → get_or l i 0 < 256) → ((i : ℕ) → get_or r i 0 < 256) → ByClass chained l → ByClass chained r → TablesNumbered chained l r t
-    → shape ≡ shape_of chained → first ≡ slot_at chained → Told (says_by shape l r t) l r first num → Told (class_says_by chained l r) l r (slot_at chained) num
+    → shape ≡ shape_of chained → first ≡ slots_at chained → Told (says_by shape l r t) l r first num → Told (class_says_by chained l r) l r (slots_at chained) num
 told_classes chained {l} {r} {t} {num} {shape} {first} bl br kl kr n e f k =
-    let m : Told (says_by (shape_of chained) l r t) l r (slot_at chained) num = rw (e, f) at k in
+    let m : Told (says_by (shape_of chained) l r t) l r (slots_at chained) num = rw (e, f) at k in
     record {
       tells = λ c d p q. sym (class_says_tell chained bl br (sound_tables chained l kl) (sound_tables chained r kr) n c d) ∙ m.tells c d p q;
       few = m.few;
@@ -74,14 +75,14 @@ rules_by chained s = by_each_class (say chained s) (table_at s (input_at chained
 
 -- what the rules of a covered glyph say is what the codes of the set of its class say
 rules_classes : (chained : Bool) (l r s : List ℕ) (side : ℕ) → side < 2 → side_of side l r ≡ s → (g : ℕ)
-    → beside (rules_by chained s) g ≡ bind (index_of (cover_of s) g) (λ i. some (map (class_says_by chained l r) (codes_of s side (set_place chained s g))))
+    → beside (rules_by chained s) g ≡ bind (index_of (cover_of s) g) (λ i. Some (map (class_says_by chained l r) (codes_of s side (set_place chained s g))))
 unfolding by_each_class rules_at rule_set class_says
 rules_classes chained l r s side h e g =
-    by_glyph (λ c. map (say chained s) (set_holds (bind (table_at s (input_at chained s)) (λ t. get_or (reaches (rule_set chained s) s 0 (count_at chained + 2) (word s (count_at chained))) (class_of t c) none)))) (cover_of s) g
-    ∙ bind_same (index_of (cover_of s) g) (λ i. ap some (ap (map (say chained s)) (class_set chained s g) ∙ place_says (rule chained s) (say chained s) (class_says_by chained l r) s side (λ p. code_says chained l r side h p ∙ rw e) (rule_set chained s) (λ at. refl) (set_place chained s g)))
+    by_glyph (λ c. map (say chained s) (set_holds (bind (table_at s (input_at chained s)) (λ t. get_or (reaches (rule_set chained s) s 0 (count_at chained + 2) (word s (count_at chained))) (class_of t c) None)))) (cover_of s) g
+    ∙ bind_same (index_of (cover_of s) g) (λ i. ap Some (ap (map (say chained s)) (class_set chained s g) ∙ place_says (rule chained s) (say chained s) (class_says_by chained l r) s side (λ p. code_says chained l r side h p ∙ rw e) (rule_set chained s) (λ at. refl) (set_place chained s g)))
 
 -- the rules that a glyph reaches by its class have numbers
-place_numbered : (chained : Bool) (num s : List ℕ) (side g : ℕ) → SetsNumbered s side (slot_at chained) num → AllNumbered num (codes_of s side (set_place chained s g))
+place_numbered : (chained : Bool) (num s : List ℕ) (side g : ℕ) → SetsNumbered s side (slots_at chained) num → AllNumbered num (codes_of s side (set_place chained s g))
 unfolding set_place set_at codes_of
 place_numbered chained num s side g k = step (eqb (input_at chained s) 0) (leb (word s count) class) refl
   where
@@ -94,10 +95,13 @@ place_numbered chained num s side g k = step (eqb (input_at chained s) 0) (leb (
     e : count + 2 - 2 ≡ count
     e = omega arith
 
+    numbered : SetsNumbered s side (count + 2) num
+    numbered = rw (slots_after chained) k
+
     step : (b d : Bool) → leb (word s count) class ≡ d → AllNumbered num (codes_of s side (cond b 0 (cond d 0 (word s (count + 2 + 2 * class)))))
     step true d q = tt
     step false true q = tt
-    step false false q = k.all class (rw e (omega (arith, leb-false (word s count) class q)))
+    step false false q = numbered.all class (rw e (omega (arith, leb-false (word s count) class q)))
 
 -- the first glyphs are words
 glyphs_of_lem : (f : ℕ → List Says) (cov : List ℕ) → glyphs_of (map (λ g. (g, f g)) cov) ≡ cov
@@ -107,7 +111,7 @@ glyphs_of_lem f (g ∷ cov) = ap (λ (l : List ℕ). g ∷ l) (glyphs_of_lem f c
 
 firsts_small : (chained : Bool) (s : List ℕ) → Bytes s → sound_cover s ≡ true → All (λ k. k < 65536) (glyphs_of (rules_by chained s))
 unfolding by_each_class
-firsts_small chained s b h = rw (glyphs_of_lem (λ c. map (say chained s) (set_holds (bind (table_at s (input_at chained s)) (λ t. get_or (reaches (rule_set chained s) s 0 (count_at chained + 2) (word s (count_at chained))) (class_of t c) none)))) (cover_of s)) (cover_words s b h)
+firsts_small chained s b h = rw (glyphs_of_lem (λ c. map (say chained s) (set_holds (bind (table_at s (input_at chained s)) (λ t. get_or (reaches (rule_set chained s) s 0 (count_at chained + 2) (word s (count_at chained))) (class_of t c) None)))) (cover_of s)) (cover_words s b h)
 
 -- the list of two contents of one format
 differ : (xs ys : List (ℕ × List Says)) → first_entries (rule_entries same_says) xs ys ≡ differences (Content.rules 2 xs) (Content.rules 2 ys)
@@ -115,7 +119,7 @@ unfolding differences
 differ xs ys = refl
 
 -- The list of two contexts whose rules have numbers.
-pub whole_list : (chained : Bool) (l r num : List ℕ) → ByClass chained l → Bytes l → ByClass chained r → Bytes r → Told (class_says_by chained l r) l r (slot_at chained) num
+pub whole_list : (chained : Bool) (l r num : List ℕ) → ByClass chained l → Bytes l → ByClass chained r → Bytes r → Told (class_says_by chained l r) l r (slots_at chained) num
     → each (at_glyph (rule_entries eqb) (numbers_by chained num l 0) (numbers_by chained num r 1)) (up_from 0 65536) ≡ differences (content (table (cond chained 2 1) l)) (content (table (cond chained 2 1) r))
 unfolding side_of numbers_at
 whole_list chained l r num a b c d k =

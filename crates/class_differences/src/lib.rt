@@ -5,6 +5,7 @@
 ghost use Rattle.std.specs.Prelude.{◌≡◌, cond, ◌+◌, ◌≤◌, ◌<◌, length, eqb};
 ghost use Rattle.meaning.specs.Words.{up_from};
 ghost use Rattle.meaning.specs.Tables.{table};
+ghost use Rattle.class_places.specs.Places.{slots_at};
 ghost use Rattle.differences.specs.Content.{content};
 ghost use Rattle.differences.specs.Entries.{each, rule_entries, differences};
 ghost use Rattle.listing.specs.Listed.{Listed};
@@ -13,10 +14,10 @@ ghost use Rattle.first_glyphs.specs.First.{at_glyph};
 ghost use Rattle.set_numbers.specs.Sets.{Cells, Told};
 ghost use Rattle.gathered.specs.Gathered.{Scratch, Fit, Remembered};
 ghost use Rattle.class_tables.specs.Contexts.{class_says_by};
-ghost use Rattle.class_differences.specs.Reached.{numbers_by, ClassTable, ByClass, shape_of, slot_at};
+ghost use Rattle.class_differences.specs.Reached.{numbers_by, ClassTable, ByClass, shape_of};
 
+use class_places::slots_at;
 use class_tables::{number_tables, set_of};
-use coverage_index::Covered;
 use first_glyphs::{cover_index, list_right};
 use listing::put_listed;
 use rule_says::Shape;
@@ -45,10 +46,10 @@ fn list_glyph(
     requires { ClassTable at.chained left.now × ClassTable at.chained right.now × (at.glyph < 65536) × (at.pos < 0x1000_0000_0000) × Fit num.now (length nums.old) (length heads.old) (length links.old) × Remembered num.now left.now right.now nums.old }
     ensures { Listed (at_glyph (rule_entries eqb) (numbers_by at.chained num.now left.now 0) (numbers_by at.chained num.now right.now 1) at.glyph) out.old at.pos out.new result × (result ≤ at.pos + 0x18_0000) × Remembered num.now left.now right.now nums.new }
 {
-    let Covered::At(_) = cover_index(left, at.glyph) else {
+    let Some(_) = cover_index(left, at.glyph) else {
         return list_right(right, at.glyph, out, at.pos);
     };
-    let Covered::At(_) = cover_index(right, at.glyph) else {
+    let Some(_) = cover_index(right, at.glyph) else {
         return put_listed(out, at.pos, 2, 0, at.glyph, 0, 0, 0);
     };
     let sets = Sets {
@@ -76,15 +77,13 @@ fn list_numbered(
 {
     remember(nums, 0, 0, 0);
     let mut at = 0;
-    let mut g = 0;
-    while g < 65536 {
+    for g in 0..65536 {
         let first = First {
             chained,
             glyph: g,
             pos: at,
         };
         at = list_glyph(first, left, right, num, nums, heads, links, out);
-        g += 1;
     }
     at
 }
@@ -109,16 +108,6 @@ fn lay_numbered(
         return size;
     }
     list_numbered(chained, left, right, num, nums, heads, links, out)
-}
-
-// Where the sets' offsets stand.
-fn first_slot(chained: bool) -> usize
-    ensures { (result ≡ slot_at chained) × (2 ≤ result) × (result ≤ 12) }
-{
-    if chained {
-        return 12;
-    }
-    8
 }
 
 // The kind of contexts, plain or chained, whose words are classes.
@@ -147,11 +136,11 @@ fn number_rules(
     t: &mut [u32],
 )
     requires { ByClass chained left.now × ByClass chained right.now × Cells (length num.old) (length came.old) × (458752 ≤ length t.old) }
-    ensures { Told (class_says_by chained left.now right.now) left.now right.now (slot_at chained) num.new }
+    ensures { Told (class_says_by chained left.now right.now) left.now right.now (slots_at chained) num.new }
 {
     number_tables(chained, left, right, t);
     let shape = shape_of(chained);
-    let first = first_slot(chained);
+    let first = slots_at(chained);
     number_all(shape, left, right, t, first, num, came);
 }
 

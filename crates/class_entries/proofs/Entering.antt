@@ -2,8 +2,7 @@
 use Prim.Native.Nat.{ℕ, ◌+◌, ◌-◌, ◌*◌, ◌/◌, ◌%◌, ◌≤◌, ◌<◌}
 use mathlib.Core.Path.{◌≡◌, refl, sym, ap, ap₂, ◌∙◌}
 use mathlib.Core.Bool.{Bool, true, false, cond}
-use mathlib.Core.Option
-use mathlib.Core.Option.{Option, none, some}
+use Rattle.std.specs.Prelude.{Option, None, Some, unwrap_or}
 use mathlib.Core.List.{List, [], ◌∷◌, ◌++◌, map, append-nil}
 use native.Mathlib.Omega.{arith}
 use lib.ListN.{length, get_or, set}
@@ -22,11 +21,11 @@ use Rattle.ranked_maps.specs.Mapped.{Entries}
 
 -- the new class, by one reading
 module _ (t : List ℕ) (m : Map) {class e : ℕ} (r : e ≡ cell_entry t m class) where
-  pub reads_none : (e / 65536 ≡ class → ⊥) → (0 ≡ Option.get_or (folded t m class) 0) × (0 < 65536)
-  reads_none h = (sym (ap (λ (o : Option ℕ). Option.get_or o 0) (answer_other (cell_entry t m class) class (rw (sym r) h))), omega arith)
+  pub reads_none : (e / 65536 ≡ class → ⊥) → (0 ≡ unwrap_or (folded t m class) 0) × (0 < 65536)
+  reads_none h = (sym (ap (λ (o : Option ℕ). unwrap_or o 0) (answer_other (cell_entry t m class) class (rw (sym r) h))), omega arith)
 
-  pub reads_new : e / 65536 ≡ class → (e % 65536 ≡ Option.get_or (folded t m class) 0) × (e % 65536 < 65536)
-  reads_new h = (rw r (sym (ap (λ (o : Option ℕ). Option.get_or o 0) (answer_own (cell_entry t m class) class (rw r at h)))), omega arith)
+  pub reads_new : e / 65536 ≡ class → (e % 65536 ≡ unwrap_or (folded t m class) 0) × (e % 65536 < 65536)
+  reads_new h = (rw r (sym (ap (λ (o : Option ℕ). unwrap_or o 0) (answer_own (cell_entry t m class) class (rw r at h)))), omega arith)
 
 map_last : {A : Type 0} (f : ℕ → A) (l : List ℕ) (v : ℕ) (r : List A) → map f (l ++ (v ∷ [])) ++ r ≡ map f l ++ (f v ∷ r)
 map_last f [] v r = refl
@@ -50,34 +49,34 @@ folded_kept {t = t} {u = u} m x k h = ap (λ (e : ℕ). answer_in e x) (entry_sa
 
 -- the new entry of a listed one
 abbrev renamed : List (ℕ × ℕ) → ℕ × ℕ → Option (ℕ × ℕ)
-renamed news e = bind (find news e.1) (λ n. cond (eqb n 0) none (some (e.0, n)))
+renamed news e = bind (find news e.1) (λ n. cond (eqb n 0) None (Some (e.0, n)))
 
 -- a class that has no new number, or the new number 0, is not listed; another is
 module _ (news : List (ℕ × ℕ)) (y c : ℕ) where
-  renamed_none : Option.get_or (find news c) 0 ≡ 0 → renamed news (y, c) ≡ none
+  renamed_none : unwrap_or (find news c) 0 ≡ 0 → renamed news (y, c) ≡ None
   unfolding bind
   renamed_none e = step (find news c) e
     where
-      step : (o : Option ℕ) → Option.get_or o 0 ≡ 0 → bind {B = ℕ × ℕ} o (λ n. cond (eqb n 0) none (some (y, n))) ≡ none
-      step none e = refl
-      step (some n) e = rw (eq-eqb n 0 e)
+      step : (o : Option ℕ) → unwrap_or o 0 ≡ 0 → bind {B = ℕ × ℕ} o (λ n. cond (eqb n 0) None (Some (y, n))) ≡ None
+      step None e = refl
+      step (Some n) e = rw (eq-eqb n 0 e)
 
-  renamed_some : {n : ℕ} → n ≡ Option.get_or (find news c) 0 → (n ≡ 0 → ⊥) → renamed news (y, c) ≡ some (y, n)
+  renamed_some : {n : ℕ} → n ≡ unwrap_or (find news c) 0 → (n ≡ 0 → ⊥) → renamed news (y, c) ≡ Some (y, n)
   unfolding bind
   renamed_some {n} e h = rw e (step (find news c) (λ f. h (e ∙ f)))
     where
-      step : (o : Option ℕ) → (Option.get_or o 0 ≡ 0 → ⊥) → bind {B = ℕ × ℕ} o (λ n. cond (eqb n 0) none (some (y, n))) ≡ some (y, Option.get_or o 0)
-      step none h = absurd (h refl)
-      step (some n) h = rw (ne_eqb n 0 h)
+      step : (o : Option ℕ) → (unwrap_or o 0 ≡ 0 → ⊥) → bind {B = ℕ × ℕ} o (λ n. cond (eqb n 0) None (Some (y, n))) ≡ Some (y, unwrap_or o 0)
+      step None h = absurd (h refl)
+      step (Some n) h = rw (ne_eqb n 0 h)
 
 -- where class 0 has no other new number than 0, glyphs of class 0 have no entry
-renamed_classed : (cs news g : List (ℕ × ℕ)) → Option.get_or (find news 0) 0 ≡ 0 → map_some (renamed news) (classed cs g) ≡ classes_under news g cs
+renamed_classed : (cs news g : List (ℕ × ℕ)) → unwrap_or (find news 0) 0 ≡ 0 → map_some (renamed news) (classed cs g) ≡ classes_under news g cs
 unfolding classed map_some push
 renamed_classed cs news [] z = refl
 renamed_classed cs news (e ∷ g) z = step (eqb (class_of cs e.0) 0) refl (renamed_classed cs news g z)
   where
     step : (b : Bool) → eqb (class_of cs e.0) 0 ≡ b → map_some (renamed news) (classed cs g) ≡ classes_under news g cs
-        → map_some (renamed news) (push (cond b none (some (e.1, class_of cs e.0))) (classed cs g)) ≡ push (renamed news (e.1, class_of cs e.0)) (classes_under news g cs)
+        → map_some (renamed news) (push (cond b None (Some (e.1, class_of cs e.0))) (classed cs g)) ≡ push (renamed news (e.1, class_of cs e.0)) (classes_under news g cs)
     step true q k = rw (renamed_none news e.1 (class_of cs e.0) (rw (eqb-true (class_of cs e.0) 0 q) z)) k
     step false q k = ap (push (renamed news (e.1, class_of cs e.0))) k
 
@@ -120,10 +119,10 @@ module _ {t₀ : List ℕ} {list n : ℕ} {m : Map} where
         let s : cell ≡ get_or t₀ (list + e) 0 = w.elsewhere.after (list + e) (omega (arith, w.near)) in
         ap (map (λ c. (c / 65536, c % 65536))) (part_left t₀ list n e h ∙ ap (λ (c : ℕ). c ∷ part t₀ (list + (e + 1)) (n - (e + 1))) (sym s))
 
-    module _ {new : ℕ} (f : (new ≡ Option.get_or (folded t m (cell % 65536)) 0) × (new < 65536)) where
+    module _ {new : ℕ} (f : (new ≡ unwrap_or (folded t m (cell % 65536)) 0) × (new < 65536)) where
       -- the new class of the entry's glyph
-      is_new : (news : List (ℕ × ℕ)) → Holds t₀ m news → new ≡ Option.get_or (find news (cell % 65536)) 0
-      is_new news o = f.0 ∙ ap (λ (a : Option ℕ). Option.get_or a 0) (folded_kept m (cell % 65536) w.elsewhere (omega (arith, w.place, w.near)) ∙ o.answers (cell % 65536))
+      is_new : (news : List (ℕ × ℕ)) → Holds t₀ m news → new ≡ unwrap_or (find news (cell % 65536)) 0
+      is_new news o = f.0 ∙ ap (λ (a : Option ℕ). unwrap_or a 0) (folded_kept m (cell % 65536) w.elsewhere (omega (arith, w.place, w.near)) ∙ o.answers (cell % 65536))
 
       -- the glyph is not listed
       pub entering_none : new ≡ 0 → Entering t₀ t list n m k (e + 1)

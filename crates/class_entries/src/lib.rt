@@ -1,8 +1,7 @@
 // The entries of a new class table, from the classes that are listed in cells and their class map.
 #![tactic(auto)]
 
-ghost use Rattle.std.specs.Prelude.{◌≡◌, ◌+◌, ◌-◌, ◌≤◌, ◌<◌};
-ghost use Rattle.std.proofs.Math.Option.{get_or};
+ghost use Rattle.std.specs.Prelude.{◌≡◌, ◌+◌, ◌-◌, ◌≤◌, ◌<◌, unwrap_or};
 ghost use Rattle.cell_maps.specs.Cells.{Inside, folded};
 ghost use Rattle.ranked_maps.specs.Mapped.{Entries};
 
@@ -12,7 +11,7 @@ use fold::entry;
 // The new number of a class, by one reading; 0 if it has none.
 fn new_class(t: &[u32], m: Map, class: usize) -> usize
     requires { Inside t.now m }
-    ensures { (result ≡ get_or (folded t.now m class) 0) × (result < 65536) }
+    ensures { (result ≡ unwrap_or (folded t.now m class) 0) × (result < 65536) }
 {
     let e = entry(t, m, class);
     if e / 65536 != class {
@@ -27,15 +26,13 @@ pub fn new_entries(t: &mut [u32], list: usize, n: usize, m: Map) -> usize
     ensures { Entries t.old t.new list n m result }
 {
     let mut k = 0;
-    let mut e = 0;
-    while e < n {
+    for e in 0..n {
         let cell = t[list + e] as usize;
         let new = new_class(t, m, cell % 65536);
         if new != 0 {
             t[list + k] = (cell / 65536 * 65536 + new) as u32;
             k += 1;
         }
-        e += 1;
     }
     k
 }

@@ -2,7 +2,7 @@
 use Prim.Native.Nat.{ℕ, ◌+◌, ◌-◌, ◌*◌, ◌≤◌, ◌<◌}
 use mathlib.Core.Path.{◌≡◌, refl, sym, ap, ap₂, ◌∙◌, subst}
 use mathlib.Core.Bool.{Bool}
-use mathlib.Core.Option.{Option}
+use Rattle.std.specs.Prelude.{Option}
 use mathlib.Core.List.{List, [], ◌∷◌, ◌++◌, append_assoc, map}
 use native.Mathlib.Omega.{arith}
 use lib.ListN.{length, length-append, take}
@@ -16,7 +16,7 @@ use Rattle.area.specs.Stored.{extends_store}
 use Rattle.handing.proofs.Moved.{part_behind}
 use Rattle.numbers.proofs.Fronts.{part_keeps, extends_part}
 use Rattle.known_blocks.specs.Shared.{offsets_in, blocks_in}
-use Rattle.class_spots.specs.Sets.{slots_at, slots_near}
+use Rattle.class_places.specs.Places.{slots_at, slots_near}
 use Rattle.class_spots.specs.Slots.{settled, Noted}
 use Rattle.class_spots.proofs.Halves.{offsets_many, halves_small}
 use Rattle.class_spots.specs.declared.Slots.{Slots}

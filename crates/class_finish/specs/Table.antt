@@ -1,12 +1,11 @@
 -- The table that the sets of surviving classes make, and how it stands in the area.
-use Rattle.std.specs.Prelude.{ℕ, ◌+◌, ◌-◌, ◌*◌, ◌≤◌, ◌<◌, ◌≡◌, Bool, true, List, [], ◌∷◌, ◌++◌, length, take}
-use Rattle.std.proofs.Math.Option.{Option}
+use Rattle.std.specs.Prelude.{ℕ, ◌+◌, ◌-◌, ◌*◌, ◌≤◌, ◌<◌, ◌≡◌, Bool, true, List, [], ◌∷◌, ◌++◌, length, take, Option}
 use Rattle.meaning.specs.Words.{flat}
 use Rattle.meaning.specs.Subset.{Outcome, refused}
 use Rattle.room.specs.Laid.{laid_as}
 use Rattle.area.specs.Part.{part}
 use Rattle.known_blocks.specs.Shared.{offsets_in, blocks_in}
-use Rattle.class_spots.specs.Sets.{slots_at}
+use Rattle.class_places.specs.Places.{slots_at}
 use Rattle.class_spots.specs.Slots.{Noted}
 use Rattle.class_spots.specs.declared.Slots.{Slots}
 use Rattle.remade_classes.specs.Tail.{tail_offsets, tail_words, tail_fit, tail_most, TailIn}

@@ -8,13 +8,14 @@ ghost use Rattle.class_finish.specs.Table.{Finishes, Finished};
 ghost use Rattle.class_finish.specs.Written.{NoRoom};
 
 use area::put;
+use class_places::slots_at;
 use class_slots::settle_slots;
-use class_spots::{Slots, slots_at};
+use class_spots::Slots;
 use class_tail::write_tail;
 use kept_rules::Maps;
 use remade_classes::Tail;
-use room::{AREA, Laid};
-use tried::Tried;
+use room::{AREA, NotLaid};
+use tried::NotCut;
 
 // What the cells hold for the cut: the maps of the rules, the marks of the classes that covered glyphs hold, by where they begin, the number of surviving classes, and what follows the sets. And the mark of the layout that is asked for.
 #[derive(Clone, Copy)]
@@ -51,11 +52,11 @@ pub fn finish(
 }
 
 // What is answered where the area has no room: it is too short, or, if it is long enough for any layout that is not too big, this one is too big.
-pub fn no_room(area: &[u8]) -> Tried
+pub fn no_room(area: &[u8]) -> NotCut
     ensures { NoRoom (length area.now) result }
 {
     if area.len() < AREA {
-        return Tried::Short;
+        return NotCut::Short;
     }
-    Tried::Became(Laid::TooBig)
+    NotCut::Refused(NotLaid::TooBig)
 }

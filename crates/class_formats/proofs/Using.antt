@@ -2,7 +2,7 @@
 use Prim.Native.Nat.{ℕ, zero, suc, ◌+◌, ◌-◌, ◌*◌, ◌≤◌, ◌<◌}
 use mathlib.Core.Path.{◌≡◌, refl, sym, ap, ap₂, ◌∙◌}
 use mathlib.Core.Bool.{Bool, true, false, ◌&&◌, ◌||◌, not}
-use mathlib.Core.Option.{none, some}
+use Rattle.std.specs.Prelude.{None, Some}
 use mathlib.Core.List.{List}
 use native.Mathlib.Nat.{mul-suc}
 use native.Mathlib.Omega.{arith}
@@ -28,19 +28,13 @@ pub mul_small : (size n : ℕ) → size ≤ 32 → size * n ≤ 32 * n
 mul_small size zero h = omega arith
 mul_small size (suc n) h = omega (arith, mul-suc size n, mul_small size n h)
 
--- The three ways through `speaks`.
+-- The two ways through `speaks`.
 module _ (m2 : List (ℕ × ℕ)) (s : List ℕ) (p place c : ℕ) {v : ℕ} (e : v ≡ value_at s p place) where
   pub speaks_silent : v ≡ 0 → false ≡ not (eqb (value_at s p place) 0) && is_some (find m2 c)
   speaks_silent z = rw (eq-eqb (value_at s p place) 0 (sym e ∙ z))
 
-  module _ (z : v ≡ 0 → ⊥) where
-    pub speaks_kept : {y : ℕ} → find m2 c ≡ some y → true ≡ not (eqb (value_at s p place) 0) && is_some (find m2 c)
-    unfolding is_some
-    speaks_kept f = rw (ne_eqb (value_at s p place) 0 (λ q. z (e ∙ q)), f)
-
-    pub speaks_gone : find m2 c ≡ none → false ≡ not (eqb (value_at s p place) 0) && is_some (find m2 c)
-    unfolding is_some
-    speaks_gone f = rw (ne_eqb (value_at s p place) 0 (λ q. z (e ∙ q)), f)
+  pub speaks_if : (v ≡ 0 → ⊥) → {b : Bool} → b ≡ is_some (find m2 c) → b ≡ not (eqb (value_at s p place) 0) && is_some (find m2 c)
+  speaks_if z f = rw (ne_eqb (value_at s p place) 0 (λ q. z (e ∙ q))) f
 
 -- What the loop of `row_uses` keeps: the answer for what is left is the whole answer.
 pub record UsingCells (m2 : List (ℕ × ℕ)) (s : List ℕ) (size place p n cell c : ℕ) : Type 0 where

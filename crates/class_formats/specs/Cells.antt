@@ -1,7 +1,6 @@
 -- The kept cells, by the places of their fields: which fields they use, and their words.
 -- A cell is a pair record without its second glyph; p is the place two bytes before it.
-use Rattle.std.specs.Prelude.{ℕ, zero, suc, ◌+◌, ◌*◌, ◌≤◌, Bool, false, ◌&&◌, ◌||◌, not, List, [], ◌++◌, map, length, eqb}
-use Rattle.std.proofs.Math.Option.{Option, none, some}
+use Rattle.std.specs.Prelude.{ℕ, zero, suc, ◌+◌, ◌*◌, ◌≤◌, Bool, false, ◌&&◌, ◌||◌, not, List, [], ◌++◌, map, length, eqb, Option, None, Some}
 use Rattle.meaning.specs.Words.{word, find, is_some}
 use Rattle.meaning.specs.Cut.{keep_if}
 use Rattle.pair_fields.specs.Pairs.{value_at}
@@ -28,8 +27,8 @@ format_in m1 m2 s size start f =
 
 -- words that stay if their class has a new number
 abbrev pub if_kept : Option ℕ → List ℕ → List ℕ
-if_kept (some n) ws = ws
-if_kept none ws = []
+if_kept (Some n) ws = ws
+if_kept None ws = []
 
 -- the words of the kept ones of n cells from p on, of the second classes from c on: the values at the places
 unfoldable pub row_left : List (ℕ × ℕ) → List ℕ → ℕ → List ℕ → ℕ → ℕ → ℕ → List ℕ

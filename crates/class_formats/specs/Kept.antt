@@ -1,10 +1,9 @@
 -- The new value formats and the words of the kept cells, as the definitions say them.
 use Prim.Native.Nat.{ℕ, zero, suc, ◌+◌, ◌*◌, ◌≤◌, ◌<◌}
-use Rattle.std.specs.Prelude.{◌≡◌, Bool, ◌&&◌, ◌||◌, length, eqb}
+use Rattle.std.specs.Prelude.{◌≡◌, Bool, ◌&&◌, ◌||◌, length, eqb, Option, None, Some}
 use Rattle.std.proofs.Math.Path.{refl, sym, ap, ap₂}
 use Rattle.std.proofs.Common.{◌∙◌}
 use Rattle.std.proofs.Math.Bool.{true, false, not}
-use Rattle.std.proofs.Math.Option.{Option, none, some}
 use mathlib.Core.List.{List, [], ◌∷◌, ◌++◌, map, append_assoc}
 use native.Mathlib.Omega.{arith}
 use Rattle.meaning.specs.Words.{word, words, find, is_some, bind, push, map_some}
@@ -92,11 +91,11 @@ module _ (f1 f2 : ℕ) (m1 m2 : List (ℕ × ℕ)) (s : List ℕ) where
         _ _ (rw (next p) (cells_used i r n (c + 1) (p + cell_size f1 f2)))
       where
         step : (o : Option ℕ) (u : Bool) → ((y : ℕ) → not (eqb (field f (get (cell_at p y)) k) 0) ≡ u) → (ps : List Pair) (v : Bool) → used get f k ((i, ps) ∷ r) ≡ v || used get f k r
-            → used get f k ((i, push (bind o (λ y. some (cell_at p y))) ps) ∷ r) ≡ ((u && is_some o) || v) || used get f k r
-        step none true h ps v e = e
-        step none false h ps v e = e
-        step (some y) true h ps v e = rw (h y)
-        step (some y) false h ps v e = rw (h y) e
+            → used get f k ((i, push (bind o (λ y. Some (cell_at p y))) ps) ∷ r) ≡ ((u && is_some o) || v) || used get f k r
+        step None true h ps v e = e
+        step None false h ps v e = e
+        step (Some y) true h ps v e = rw (h y)
+        step (Some y) false h ps v e = rw (h y) e
 
     rows_used : (m n c p : ℕ) → used get f k (kept_rows m1 m2 c (cell_rows s (field_count f1) (field_count f2) m (p + 2) n)) ≡ rows_use m1 m2 s (cell_size f1 f2) (field_place start f k) m c p n
     unfolding used rows_use kept_rows cell_rows push bind is_some
@@ -104,9 +103,9 @@ module _ (f1 f2 : ℕ) (m1 m2 : List (ℕ × ℕ)) (s : List ℕ) where
     rows_used m (suc n) c p = step (find m1 c) _ _ (rw (next_row p m) (rows_used m n (c + 1) (p + cell_size f1 f2 * m)))
       where
         step : (o : Option ℕ) (r : List (ℕ × List Pair)) (v : Bool) → used get f k r ≡ v
-            → used get f k (push (bind o (λ i. some (i, map_some (cut_pair m2) (cells s (field_count f1) (field_count f2) 0 (p + 2) m)))) r) ≡ (is_some o && row_uses m2 s (cell_size f1 f2) (field_place start f k) 0 p m) || v
-        step none r v e = e
-        step (some i) r v e = cells_used i r m 0 p ∙ ap (λ (w : Bool). row_uses m2 s (cell_size f1 f2) (field_place start f k) 0 p m || w) e
+            → used get f k (push (bind o (λ i. Some (i, map_some (cut_pair m2) (cells s (field_count f1) (field_count f2) 0 (p + 2) m)))) r) ≡ (is_some o && row_uses m2 s (cell_size f1 f2) (field_place start f k) 0 p m) || v
+        step None r v e = e
+        step (Some i) r v e = cells_used i r m 0 p ∙ ap (λ (w : Bool). row_uses m2 s (cell_size f1 f2) (field_place start f k) 0 p m || w) e
 
     cells_use_lem : cells_use m1 m2 s (cell_size f1 f2) (field_place start f k) ≡ used get f k (kept_rows m1 m2 0 (cell_rows s (field_count f1) (field_count f2) (word s 14) 16 (word s 12)))
     unfolding cells_use
@@ -147,9 +146,9 @@ module _ (f1 f2 n1 n2 : ℕ) (m1 m2 : List (ℕ × ℕ)) (s : List ℕ) where
     where
       step : (o : Option ℕ) (r : List ℕ) (ps : List Pair) → r ≡ cell_words (map (thin_pair f1 f2 n1 n2) ps)
           → if_kept o (map (value_at s p) (places_of f1 f2 n1 n2)) ++ r
-          ≡ cell_words (map (thin_pair f1 f2 n1 n2) (push (bind o (λ y. some (record { second = y; first_values = words s (p + 2) (field_count f1); second_values = words s (p + 2 + 2 * field_count f1) (field_count f2) }))) ps))
-      step none r ps e = e
-      step (some y) r ps e = ap (λ (l : List ℕ). map (value_at s p) (places_of f1 f2 n1 n2) ++ l) e ∙ one_cell p y (map (thin_pair f1 f2 n1 n2) ps)
+          ≡ cell_words (map (thin_pair f1 f2 n1 n2) (push (bind o (λ y. Some (record { second = y; first_values = words s (p + 2) (field_count f1); second_values = words s (p + 2 + 2 * field_count f1) (field_count f2) }))) ps))
+      step None r ps e = e
+      step (Some y) r ps e = ap (λ (l : List ℕ). map (value_at s p) (places_of f1 f2 n1 n2) ++ l) e ∙ one_cell p y (map (thin_pair f1 f2 n1 n2) ps)
 
   rows_words : (m n c p : ℕ) → rows_left m1 m2 s (cell_size f1 f2) (places_of f1 f2 n1 n2) m c p n ≡ row_words (rows_of (thin f1 f2 n1 n2 (kept_rows m1 m2 c (cell_rows s (field_count f1) (field_count f2) m (p + 2) n))))
   unfolding rows_left kept_rows cell_rows push bind row_words rows_of thin
@@ -158,9 +157,9 @@ module _ (f1 f2 n1 n2 : ℕ) (m1 m2 : List (ℕ × ℕ)) (s : List ℕ) where
     where
       step : (o : Option ℕ) (w : List ℕ) (r : List (ℕ × List Pair)) → w ≡ row_words (rows_of (thin f1 f2 n1 n2 r))
           → if_kept o (row_left m2 s (cell_size f1 f2) (places_of f1 f2 n1 n2) 0 p m) ++ w
-          ≡ row_words (rows_of (thin f1 f2 n1 n2 (push (bind o (λ i. some (i, map_some (cut_pair m2) (cells s (field_count f1) (field_count f2) 0 (p + 2) m)))) r)))
-      step none w r e = e
-      step (some i) w r e = ap₂ (λ (a b : List ℕ). a ++ b) (row_words_lem m 0 p) e
+          ≡ row_words (rows_of (thin f1 f2 n1 n2 (push (bind o (λ i. Some (i, map_some (cut_pair m2) (cells s (field_count f1) (field_count f2) 0 (p + 2) m)))) r)))
+      step None w r e = e
+      step (Some i) w r e = ap₂ (λ (a b : List ℕ). a ++ b) (row_words_lem m 0 p) e
 
 pub cells_left_lem : (m1 m2 : List (ℕ × ℕ)) (s : List ℕ) (n1 n2 : ℕ) → cells_left m1 m2 s (cell_size (word s 4) (word s 6)) (places_of (word s 4) (word s 6) n1 n2) ≡ kept_cells m1 m2 s n1 n2
 unfolding cells_left

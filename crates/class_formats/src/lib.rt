@@ -13,7 +13,7 @@ ghost use Rattle.class_formats.specs.Cells.{row_uses, cells_use, format_in, HasR
 ghost use Rattle.class_formats.specs.Kept.{AsksCells, NewFormats};
 
 use cell_maps::Map;
-use fold::{Found, find};
+use fold::find;
 use pair_fields::value_at;
 use pair_formats::stand_in;
 use pair_places::{field_count, field_place};
@@ -29,10 +29,7 @@ fn speaks(src: &[u8], p: usize, place: usize, t: &[u32], seconds: Map, c: usize)
     if value == 0 {
         return false;
     }
-    match find(t, seconds, c) {
-        Found::New(_) => true,
-        Found::Gone => false,
-    }
+    find(t, seconds, c).is_some()
 }
 
 // Whether some kept cell of the row at `p`, whose cells are `size` bytes long, has a value at `place` that is not 0.
@@ -42,13 +39,11 @@ fn row_uses(src: &[u8], p: usize, size: usize, place: usize, t: &[u32], seconds:
 {
     let n = word_inside(src, 14);
     let mut cell = p;
-    let mut c = 0;
-    'cells: while c < n {
+    'cells: for c in 0..n {
         if speaks(src, cell, place, t, seconds, c) {
             return true;
         }
         cell += size;
-        c += 1;
     }
     false
 }
@@ -67,10 +62,7 @@ fn kept_row_uses(
     requires { HasRow src.now size p × (place ≤ size) × Inside t.now firsts × Inside t.now seconds }
     ensures { result ≡ is_some (find (entries_in t.now firsts) c) && row_uses (entries_in t.now seconds) src.now size place 0 p (word src.now 14) }
 {
-    match find(t, firsts, c) {
-        Found::New(_) => row_uses(src, p, size, place, t, seconds),
-        Found::Gone => false,
-    }
+    find(t, firsts, c).is_some() && row_uses(src, p, size, place, t, seconds)
 }
 
 // Whether some kept cell of all rows has a value at `place` that is not 0. At the place 0 there is no field.
@@ -84,13 +76,11 @@ fn uses(src: &[u8], size: usize, place: usize, t: &[u32], firsts: Map, seconds: 
     let n = word_inside(src, 12);
     let row = size * word_inside(src, 14);
     let mut p = 14;
-    let mut c = 0;
-    'rows: while c < n {
+    'rows: for c in 0..n {
         if kept_row_uses(src, p, size, place, t, firsts, seconds, c) {
             return true;
         }
         p += row;
-        c += 1;
     }
     false
 }

@@ -10,10 +10,10 @@ ghost use Rattle.class_finish.specs.Written.{Writes, left_into};
 
 use class_booked::{write_booked, write_packed};
 use class_finish::Prepared;
-use class_spots::slots_at;
+use class_places::slots_at;
 use member_sets::crowded;
 use places::MEMBER_MARKS;
-use tried::Tried;
+use tried::NotCut;
 use wire::word_at;
 
 // What is left of a context, of which the cells hold what is needed, with a book for the packed layout, if that is asked for, and else with none to speak of. `dead` has marks at the places of rules that are known to go.
@@ -26,7 +26,7 @@ fn write_context(
     rounds: usize,
     area: &mut [u8],
     out: &mut [u8],
-) -> Tried
+) -> Result<usize, NotCut>
     requires { Writes src.now glyphs.now t.old prepared area.old × Dead (rule_left prepared.tail.chained (maps_in t.old prepared.maps) src.now) dead.old }
     ensures { Tries ⊥ (length area.old < enough_area) result out.old out.new (left_into out.old src.now glyphs.now t.old prepared) }
 {
@@ -47,7 +47,7 @@ fn write_crowded(
     rounds: usize,
     area: &mut [u8],
     out: &mut [u8],
-) -> Tried
+) -> Result<usize, NotCut>
     requires { Writes src.now glyphs.now t.old prepared area.old }
     ensures { Tries ⊥ (length area.old < enough_area) result out.old out.new (left_into out.old src.now glyphs.now t.old prepared) }
 {
@@ -67,7 +67,7 @@ pub fn write_left(
     rounds: usize,
     area: &mut [u8],
     out: &mut [u8],
-) -> Tried
+) -> Result<usize, NotCut>
     requires { Writes src.now glyphs.now t.old prepared area.old }
     ensures { Tries ⊥ (length area.old < enough_area) result out.old out.new (left_into out.old src.now glyphs.now t.old prepared) }
 {

@@ -2,7 +2,7 @@
 use Prim.Native.Nat.{ℕ, zero, suc, ◌+◌, ◌-◌, ◌*◌, ◌/◌, ◌%◌, ◌≤◌, ◌<◌}
 use mathlib.Core.Path.{◌≡◌, refl, sym, ap, ap₂, ◌∙◌}
 use mathlib.Core.Bool.{Bool, true, false, cond, ◌||◌}
-use mathlib.Core.Option.{none, some}
+use Rattle.std.specs.Prelude.{None, Some}
 use mathlib.Core.List.{List, [], ◌∷◌, ◌++◌, map, append_assoc, append-nil}
 use native.Mathlib.Decide.{dec_lt}
 use native.Mathlib.Omega.{arith}
@@ -138,7 +138,7 @@ module _ {form : ℕ} {m : List ℕ} (g : GlyphMap form m) {e : ℕ} {r : Run} (
   run_steps : (first n : ℕ) → r.old ≤ first → first + n ≤ r.old + r.count → from_old first (glyph_entries form m) ≡ steps first (r.new + (first - r.old)) n ++ from_old (first + n) (glyph_entries form m)
   run_steps first n a b = from_steps first (r.new + (first - r.old)) n 0 (glyph_entries form m) (map_good g).old (λ j l. one j l)
     where
-      one : (j : ℕ) → j < n → find (glyph_entries form m) (first + j) ≡ some (r.new + (first - r.old) + j)
+      one : (j : ℕ) → j < n → find (glyph_entries form m) (first + j) ≡ Some (r.new + (first - r.old) + j)
       one j l =
           let p : old_of form m e + (first - r.old + j) ≡ first + j = omega (arith, d.old) in
           let q : new_of form m e + (first - r.old + j) ≡ r.new + (first - r.old) + j = omega (arith, d.new) in
@@ -319,7 +319,7 @@ unfolding classed map_some push
 classed_few cs [] = omega arith
 classed_few cs (e ∷ g) = step (eqb (class_of cs e.0) 0) (classed_few cs g)
   where
-    step : (b : Bool) → length (classed cs g) ≤ length g → length (push (cond b none (some (e.1, class_of cs e.0))) (classed cs g)) ≤ suc (length g)
+    step : (b : Bool) → length (classed cs g) ≤ length g → length (push (cond b None (Some (e.1, class_of cs e.0))) (classed cs g)) ≤ suc (length g)
     step true h = omega arith
     step false h = omega arith
 
@@ -449,10 +449,6 @@ module _ {s : List ℕ} {at form : ℕ} {m t₀ : List ℕ} {list : ℕ} where
           near = omega (arith, listing_few, k.near);
         }
 
-        -- the walk goes on
-        pub listing_on : from < found.last + 1
-        listing_on = omega (arith, f.second, w.stretch.holds)
-
         module _ {u : List ℕ} {p : Place} (v : Passes form m glyph found t u cell p) {more : ℕ} {met : Bool} (o : Greater high found.class more) (z : met ≡ zero || eqb found.class 0) where
           abbrev left : List (ℕ × ℕ)
           left = from_old (found.last + 1) es
@@ -493,7 +489,7 @@ module _ {s : List ℕ} {at form : ℕ} {m t₀ : List ℕ} {list : ℕ} where
               same : classed cs (from_old from es) ≡ classed cs left
               same = ap (classed cs) to_glyph ∙ classed_skip cs glyph (found.last + 1) 0 es (map_good k.good).old (omega (arith, w.stretch.holds)) (λ y a b. sym (w.stretch.same y a (omega arith)) ∙ n)
 
-              there : find es glyph ≡ some (new_of form m run + (glyph - old_of form m run))
+              there : find es glyph ≡ Some (new_of form m run + (glyph - old_of form m run))
               there =
                   let e : old_of form m run + (glyph - old_of form m run) ≡ glyph = omega (arith, f.first, d.old) in
                   rw e at (run_found k.good run (glyph - old_of form m run) h (omega (arith, glyph_in, f.first, d.old, d.count)))

@@ -1,7 +1,6 @@
 -- The entries of a map from an old number on: what a walk over old numbers has left.
-use Rattle.std.specs.Prelude.{ℕ, zero, suc, ◌+◌, ◌≤◌, ◌<◌, ◌≡◌, refl, Bool, true, false, cond, List, [], ◌∷◌, ◌++◌, length, ltb}
+use Rattle.std.specs.Prelude.{ℕ, zero, suc, ◌+◌, ◌≤◌, ◌<◌, ◌≡◌, refl, Bool, true, false, cond, List, [], ◌∷◌, ◌++◌, length, ltb, None, Some}
 use Rattle.std.proofs.Common.{sym, ap, ◌∙◌, true≢false, arith, lt-ltb, le-ltb, eq-eqb, ne_eqb}
-use Rattle.std.proofs.Math.Option.{none, some}
 use Rattle.std.proofs.Math.Decide.{dec_lt}
 use Rattle.meaning.specs.Words.{keys, find, is_some}
 use Rattle.meaning.specs.Maps.{steps}
@@ -33,11 +32,11 @@ from_few z (e ∷ g) = step (ltb e.0 z) (from_few z g)
     step true h = omega arith
     step false h = omega arith
 
-no_some : {x : ℕ} → some x ≡ none → ⊥
+no_some : {x : ℕ} → Some x ≡ None → ⊥
 unfolding is_some
 no_some e = true≢false (ap is_some e)
 
-first_found : (e : ℕ × ℕ) (g : List (ℕ × ℕ)) (x : ℕ) → e.0 ≡ x → find (e ∷ g) x ≡ some e.1
+first_found : (e : ℕ × ℕ) (g : List (ℕ × ℕ)) (x : ℕ) → e.0 ≡ x → find (e ∷ g) x ≡ Some e.1
 unfolding find
 first_found e g x h = rw (eq-eqb e.0 x h)
 
@@ -45,41 +44,41 @@ later_found : (e : ℕ × ℕ) (g : List (ℕ × ℕ)) (x : ℕ) → e.0 < x →
 unfolding find
 later_found e g x h = rw (ne_eqb e.0 x (λ q. omega arith))
 
-low_found : (low x : ℕ) (g : List (ℕ × ℕ)) → Up low (keys g) → x < low → find g x ≡ none
+low_found : (low x : ℕ) (g : List (ℕ × ℕ)) → Up low (keys g) → x < low → find g x ≡ None
 unfolding find keys
 low_found low x [] u h = refl
 low_found low x (e ∷ g) u h = rw (ne_eqb e.0 x (λ q. omega (arith, u.0))) (low_found (e.0 + 1) x g u.1 (omega (arith, u.0)))
 
 -- numbers without an entry are passed
-pub from_gap : (z x low : ℕ) (g : List (ℕ × ℕ)) → Up low (keys g) → z ≤ x → ((y : ℕ) → z ≤ y → y < x → find g y ≡ none) → from_old z g ≡ from_old x g
+pub from_gap : (z x low : ℕ) (g : List (ℕ × ℕ)) → Up low (keys g) → z ≤ x → ((y : ℕ) → z ≤ y → y < x → find g y ≡ None) → from_old z g ≡ from_old x g
 unfolding from_old keys
 from_gap z x low [] u h f = refl
 from_gap z x low (e ∷ g) u h f = step (dec_lt e.0 z) (dec_lt e.0 x) (λ k. from_gap z x (e.0 + 1) g u.1 h k)
   where
-    step : Dec (e.0 < z) → Dec (e.0 < x) → (((y : ℕ) → z ≤ y → y < x → find g y ≡ none) → from_old z g ≡ from_old x g) → cond (ltb e.0 z) (from_old z g) (e ∷ g) ≡ cond (ltb e.0 x) (from_old x g) (e ∷ g)
+    step : Dec (e.0 < z) → Dec (e.0 < x) → (((y : ℕ) → z ≤ y → y < x → find g y ≡ None) → from_old z g ≡ from_old x g) → cond (ltb e.0 z) (from_old z g) (e ∷ g) ≡ cond (ltb e.0 x) (from_old x g) (e ∷ g)
     step (yes a) b r = rw (lt-ltb e.0 z a, lt-ltb e.0 x (omega arith)) (r (λ y p q. sym (later_found e g y (omega arith)) ∙ f y p q))
     step (no a) (yes b) r = absurd (no_some (sym (first_found e g e.0 refl) ∙ f e.0 (omega arith) b))
     step (no a) (no b) r = rw (le-ltb e.0 z (omega arith), le-ltb e.0 x (omega arith))
 
-pub from_end : (z low : ℕ) (g : List (ℕ × ℕ)) → Up low (keys g) → ((y : ℕ) → z ≤ y → find g y ≡ none) → from_old z g ≡ []
+pub from_end : (z low : ℕ) (g : List (ℕ × ℕ)) → Up low (keys g) → ((y : ℕ) → z ≤ y → find g y ≡ None) → from_old z g ≡ []
 unfolding from_old keys
 from_end z low [] u f = refl
 from_end z low (e ∷ g) u f = step (dec_lt e.0 z) (λ k. from_end z (e.0 + 1) g u.1 k)
   where
-    step : Dec (e.0 < z) → (((y : ℕ) → z ≤ y → find g y ≡ none) → from_old z g ≡ []) → cond (ltb e.0 z) (from_old z g) (e ∷ g) ≡ []
+    step : Dec (e.0 < z) → (((y : ℕ) → z ≤ y → find g y ≡ None) → from_old z g ≡ []) → cond (ltb e.0 z) (from_old z g) (e ∷ g) ≡ []
     step (yes a) r = rw (lt-ltb e.0 z a) (r (λ y p. sym (later_found e g y (omega arith)) ∙ f y p))
     step (no a) r = absurd (no_some (sym (first_found e g e.0 refl) ∙ f e.0 (omega arith)))
 
 -- a number with an entry
-same_some : {x y : ℕ} → some x ≡ some y → x ≡ y
+same_some : {x y : ℕ} → Some x ≡ Some y → x ≡ y
 same_some e = cc
 
-pub from_one : (z y low : ℕ) (g : List (ℕ × ℕ)) → Up low (keys g) → find g z ≡ some y → from_old z g ≡ (z, y) ∷ from_old (z + 1) g
+pub from_one : (z y low : ℕ) (g : List (ℕ × ℕ)) → Up low (keys g) → find g z ≡ Some y → from_old z g ≡ (z, y) ∷ from_old (z + 1) g
 unfolding from_old keys find
 from_one z y low [] u f = absurd (no_some (sym f))
 from_one z y low (e ∷ g) u f = step (dec_lt e.0 z) (dec_lt z e.0) (λ k. from_one z y (e.0 + 1) g u.1 k)
   where
-    step : Dec (e.0 < z) → Dec (z < e.0) → (find g z ≡ some y → from_old z g ≡ (z, y) ∷ from_old (z + 1) g) → cond (ltb e.0 z) (from_old z g) (e ∷ g) ≡ (z, y) ∷ cond (ltb e.0 (z + 1)) (from_old (z + 1) g) (e ∷ g)
+    step : Dec (e.0 < z) → Dec (z < e.0) → (find g z ≡ Some y → from_old z g ≡ (z, y) ∷ from_old (z + 1) g) → cond (ltb e.0 z) (from_old z g) (e ∷ g) ≡ (z, y) ∷ cond (ltb e.0 (z + 1)) (from_old (z + 1) g) (e ∷ g)
     step (yes a) b r = rw (lt-ltb e.0 z a, lt-ltb e.0 (z + 1) (omega arith)) (r (sym (later_found e g z a) ∙ f))
     step (no a) (yes b) r = absurd (no_some (sym f ∙ low_found e.0 z (e ∷ g) (omega arith, u.1) b))
     step (no a) (no b) r =
@@ -88,7 +87,7 @@ from_one z y low (e ∷ g) u f = step (dec_lt e.0 z) (dec_lt z e.0) (λ k. from_
         rw (le-ltb e.0 z (omega arith), lt-ltb e.0 (z + 1) (omega arith), from_low (z + 1) (e.0 + 1) g u.1 (omega arith), ← k, ← v)
 
 -- numbers in step
-pub from_steps : (z y n low : ℕ) (g : List (ℕ × ℕ)) → Up low (keys g) → ((j : ℕ) → j < n → find g (z + j) ≡ some (y + j)) → from_old z g ≡ steps z y n ++ from_old (z + n) g
+pub from_steps : (z y n low : ℕ) (g : List (ℕ × ℕ)) → Up low (keys g) → ((j : ℕ) → j < n → find g (z + j) ≡ Some (y + j)) → from_old z g ≡ steps z y n ++ from_old (z + n) g
 unfolding steps
 from_steps z y zero low g u f =
     let e : z + 0 ≡ z = omega arith in
@@ -97,10 +96,10 @@ from_steps z y (suc n) low g u f =
     let e : z + suc n ≡ z + 1 + n = omega arith in
     let a : z + 0 ≡ z = omega arith in
     let b : y + 0 ≡ y = omega arith in
-    let h : find g z ≡ some y = rw (a, b) at (f 0 (omega arith)) in
+    let h : find g z ≡ Some y = rw (a, b) at (f 0 (omega arith)) in
     rw (e, from_one z y low g u h) (ap (λ (l : List (ℕ × ℕ)). (z, y) ∷ l) (from_steps (z + 1) (y + 1) n low g u (λ j l. next j l)))
   where
-    next : (j : ℕ) → j < n → find g (z + 1 + j) ≡ some (y + 1 + j)
+    next : (j : ℕ) → j < n → find g (z + 1 + j) ≡ Some (y + 1 + j)
     next j l =
         let p : z + suc j ≡ z + 1 + j = omega arith in
         let q : y + suc j ≡ y + 1 + j = omega arith in

@@ -1,6 +1,5 @@
 -- The classes of the glyphs of a map, in cells, and what the walk over map and class table asks and answers.
-use Rattle.std.specs.Prelude.{ℕ, zero, suc, ◌+◌, ◌≤◌, ◌<◌, ◌≡◌, Bool, false, cond, ◌||◌, List, [], ◌∷◌, ◌++◌, map, length, eqb}
-use Rattle.std.proofs.Math.Option.{Option, none, some}
+use Rattle.std.specs.Prelude.{ℕ, zero, suc, ◌+◌, ◌≤◌, ◌<◌, ◌≡◌, Bool, false, cond, ◌||◌, List, [], ◌∷◌, ◌++◌, map, length, eqb, Option, None, Some}
 use Rattle.meaning.specs.Words.{map_some}
 use Rattle.meaning.specs.Parts.{class_of}
 use Rattle.meaning.specs.Maps.{glyph_entries}
@@ -15,7 +14,7 @@ use Rattle.class_lists.specs.declared.ClassList.{ClassList}
 
 -- the new number of a glyph with its class, if that is not 0
 abbrev pub classed_as : List (ℕ × ℕ) → ℕ × ℕ → Option (ℕ × ℕ)
-classed_as cs e = cond (eqb (class_of cs e.0) 0) none (some (e.1, class_of cs e.0))
+classed_as cs e = cond (eqb (class_of cs e.0) 0) None (Some (e.1, class_of cs e.0))
 
 -- the glyphs of a map so
 unfoldable pub classed : List (ℕ × ℕ) → List (ℕ × ℕ) → List (ℕ × ℕ)

@@ -45,10 +45,8 @@ fn put_run(t: &mut [u32], cell: usize, new: usize, n: usize, class: usize) -> us
     if t.len() < past {
         return past;
     }
-    let mut i = 0;
-    while i < n {
+    for i in 0..n {
         t[cell + i] = ((new + i) * 65536 + class) as u32;
-        i += 1;
     }
     past
 }
@@ -68,10 +66,9 @@ fn fill(
 {
     let n = count_runs(glyphs, form);
     let end = found.last + 1;
-    let mut e = run;
     let mut from = glyph;
     let mut to = cell;
-    while e < n {
+    for e in run..n {
         let r = run_at(glyphs, form, e);
         let first = greater(r.old, from);
         if end <= first {
@@ -85,9 +82,8 @@ fn fill(
         }
         to = put_run(t, to, new, past - first, found.class);
         from = past;
-        e += 1;
     }
-    Place { run: e, cell: to }
+    Place { run: n, cell: to }
 }
 
 // The same for any class: where it is 0, nothing is listed, and the walk goes on behind the stretch.
@@ -141,6 +137,7 @@ pub fn list_classes(
     let mut from = 0;
     let mut run = 0;
     let mut cell = list;
+    // A while: each step passes the runs of a stretch.
     while run < n {
         let r = run_at(glyphs, form, run);
         let glyph = greater(r.old, from);

@@ -17,11 +17,7 @@ fn clear(t: &mut [u32], base: usize)
     requires { base + 65536 ≤ length t.old }
     ensures { Cleared 65536 t.old t.new base }
 {
-    let mut c = 0;
-    while c < 65536 {
-        t[base + c] = 0;
-        c += 1;
-    }
+    t[base..base + 65536].fill(0);
 }
 
 // The number `v` into the cell `i`, if the cell has none yet.
@@ -42,6 +38,7 @@ fn put_lowest(src: &[u8], at: usize, t: &mut [u32], base: usize)
     clear(t, base);
     let mut next = 0;
     let mut g = 0;
+    // A while: each step passes a stretch.
     while g < 65536 {
         let s = stretch_from(src, at, next, g);
         put_first(t, base + s.class, g + 1);

@@ -16,9 +16,7 @@ fn mark_held(t: &mut [u32], list: usize, g: usize, m: Map)
     requires { ToMark t.old m list g }
     ensures { Marked t.old t.new m (news t.old list g) }
 {
-    let mut e = g;
-    while 0 < e {
-        e -= 1;
+    for e in (0..g).rev() {
         let class = t[list + e] as usize % 65536;
         t[m.at + class] = (class * 65536) as u32;
     }
@@ -31,14 +29,12 @@ fn rank(t: &mut [u32], m: Map) -> usize
 {
     let end = m.mask + 1;
     let mut count = 0;
-    let mut class = 0;
-    while class < end {
+    for class in 0..end {
         let cell = m.at + class;
         if t[cell] as usize / 65536 == class {
             t[cell] = (class * 65536 + count) as u32;
             count += 1;
         }
-        class += 1;
     }
     count
 }

@@ -2,7 +2,7 @@
 use Prim.Native.Nat.{ℕ, ◌+◌, ◌*◌, ◌≤◌, ◌<◌}
 use mathlib.Core.Path.{◌≡◌, refl, ap, ◌∙◌}
 use mathlib.Core.Bool.{Bool, true}
-use mathlib.Core.Option.{Option, none, some}
+use Rattle.std.specs.Prelude.{Option, None, Some}
 use mathlib.Core.List.{List, [], ◌∷◌, ◌++◌, append_assoc}
 use native.Mathlib.Omega.{arith}
 use lib.ListN.{length, take, length-append}
@@ -23,9 +23,9 @@ use Rattle.class_spots.proofs.Gathering.{gathered_all}
 -- a slot's block takes its words, among others
 one_most : (packed : Bool) (done : List (Option (List ℕ))) (o : Option (List ℕ)) (rest : List (Option (List ℕ))) → length (words_in o) ≤ length (blocks_in packed (done ++ (o ∷ rest)))
 unfolding words_in
-one_most packed done none rest = omega arith
-one_most packed done (some b) rest =
-    omega (arith, block_most packed done b, blocks_onward packed (done ++ (some b ∷ [])) rest, ap (λ (l : List (Option (List ℕ))). length (blocks_in packed l)) (append_assoc done (some b ∷ []) rest))
+one_most packed done None rest = omega arith
+one_most packed done (Some b) rest =
+    omega (arith, block_most packed done b, blocks_onward packed (done ++ (Some b ∷ [])) rest, ap (λ (l : List (Option (List ℕ))). length (blocks_in packed l)) (append_assoc done (Some b ∷ []) rest))
 
 module _ (packed chained : Bool) (s t : List ℕ) (maps : Maps) (all : List (Option (List ℕ))) (slots first : ℕ) where
   abbrev sets_left : ℕ → Option (List ℕ)
@@ -68,8 +68,8 @@ module _ (packed chained : Bool) (s t : List ℕ) (maps : Maps) (all : List (Opt
             start = c.start;
             places = c.places;
             same = w.same ∙ c.same;
-            done = c.done ++ (none ∷ []);
-            many = omega (arith, length-append c.done (none ∷ []), c.many);
+            done = c.done ++ (None ∷ []);
+            many = omega (arith, length-append c.done (None ∷ []), c.many);
             slotting = slotting_null (slotting_said c.slotting (ap (λ (x : Option (List ℕ)). x ∷ rest) g.0));
             gathered = g.1;
           }
@@ -81,8 +81,8 @@ module _ (packed chained : Bool) (s t : List ℕ) (maps : Maps) (all : List (Opt
             start = c.start;
             places = c.places;
             same = w.same ∙ c.same;
-            done = c.done ++ (some g.words ∷ []);
-            many = omega (arith, length-append c.done (some g.words ∷ []), c.many);
+            done = c.done ++ (Some g.words ∷ []);
+            many = omega (arith, length-append c.done (Some g.words ∷ []), c.many);
             slotting = rw c.many at (slotting_set (slotting_said c.slotting (ap (λ (x : Option (List ℕ)). x ∷ rest) g.is)));
             gathered = g.gathered;
           }

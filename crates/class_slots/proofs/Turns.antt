@@ -2,7 +2,7 @@
 use Prim.Native.Nat.{ℕ, ◌+◌, ◌*◌, ◌≤◌, ◌<◌}
 use mathlib.Core.Path.{◌≡◌, refl, sym, ap, ◌∙◌}
 use mathlib.Core.Bool.{Bool, true, false, cond}
-use mathlib.Core.Option.{Option, none, some}
+use Rattle.std.specs.Prelude.{Option, None, Some}
 use mathlib.Core.List.{List, ◌∷◌, map}
 use native.Mathlib.Omega.{arith}
 use lib.ListN.{length}
@@ -17,15 +17,13 @@ use Rattle.known_blocks.specs.Shared.{blocks_in}
 use Rattle.known_blocks.specs.Book.{book_cells, packs, Begun}
 use Rattle.bits.specs.Bits.{marked}
 use Rattle.cell_maps.specs.Cells.{folded}
-use Rattle.fold.specs.Found.{found_of, Answers}
 use Rattle.cell_maps.specs.declared.Map.{Map}
-use Rattle.fold.specs.declared.Found.{Found}
-use Rattle.fold.specs.declared.Found.TheVariants.{New, Gone}
 use Rattle.kept_rules.specs.Left.{maps_in}
 use Rattle.kept_rules.specs.declared.Maps.{Maps}
 use Rattle.ranked_maps.specs.Present.{top_of, top_small, present, present_in}
 use Rattle.class_spots.specs.SlotWalk.{slots_from, walk_all, walk_one, walk_none, walk_end}
-use Rattle.class_spots.specs.Sets.{slots_at, slots_near, count_at, set_place, set_left, SetSound, Asked, place_slot}
+use Rattle.class_places.specs.Places.{slots_at, slots_near}
+use Rattle.class_spots.specs.Sets.{count_at, set_place, set_left, SetSound, Asked, place_slot}
 use Rattle.class_spots.specs.Slots.{sets_full, marked_of, sets_in, slot_blocks, Ready, WroteSlots, blocks_many, present_few, marked_member}
 use Rattle.class_spots.specs.Placing.{SetAsked}
 use Rattle.class_spots.specs.declared.Classes.{Classes}
@@ -35,21 +33,13 @@ use Rattle.class_spots.proofs.Gathering.{gathered_count}
 use Rattle.class_slots.proofs.Filling.{Filling, filling_all, filling_said, filling_few, filling_end}
 
 -- a class has an entry just if it is found
-pub found_some : {t : List ℕ} {m : Map} {c n : ℕ} {r : Found} → Answers t m c r → r ≡ New n → is_some (folded t m c) ≡ true
+pub is_found : {o : Option ℕ} {n : ℕ} → Some n ≡ o → is_some o ≡ true
 unfolding is_some
-found_some {t} {m} {c} {n} {r} a e = step (folded t m c) a.answer
-  where
-    step : (o : Option ℕ) → r ≡ found_of o → is_some o ≡ true
-    step (some x) f = refl
-    step none f = cc
+is_found e = rw (← e)
 
-pub found_none : {t : List ℕ} {m : Map} {c : ℕ} {r : Found} → Answers t m c r → r ≡ Gone → is_some (folded t m c) ≡ false
+pub not_found : {o : Option ℕ} → None ≡ o → is_some o ≡ false
 unfolding is_some
-found_none {t} {m} {c} {r} a e = step (folded t m c) a.answer
-  where
-    step : (o : Option ℕ) → r ≡ found_of o → is_some o ≡ false
-    step (some x) f = cc
-    step none f = refl
+not_found e = rw (← e)
 
 -- the blocks of the slots of the classes from c on
 abbrev pub blocks_from : Bool → List ℕ → List ℕ → Maps → ℕ → ℕ → List (Option (List ℕ))
@@ -89,7 +79,7 @@ module _ {chained : Bool} {s t : List ℕ} {maps : Maps} {classes : Classes} (a 
   unfolding set_place
   set_sound c {at} g = record { sound = λ z. step (leb (count_at s slots) c) refl (marked t marks c) g z }
     where
-      step : (b : Bool) → leb (count_at s slots) c ≡ b → (d : Bool) → at ≡ cond b 0 (cond d (word s (slots + 2 * c)) 0) → (at ≡ 0 → ⊥) → set_fault (rule_fault chained s) s at ≡ none
+      step : (b : Bool) → leb (count_at s slots) c ≡ b → (d : Bool) → at ≡ cond b 0 (cond d (word s (slots + 2 * c)) 0) → (at ≡ 0 → ⊥) → set_fault (rule_fault chained s) s at ≡ None
       step true l d g z = absurd (z g)
       step false l false g z = absurd (z g)
       step false l true g z =

@@ -12,8 +12,9 @@ ghost use Rattle.class_spots.specs.Placing.{SetAsked, PlacedSet};
 
 use area::{over, put};
 use class_maps::top;
-use class_spots::{Classes, Slots, Turn, place_spot, set_place, slots_at, write_set};
-use fold::{Found, find};
+use class_places::slots_at;
+use class_spots::{Classes, Slots, Turn, place_spot, set_place, write_set};
+use fold::find;
 use kept_rules::Maps;
 use known_blocks::begin;
 use known_places::again;
@@ -83,15 +84,12 @@ pub fn write_slots(
     let mut count = 0;
     let mut k = 0;
     let mut p = first;
-    let mut class = 0;
-    while class <= last {
-        let here = class;
-        class += 1;
-        let Found::New(_) = find(t, maps.input, here) else {
+    for class in 0..last + 1 {
+        let Some(_) = find(t, maps.input, class) else {
             continue;
         };
         let turn = Turn {
-            at: set_place(src, slots, t, classes.marks, here),
+            at: set_place(src, slots, t, classes.marks, class),
             slot: slots + 2 * k,
             first,
             pos: p,
@@ -126,12 +124,10 @@ pub fn settle_slots(area: &mut [u8], at: usize, n: usize, p: usize)
     requires { (at + 2 * n ≤ length area.old) × (p < 0x1_0000_0000) }
     ensures { area.new ≡ sets area.old at (flat (map (settled p) (words area.old at n))) }
 {
-    let mut i = 0;
-    while i < n {
+    for i in 0..n {
         let slot = at + 2 * i;
         let w = word_inside(area, slot);
         let offset = offset_of(w, p);
         put(area, slot, offset);
-        i += 1;
     }
 }

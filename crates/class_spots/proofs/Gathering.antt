@@ -2,7 +2,7 @@
 use Prim.Native.Nat.{ℕ, ◌+◌, ◌-◌, ◌*◌, ◌/◌, ◌≤◌, ◌<◌}
 use mathlib.Core.Path.{◌≡◌, refl, sym, ap, ◌∙◌}
 use mathlib.Core.Bool.{Bool, true, false, cond, true≢false}
-use mathlib.Core.Option.{Option, none, some}
+use Rattle.std.specs.Prelude.{Option, None, Some}
 use mathlib.Core.List.{List, [], ◌∷◌, ◌++◌}
 use native.Mathlib.Omega.{arith}
 use native.Mathlib.Decide.{dec_lt}
@@ -24,7 +24,7 @@ use Rattle.class_spots.specs.Slots.{Noted}
 use Rattle.class_spots.specs.Placing.{Gathered}
 use Rattle.class_spots.proofs.Noting.{noted_all, noted_null, noted_set}
 
-in_null : (packed : Bool) (bs : List (Option (List ℕ))) → in_book packed (bs ++ (none ∷ [])) ≡ in_book packed bs
+in_null : (packed : Bool) (bs : List (Option (List ℕ))) → in_book packed (bs ++ (None ∷ [])) ≡ in_book packed bs
 in_null false bs = refl
 in_null true bs = ap first_of_each (null_dropped bs)
 
@@ -33,14 +33,14 @@ module _ (bs : List (Option (List ℕ))) (b : List ℕ) where
   abbrev ds : List (List ℕ)
   ds = first_of_each (drop_null bs)
 
-  small_next : All Word (blocks_in true bs) → (known true bs b ≡ false → All Word b) → All Word (blocks_in true (bs ++ (some b ∷ [])))
+  small_next : All Word (blocks_in true bs) → (known true bs b ≡ false → All Word b) → All Word (blocks_in true (bs ++ (Some b ∷ [])))
   small_next h f = rw (blocks_next true 0 bs b) (all_append Word (blocks_in true bs) (cond (has b ds) [] b) h (step (has b ds) refl))
     where
       step : (t : Bool) → has b ds ≡ t → All Word (cond t [] b)
       step true e = tt
       step false e = f e
 
-  two_next : 2 * length (in_book true bs) ≤ length (blocks_in true bs) → (known true bs b ≡ false → 2 ≤ length b) → 2 * length (in_book true (bs ++ (some b ∷ []))) ≤ length (blocks_in true (bs ++ (some b ∷ [])))
+  two_next : 2 * length (in_book true bs) ≤ length (blocks_in true bs) → (known true bs b ≡ false → 2 ≤ length b) → 2 * length (in_book true (bs ++ (Some b ∷ []))) ≤ length (blocks_in true (bs ++ (Some b ∷ [])))
   two_next h f = rw (firsts_next true 0 bs b, blocks_next true 0 bs b) (step (has b ds) refl)
     where
       step : (t : Bool) → has b ds ≡ t → 2 * length (ds ++ cond t [] (b ∷ [])) ≤ length (blocks_in true bs ++ cond t [] b)
@@ -57,7 +57,7 @@ module _ {packed : Bool} {left : ℕ → Option (List ℕ)} {slots first : ℕ} 
   pub gathered_count : get_or book 0 0 < 65536
   gathered_count = omega (arith, g.booked.count, g.booked.few)
 
-  module _ {b one : List ℕ} {q source : ℕ} (x : Extends area end b one q) (from : left source ≡ some b) (long : 2 ≤ length b) (low : q ≤ end + 131076) (small : All Word b) where
+  module _ {b one : List ℕ} {q source : ℕ} (x : Extends area end b one q) (from : left source ≡ Some b) (long : 2 ≤ length b) (low : q ≤ end + 131076) (small : All Word b) where
     -- it was written behind the others
     pub set_behind : Behind left bs b one first end q source book
     set_behind =
@@ -82,12 +82,12 @@ module _ {packed : Bool} {left : ℕ → Option (List ℕ)} {slots first : ℕ} 
             extends_stands (part_extends (blocks_in true bs) refl (omega (arith, u.place, u.room, x.same)) stays) (g.small t)
 
     -- and it has its spot
-    pub gathered_set : {slot : ℕ} → slot ≡ slots + 2 * length bs → slot + 2 ≤ first → {spot : Spot} {after two : List ℕ} {r : ℕ} → Settled one first end q source book after spot → (spot.at ≡ 0 → ⊥) → (r ≡ slot + 2) × (two ≡ sets one slot (bytes2 ((spot.at - first) / 2 + 1))) → Gathered packed left slots first (bs ++ (some b ∷ [])) two spot.end after
+    pub gathered_set : {slot : ℕ} → slot ≡ slots + 2 * length bs → slot + 2 ≤ first → {spot : Spot} {after two : List ℕ} {r : ℕ} → Settled one first end q source book after spot → (spot.at ≡ 0 → ⊥) → (r ≡ slot + 2) × (two ≡ sets one slot (bytes2 ((spot.at - first) / 2 + 1))) → Gathered packed left slots first (bs ++ (Some b ∷ [])) two spot.end after
     gathered_set e apart {spot} {after} s n p =
         let m : packs after ≡ packed = ap (ltb 1) s.same ∙ g.mode in
         let near = s.near bs b set_behind n in
         let place : spot.at ≡ place_in packed first bs b = rw m at near.0 in
-        let ends : spot.end ≡ first + 2 * length (blocks_in packed (bs ++ (some b ∷ []))) = rw m at near.1 in
+        let ends : spot.end ≡ first + 2 * length (blocks_in packed (bs ++ (Some b ∷ []))) = rw m at near.1 in
         let after-all : end + 2 * length (cond (known packed bs b) [] b) ≡ spot.end = omega (arith, ends, g.noted.place, ap length (blocks_next packed 0 bs b), length-append (blocks_in packed bs) (cond (known packed bs b) [] b)) in
         let stands : Extends area end (cond (known packed bs b) [] b) one spot.end = rw after-all at (written (known packed bs b)) in
         record {
@@ -117,7 +117,7 @@ module _ {packed : Bool} {left : ℕ → Option (List ℕ)} {slots first : ℕ} 
     room_between = omega (arith, e)
 
     -- nothing is left of it
-    pub gathered_null : {one two : List ℕ} {r : ℕ} → Keeps area end one → (r ≡ slot + 2) × (two ≡ sets one slot (bytes2 0)) → Gathered packed left slots first (bs ++ (none ∷ [])) two end book
+    pub gathered_null : {one two : List ℕ} {r : ℕ} → Keeps area end one → (r ≡ slot + 2) × (two ≡ sets one slot (bytes2 0)) → Gathered packed left slots first (bs ++ (None ∷ [])) two end book
     gathered_null k p = record {
       mode = g.mode;
       noted = noted_null g.noted room_between k (rw e at p);
@@ -129,7 +129,7 @@ module _ {packed : Bool} {left : ℕ → Option (List ℕ)} {slots first : ℕ} 
     }
 
     -- it is in the book, by its place in the source
-    pub gathered_again : {source at r : ℕ} {two : List ℕ} (x : Repeated left bs book first source at) → (r ≡ slot + 2) × (two ≡ sets area slot (bytes2 ((at - first) / 2 + 1))) → Gathered packed left slots first (bs ++ (some x.words ∷ [])) two end book
+    pub gathered_again : {source at r : ℕ} {two : List ℕ} (x : Repeated left bs book first source at) → (r ≡ slot + 2) × (two ≡ sets area slot (bytes2 ((at - first) / 2 + 1))) → Gathered packed left slots first (bs ++ (Some x.words ∷ [])) two end book
     gathered_again {at = at} x p =
         let m = g.mode in
         let again : known packed bs x.words ≡ true = rw m at x.again in

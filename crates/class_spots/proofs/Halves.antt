@@ -2,7 +2,7 @@
 use Prim.Native.Nat.{ℕ, ◌+◌, ◌-◌, ◌*◌, ◌/◌, ◌≤◌, ◌<◌}
 use mathlib.Core.Path.{◌≡◌, refl, sym, ap, ap₂, ◌∙◌, subst}
 use mathlib.Core.Bool.{Bool, true, false, cond, ◌&&◌, ◌||◌, true≢false}
-use mathlib.Core.Option.{Option, none, some}
+use Rattle.std.specs.Prelude.{Option, None, Some}
 use mathlib.Core.List.{List, [], ◌∷◌, ◌++◌, map, map-append, append-nil, append_assoc}
 use native.Mathlib.Omega.{arith}
 use lib.ListN.{length, take, drop, length-append, length-map, take-append-drop}
@@ -81,7 +81,7 @@ module _ (packed : Bool) (bs : List (Option (List ℕ))) where
         step false v e = omega arith
 
     -- a block takes its words
-    pub block_most : length b ≤ length (blocks_in packed (bs ++ (some b ∷ [])))
+    pub block_most : length b ≤ length (blocks_in packed (bs ++ (Some b ∷ [])))
     unfolding shared_blocks
     block_most = step packed (has b ds) refl (ap length (blocks_next packed 0 bs b))
       where
@@ -91,19 +91,19 @@ module _ (packed : Bool) (bs : List (Option (List ℕ))) where
         step false v e f = omega (arith, f, length-append (blocks_in false bs) b)
 
     -- a slot that is not null is noted
-    pub halves_next : (first : ℕ) {r : ℕ} → r ≡ place_in packed first bs b → halves_in packed (bs ++ (some b ∷ [])) ≡ halves_in packed bs ++ (((r - first) / 2 + 1) ∷ [])
+    pub halves_next : (first : ℕ) {r : ℕ} → r ≡ place_in packed first bs b → halves_in packed (bs ++ (Some b ∷ [])) ≡ halves_in packed bs ++ (((r - first) / 2 + 1) ∷ [])
     halves_next first {r} e =
         let h : place_in packed 2 bs b / 2 ≡ (r - first) / 2 + 1 = omega (arith, e, place_words 2, place_words first) in
         ap (map (λ w. w / 2)) (offsets_next packed 2 bs b) ∙ map-append (λ w. w / 2) (offsets_in packed 2 bs) (place_in packed 2 bs b ∷ []) ∙ ap (λ (n : ℕ). halves_in packed bs ++ (n ∷ [])) h
 
   -- a null slot
-  pub halves_null : halves_in packed (bs ++ (none ∷ [])) ≡ halves_in packed bs ++ (0 ∷ [])
+  pub halves_null : halves_in packed (bs ++ (None ∷ [])) ≡ halves_in packed bs ++ (0 ∷ [])
   halves_null = ap (map (λ w. w / 2)) (offsets_null packed 2 bs) ∙ map-append (λ w. w / 2) (offsets_in packed 2 bs) (0 ∷ [])
 
   -- the blocks do not become fewer
   blocks_grow : (o : Option (List ℕ)) → length (blocks_in packed bs) ≤ length (blocks_in packed (bs ++ (o ∷ [])))
-  blocks_grow none = omega (arith, ap length (blocks_null packed 0 bs))
-  blocks_grow (some b) = omega (arith, ap length (blocks_next packed 0 bs b), length-append (blocks_in packed bs) (cond (known packed bs b) [] b))
+  blocks_grow None = omega (arith, ap length (blocks_null packed 0 bs))
+  blocks_grow (Some b) = omega (arith, ap length (blocks_next packed 0 bs b), length-append (blocks_in packed bs) (cond (known packed bs b) [] b))
 
 -- nor with more slots
 pub blocks_onward : (packed : Bool) (xs ys : List (Option (List ℕ))) → length (blocks_in packed xs) ≤ length (blocks_in packed (xs ++ ys))
@@ -129,11 +129,11 @@ module _ (packed : Bool) where
   halves_small bs = onward (λ zs. length (blocks_in packed zs) < 65535 → All Word (halves_in packed zs)) step [] bs (λ h. rw (no_offsets packed 2) tt)
     where
       step : (zs : List (Option (List ℕ))) (o : Option (List ℕ)) → (length (blocks_in packed zs) < 65535 → All Word (halves_in packed zs)) → length (blocks_in packed (zs ++ (o ∷ []))) < 65535 → All Word (halves_in packed (zs ++ (o ∷ [])))
-      step zs none f h = rw (halves_null packed zs) (all_append Word (halves_in packed zs) (0 ∷ []) (f (omega (arith, blocks_grow packed zs none))) (omega arith, tt))
-      step zs (some b) f h =
+      step zs None f h = rw (halves_null packed zs) (all_append Word (halves_in packed zs) (0 ∷ []) (f (omega (arith, blocks_grow packed zs None))) (omega arith, tt))
+      step zs (Some b) f h =
           let place = place_in packed 2 zs b in
-          let w : (place - 2) / 2 + 1 < 65536 = omega (arith, place_words packed zs b 2, words_most packed zs b, blocks_grow packed zs (some b)) in
-          rw (halves_next packed zs b 2 {r = place} refl) (all_append Word (halves_in packed zs) (((place - 2) / 2 + 1) ∷ []) (f (omega (arith, blocks_grow packed zs (some b)))) (w, tt))
+          let w : (place - 2) / 2 + 1 < 65536 = omega (arith, place_words packed zs b 2, words_most packed zs b, blocks_grow packed zs (Some b)) in
+          rw (halves_next packed zs b 2 {r = place} refl) (all_append Word (halves_in packed zs) (((place - 2) / 2 + 1) ∷ []) (f (omega (arith, blocks_grow packed zs (Some b)))) (w, tt))
 
   -- settled, they are the offsets
   pub settled_offsets : (q : ℕ) (bs : List (Option (List ℕ))) → map (settled q) (halves_in packed bs) ≡ offsets_in packed q bs
@@ -145,11 +145,11 @@ module _ (packed : Bool) where
       more zs o v w h e f g = ap (map (settled q)) e ∙ map-append (settled q) (halves_in packed zs) (v ∷ []) ∙ ap₂ (λ (l : List ℕ) (w : ℕ). l ++ (w ∷ [])) h f ∙ sym g
 
       step : (zs : List (Option (List ℕ))) (o : Option (List ℕ)) → map (settled q) (halves_in packed zs) ≡ offsets_in packed q zs → map (settled q) (halves_in packed (zs ++ (o ∷ []))) ≡ offsets_in packed q (zs ++ (o ∷ []))
-      step zs none h = more zs none 0 0 h (halves_null packed zs) (sym (settled_null q refl)) (offsets_null packed q zs)
-      step zs (some b) h =
+      step zs None h = more zs None 0 0 h (halves_null packed zs) (sym (settled_null q refl)) (offsets_null packed q zs)
+      step zs (Some b) h =
           let place = place_in packed 2 zs b in
           let v : settled q ((place - 2) / 2 + 1) ≡ place_in packed q zs b = sym (settled_there q (λ z. omega arith)) ∙ omega (arith, place_words packed zs b 2, place_words packed zs b q) in
-          more zs (some b) ((place - 2) / 2 + 1) (place_in packed q zs b) h (halves_next packed zs b 2 {r = place} refl) v (offsets_next packed q zs b)
+          more zs (Some b) ((place - 2) / 2 + 1) (place_in packed q zs b) h (halves_next packed zs b 2 {r = place} refl) v (offsets_next packed q zs b)
 
   -- the first slots have the offsets that they have among all
   pub offsets_take : (p n : ℕ) (bs : List (Option (List ℕ))) → n ≤ length bs → offsets_in packed p (take n bs) ≡ take n (offsets_in packed p bs)
@@ -168,5 +168,5 @@ module _ (packed : Bool) where
       more zs o w k e = (omega (arith, k.0, length-append zs (o ∷ [])), ap (take n) e ∙ take-append-le n (offsets_in packed p zs) (w ∷ []) (omega (arith, k.0, offsets_many packed p zs)) ∙ k.1)
 
       step : (zs : List (Option (List ℕ))) (o : Option (List ℕ)) → P zs → P (zs ++ (o ∷ []))
-      step zs none k = more zs none 0 k (offsets_null packed p zs)
-      step zs (some b) k = more zs (some b) (place_in packed p zs b) k (offsets_next packed p zs b)
+      step zs None k = more zs None 0 k (offsets_null packed p zs)
+      step zs (Some b) k = more zs (Some b) (place_in packed p zs b) k (offsets_next packed p zs b)

@@ -2,7 +2,7 @@
 use Prim.Native.Nat.{ℕ, ◌+◌, ◌-◌, ◌*◌, ◌/◌, ◌≤◌}
 use mathlib.Core.Path.{◌≡◌, refl, sym, ap, ap₂, ◌∙◌}
 use mathlib.Core.Bool.{Bool, true, false, cond}
-use mathlib.Core.Option.{Option, none, some}
+use Rattle.std.specs.Prelude.{Option, None, Some}
 use mathlib.Core.List.{List, [], ◌∷◌, ◌++◌, append-nil}
 use native.Mathlib.Omega.{arith}
 use lib.ListN.{length, length-append}
@@ -61,12 +61,12 @@ module _ {packed : Bool} {slots first : ℕ} where
         }
 
     -- a null slot: what was tried behind the blocks left nothing
-    pub noted_null : {one two : List ℕ} {r : ℕ} → Keeps area end one → (r ≡ slot + 2) × (two ≡ sets one slot (bytes2 0)) → Noted packed slots first (bs ++ (none ∷ [])) two end
-    noted_null k p = noted_more none 0 (extends_kept (extends_none u.room) k) p (halves_null packed bs) (blocks_null packed 0 bs ∙ sym (append-nil (blocks_in packed bs)))
+    pub noted_null : {one two : List ℕ} {r : ℕ} → Keeps area end one → (r ≡ slot + 2) × (two ≡ sets one slot (bytes2 0)) → Noted packed slots first (bs ++ (None ∷ [])) two end
+    noted_null k p = noted_more None 0 (extends_kept (extends_none u.room) k) p (halves_null packed bs) (blocks_null packed 0 bs ∙ sym (append-nil (blocks_in packed bs)))
 
     -- a slot that is not null, whose block was written behind the others if it is not among them
-    pub noted_set : {one two : List ℕ} {q r at : ℕ} (b : List ℕ) → at ≡ place_in packed first bs b → Extends area end (cond (known packed bs b) [] b) one q → (r ≡ slot + 2) × (two ≡ sets one slot (bytes2 ((at - first) / 2 + 1))) → Noted packed slots first (bs ++ (some b ∷ [])) two q
-    noted_set {at = at} b e x p = noted_more (some b) ((at - first) / 2 + 1) x p (halves_next packed bs b first e) (blocks_next packed 0 bs b)
+    pub noted_set : {one two : List ℕ} {q r at : ℕ} (b : List ℕ) → at ≡ place_in packed first bs b → Extends area end (cond (known packed bs b) [] b) one q → (r ≡ slot + 2) × (two ≡ sets one slot (bytes2 ((at - first) / 2 + 1))) → Noted packed slots first (bs ++ (Some b ∷ [])) two q
+    noted_set {at = at} b e x p = noted_more (Some b) ((at - first) / 2 + 1) x p (halves_next packed bs b first e) (blocks_next packed 0 bs b)
 
 -- the same places, said otherwise
 pub noted_moved : {packed : Bool} {slots first slots' first' : ℕ} {bs : List (Option (List ℕ))} {area : List ℕ} {end : ℕ} → slots ≡ slots' → first ≡ first' → Noted packed slots first bs area end → Noted packed slots' first' bs area end

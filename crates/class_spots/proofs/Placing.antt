@@ -2,7 +2,7 @@
 use Prim.Native.Nat.{ℕ, ◌+◌, ◌-◌, ◌*◌, ◌/◌, ◌≤◌, ◌<◌}
 use mathlib.Core.Path.{◌≡◌, refl, ap, ◌∙◌}
 use mathlib.Core.Bool.{Bool, true, false, cond}
-use mathlib.Core.Option.{Option, none, some}
+use Rattle.std.specs.Prelude.{Option, None, Some}
 use mathlib.Core.List.{List, [], ◌∷◌, ◌++◌}
 use native.Mathlib.Omega.{arith}
 use lib.ListN.{length, length-append}
@@ -26,11 +26,11 @@ use Rattle.class_spots.proofs.Halves.{place_least}
 use Rattle.class_spots.proofs.Gathering.{gathered_null, gathered_again, set_behind, gathered_set}
 
 -- what is left of a set has a count and an offset
-set_two : (chained : Bool) (m : RuleMaps) (s : List ℕ) (at : ℕ) {ws : List ℕ} → set_left chained m s at ≡ some ws → 2 ≤ length ws
+set_two : (chained : Bool) (m : RuleMaps) (s : List ℕ) (at : ℕ) {ws : List ℕ} → set_left chained m s at ≡ Some ws → 2 ≤ length ws
 unfolding set_left cut_set unless_empty block set_words offsets blocks words_in
 set_two chained m s at {ws} e = step (eqb at 0) (map_some (cut_rule chained m) (rule_set chained s at)) e
   where
-    step : (t : Bool) (rs : List Rule) → cond t none (block (set_words (rule_words chained)) (unless_empty rs)) ≡ some ws → 2 ≤ length ws
+    step : (t : Bool) (rs : List Rule) → cond t None (block (set_words (rule_words chained)) (unless_empty rs)) ≡ Some ws → 2 ≤ length ws
     step true rs f = absurd (none_some refl f)
     step false [] f = absurd (none_some refl f)
     step false (r ∷ rs) f = omega (arith, ap (λ (o : Option (List ℕ)). length (words_in o)) f)
@@ -60,7 +60,7 @@ module _ {turn : Turn} {q : ℕ} {area book : List ℕ} (a : SpotAsked turn q ar
     near = λ m. record { spot = spot; there = n; settled = s; put = p.1; end = refl };
     far = λ bs b h l m.
         let mode : packs after ≡ packs book = ap (ltb 1) s.same in
-        let ends : spot.end ≡ turn.first + 2 * length (blocks_in (packs book) (bs ++ (some b ∷ []))) = rw mode at (s.near bs b h n).1 in
+        let ends : spot.end ≡ turn.first + 2 * length (blocks_in (packs book) (bs ++ (Some b ∷ []))) = rw mode at (s.near bs b h n).1 in
         absurd (omega (arith, ends, h.place, h.end, ap length (blocks_next (packs book) 0 bs b), length-append (blocks_in (packs book) bs) (cond (known (packs book) bs b) [] b), most (known (packs book) bs b) b));
   }
     where

@@ -1,6 +1,5 @@
 -- One set more, behind the sets so far.
-use Rattle.std.specs.Prelude.{ℕ, ◌+◌, ◌-◌, ◌*◌, ◌/◌, ◌≤◌, ◌<◌, ◌≡◌, Bool, true, false, List, [], ◌∷◌, ◌++◌, length, get_or}
-use Rattle.std.proofs.Math.Option.{Option, none, some}
+use Rattle.std.specs.Prelude.{ℕ, ◌+◌, ◌-◌, ◌*◌, ◌/◌, ◌≤◌, ◌<◌, ◌≡◌, Bool, true, false, List, [], ◌∷◌, ◌++◌, length, get_or, Option, None, Some}
 use Rattle.std.proofs.lemmas.List.Edits.{sets}
 use Rattle.meaning.specs.Words.{bytes2}
 use Rattle.meaning.specs.Subset.{limit}
@@ -73,20 +72,20 @@ module _ (chained : Bool) (s t : List ℕ) (maps : Maps) (turn : Turn) where
     pub sound : SetSound chained s turn.at
     pub short : length s ≤ limit
     pub inside : AllInside t maps
-    pub words : {ws : List ℕ} → set_left chained (maps_in t maps) s turn.at ≡ some ws → 2 * length ws ≤ 65535 → All Word ws
+    pub words : {ws : List ℕ} → set_left chained (maps_in t maps) s turn.at ≡ Some ws → 2 * length ws ≤ 65535 → All Word ws
 
   -- something is left of the set, and it is among the sets
   pub record SetThere (packed : Bool) (slots : ℕ) (bs : List (Option (List ℕ))) (area book : List ℕ) (r : ℕ) : Type 0 where
     pub words : List ℕ
-    pub is : set_left chained (maps_in t maps) s turn.at ≡ some words
-    pub gathered : Gathered packed (set_left chained (maps_in t maps) s) slots turn.first (bs ++ (some words ∷ [])) area r book
+    pub is : set_left chained (maps_in t maps) s turn.at ≡ Some words
+    pub gathered : Gathered packed (set_left chained (maps_in t maps) s) slots turn.first (bs ++ (Some words ∷ [])) area r book
 
   -- Whatever sets there are so far: nothing is left, or something is, or there is no room, or the set is too long or too far behind the first.
   pub record PlacedSet (area₀ book₀ area book : List ℕ) (r : ℕ) : Type 0 where
     pub same : length area ≡ length area₀
     pub alike : length book ≡ length book₀
     pub null : {packed : Bool} {slots : ℕ} {bs : List (Option (List ℕ))} → Gathered packed (set_left chained (maps_in t maps) s) slots turn.first bs area₀ turn.pos book₀ → turn.slot ≡ slots + 2 * length bs → r ≡ 0
-        → (set_left chained (maps_in t maps) s turn.at ≡ none) × Gathered packed (set_left chained (maps_in t maps) s) slots turn.first (bs ++ (none ∷ [])) area turn.pos book
+        → (set_left chained (maps_in t maps) s turn.at ≡ None) × Gathered packed (set_left chained (maps_in t maps) s) slots turn.first (bs ++ (None ∷ [])) area turn.pos book
     pub there : {packed : Bool} {slots : ℕ} {bs : List (Option (List ℕ))} → Gathered packed (set_left chained (maps_in t maps) s) slots turn.first bs area₀ turn.pos book₀ → turn.slot ≡ slots + 2 * length bs → (r ≡ 0 → ⊥) → r ≤ length area₀
         → SetThere packed slots bs area book r
     pub full : {packed : Bool} {slots : ℕ} {bs : List (Option (List ℕ))} → Gathered packed (set_left chained (maps_in t maps) s) slots turn.first bs area₀ turn.pos book₀ → length area₀ < r → enough_area ≤ length area₀

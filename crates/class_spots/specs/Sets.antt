@@ -1,9 +1,8 @@
 -- The set of a class: where it stands in the source, and what is left of it.
-use Rattle.std.specs.Prelude.{ℕ, zero, suc, ◌+◌, ◌-◌, ◌*◌, ◌≤◌, ◌<◌, ◌≡◌, Bool, cond, List, [], get_or, eqb}
+use Rattle.std.specs.Prelude.{ℕ, zero, suc, ◌+◌, ◌-◌, ◌*◌, ◌≤◌, ◌<◌, ◌≡◌, Bool, cond, List, [], get_or, eqb, Option, None, Some}
 use Rattle.std.proofs.Math.Path.{refl, sym, ap}
 use Rattle.std.proofs.Common.{◌∙◌, arith, eq-eqb, ne_eqb, leb-true, leb-false, le-leb}
 use Rattle.std.proofs.Math.Bool.{true, false}
-use Rattle.std.proofs.Math.Option.{Option, none, some}
 use Rattle.std.proofs.Math.Nat.{zero-add}
 use Rattle.std.proofs.Math.ListN.{length, get_or-eq_default}
 use Rattle.std.proofs.Math.Dec.{leb}
@@ -20,15 +19,6 @@ use Rattle.area.specs.Extends.{keeps_none}
 use Rattle.member_sets.specs.Sets as member
 use Rattle.class_spots.specs.SlotWalk.{slot_of}
 
--- where the slots stand, in the source and in the small table
-abbrev pub slots_at : Bool → ℕ
-slots_at false = 8
-slots_at true = 12
-
-pub slots_near : (chained : Bool) → (8 ≤ slots_at chained) × (slots_at chained ≤ 12)
-slots_near false = (omega arith, omega arith)
-slots_near true = (omega arith, omega arith)
-
 -- the count of the sets, which stands before their offsets
 abbrev pub count_at : List ℕ → ℕ → ℕ
 count_at s slots = word s (slots - 2)
@@ -39,12 +29,12 @@ set_place s slots t marks c = cond (leb (count_at s slots) c) 0 (cond (marked t 
 
 -- the words of what is left of the set at a place; 0 is none
 unfoldable pub set_left : Bool → RuleMaps → List ℕ → ℕ → Option (List ℕ)
-set_left chained m s at = cond (eqb at 0) none (block (set_words (rule_words chained)) (cut_set chained m (rule_set chained s at)))
+set_left chained m s at = cond (eqb at 0) None (block (set_words (rule_words chained)) (cut_set chained m (rule_set chained s at)))
 
 -- the words, and none where nothing is left
 unfoldable pub words_in : Option (List ℕ) → List ℕ
-words_in none = []
-words_in (some ws) = ws
+words_in None = []
+words_in (Some ws) = ws
 
 -- what a set takes at most besides what is left of it: the place for a count and an offset for each of at most 65,535 rules, and one rule more, which takes no more than the source
 abbrev pub set_spare : List ℕ → ℕ
@@ -56,7 +46,7 @@ set_most o s = 2 * length (words_in o) + set_spare s
 
 -- the set at a place is sound, if there is one
 pub record SetSound (chained : Bool) (s : List ℕ) (at : ℕ) : Type 0 where
-  pub sound : (at ≡ 0 → ⊥) → set_fault (rule_fault chained s) s at ≡ none
+  pub sound : (at ≡ 0 → ⊥) → set_fault (rule_fault chained s) s at ≡ None
 
 -- what is asked to find the set of a class: the offsets lie inside the source, and the marks do not begin too far
 pub record Asked (s : List ℕ) (slots marks c : ℕ) : Type 0 where
@@ -82,12 +72,12 @@ module _ (s : List ℕ) (slots : ℕ) (t : List ℕ) (marks c : ℕ) where
 
 words_block : (chained : Bool) (o : Option (List Rule)) → length (words_left (set_words (rule_words chained)) o) ≡ length (words_in (block (set_words (rule_words chained)) o))
 unfolding words_left words_in block
-words_block chained none = refl
-words_block chained (some a) = refl
+words_block chained None = refl
+words_block chained (Some a) = refl
 
 -- what is left of a set: nothing of none, and else what the writer of sets leaves
 module _ (chained : Bool) (m : RuleMaps) (s : List ℕ) {at : ℕ} where
-  pub left_null : at ≡ 0 → set_left chained m s at ≡ none
+  pub left_null : at ≡ 0 → set_left chained m s at ≡ None
   unfolding set_left
   left_null z = rw (eq-eqb at 0 z)
 
@@ -105,7 +95,7 @@ module _ (chained : Bool) (m : RuleMaps) (s : List ℕ) {at : ℕ} where
   leaves_there z w = leaves_said w (left_there z) (omega (arith, words_block chained (cut_set chained m (rule_set chained s at)), ap (λ (o : Option (List ℕ)). length (words_in o)) (left_there z)))
 
 -- the sets that offsets reach, one by one
-reached_at : {A : Type 0} (read : ℕ → A) (s : List ℕ) (slot n c : ℕ) → c < n → get_or (reaches read s 0 slot n) c none ≡ reach read s 0 (slot + 2 * c)
+reached_at : {A : Type 0} (read : ℕ → A) (s : List ℕ) (slot n c : ℕ) → c < n → get_or (reaches read s 0 slot n) c None ≡ reach read s 0 (slot + 2 * c)
 unfolding reaches
 reached_at read s slot zero c h = absurd (omega arith)
 reached_at read s slot (suc n) zero h =
@@ -128,22 +118,22 @@ module _ (chained : Bool) (m : RuleMaps) (s : List ℕ) (slots : ℕ) (t : List 
   abbrev sets : List (Option (List Rule))
   sets = reaches (rule_set chained s) s 0 slots (count_at s slots)
 
-  null_left : set_left chained m s 0 ≡ none
+  null_left : set_left chained m s 0 ≡ None
   null_left = left_null chained m s refl
 
-  past : count_at s slots ≤ c → get_or sets c none ≡ none
-  past h = get_or-eq_default sets none (omega (arith, reaches_length (rule_set chained s) s slots (count_at s slots)))
+  past : count_at s slots ≤ c → get_or sets c None ≡ None
+  past h = get_or-eq_default sets None (omega (arith, reaches_length (rule_set chained s) s slots (count_at s slots)))
 
-  here : (w : ℕ) (b : Bool) → eqb w 0 ≡ b → set_left chained m s w ≡ block F (bind (cond b none (some (rule_set chained s (0 + w)))) (cut_set chained m))
+  here : (w : ℕ) (b : Bool) → eqb w 0 ≡ b → set_left chained m s w ≡ block F (bind (cond b None (Some (rule_set chained s (0 + w)))) (cut_set chained m))
   unfolding set_left block bind
   here w true e = rw e
   here w false e = rw (e, zero-add w)
 
-  reached : c < count_at s slots → set_left chained m s (word s (slots + 2 * c)) ≡ block F (bind (get_or sets c none) (cut_set chained m))
+  reached : c < count_at s slots → set_left chained m s (word s (slots + 2 * c)) ≡ block F (bind (get_or sets c None) (cut_set chained m))
   unfolding reach
   reached h = here (word s (slots + 2 * c)) (eqb (word s (slots + 2 * c)) 0) refl ∙ ap (λ (o : Option (List Rule)). block F (bind o (cut_set chained m))) (sym (reached_at (rule_set chained s) s slots (count_at s slots) c h))
 
-  none_block : block F none ≡ none
+  none_block : block F None ≡ None
   unfolding block
   none_block = refl
 

@@ -1,8 +1,7 @@
 -- Format 2's slots by a walk over the numbers that the input's class map can have an entry for: one for each class that has one, without the nulls at the end.
-use Rattle.std.specs.Prelude.{ℕ, ◌+◌, ◌-◌, ◌≤◌, ◌<◌, ◌≡◌, true, false, cond, length, get_or, take}
+use Rattle.std.specs.Prelude.{ℕ, ◌+◌, ◌-◌, ◌≤◌, ◌<◌, ◌≡◌, true, false, cond, length, get_or, take, Option, None, Some}
 use Rattle.std.proofs.Math.Path.{refl, ap}
 use Rattle.std.proofs.Common.{sym, ◌∙◌, arith, length-append, take_all}
-use Rattle.std.proofs.Math.Option.{Option, none, some}
 use mathlib.Core.List.{List, [], ◌∷◌, ◌++◌, map, append_assoc, append-nil}
 use Rattle.std.proofs.lemmas.List.{take-append-le}
 use Rattle.meaning.specs.Words.{bind, is_some, member}
@@ -16,7 +15,7 @@ use Rattle.ranked_maps.specs.Present.{top_of, present_from, present, present_one
 module _ (cutOne : List Rule → Option (List Rule)) (covered : List ℕ) (sets : List (Option (List Rule))) where
   -- the slot of a class
   abbrev pub slot_of : ℕ → Option (List Rule)
-  slot_of c = cond (member c covered) (bind (get_or sets c none) cutOne) none
+  slot_of c = cond (member c covered) (bind (get_or sets c None) cutOne) None
 
   -- The slots of the classes from c on, in a loop over the numbers up to the map's top.
   module _ (t : List ℕ) (m : Map) where
@@ -42,18 +41,18 @@ module _ (cutOne : List Rule → Option (List Rule)) (covered : List ℕ) (sets 
 -- Nulls at the end.
 module _ {A : Type 0} where
   -- a null slot more at the end goes; one that is not null keeps all before it
-  trim_null : (done : List (Option A)) → trim (done ++ (none ∷ [])) ≡ trim done
+  trim_null : (done : List (Option A)) → trim (done ++ (None ∷ [])) ≡ trim done
   unfolding trim keep_slot
   trim_null [] = refl
   trim_null (x ∷ done) = ap (keep_slot x) (trim_null done)
 
-  keep_before : (x : Option A) (done : List (Option A)) (a : A) → keep_slot x (done ++ (some a ∷ [])) ≡ x ∷ (done ++ (some a ∷ []))
+  keep_before : (x : Option A) (done : List (Option A)) (a : A) → keep_slot x (done ++ (Some a ∷ [])) ≡ x ∷ (done ++ (Some a ∷ []))
   unfolding keep_slot
-  keep_before none [] a = refl
-  keep_before none (y ∷ done) a = refl
-  keep_before (some b) done a = refl
+  keep_before None [] a = refl
+  keep_before None (y ∷ done) a = refl
+  keep_before (Some b) done a = refl
 
-  trim_set : (done : List (Option A)) (a : A) → trim (done ++ (some a ∷ [])) ≡ done ++ (some a ∷ [])
+  trim_set : (done : List (Option A)) (a : A) → trim (done ++ (Some a ∷ [])) ≡ done ++ (Some a ∷ [])
   unfolding trim keep_slot
   trim_set [] a = refl
   trim_set (x ∷ done) a = ap (keep_slot x) (trim_set done a) ∙ keep_before x done a
@@ -72,18 +71,18 @@ module _ {A : Type 0} where
     pub slotting_said : {left rest done : List (Option A)} {h : ℕ} → Slotting all left done h → left ≡ rest → Slotting all rest done h
     slotting_said k e = rw e at k
 
-    pub slotting_null : {left done : List (Option A)} {h : ℕ} → Slotting all (none ∷ left) done h → Slotting all left (done ++ (none ∷ [])) h
+    pub slotting_null : {left done : List (Option A)} {h : ℕ} → Slotting all (None ∷ left) done h → Slotting all left (done ++ (None ∷ [])) h
     slotting_null {left} {done} {h} k = record {
-      whole = append_assoc done (none ∷ []) left ∙ k.whole;
-      near = omega (arith, k.near, length-append done (none ∷ []));
-      head = trim_null done ∙ k.head ∙ sym (take-append-le h done (none ∷ []) k.near);
+      whole = append_assoc done (None ∷ []) left ∙ k.whole;
+      near = omega (arith, k.near, length-append done (None ∷ []));
+      head = trim_null done ∙ k.head ∙ sym (take-append-le h done (None ∷ []) k.near);
     }
 
-    pub slotting_set : {left done : List (Option A)} {h : ℕ} {a : A} → Slotting all (some a ∷ left) done h → Slotting all left (done ++ (some a ∷ [])) (length done + 1)
+    pub slotting_set : {left done : List (Option A)} {h : ℕ} {a : A} → Slotting all (Some a ∷ left) done h → Slotting all left (done ++ (Some a ∷ [])) (length done + 1)
     slotting_set {left} {done} {h} {a} k = record {
-      whole = append_assoc done (some a ∷ []) left ∙ k.whole;
-      near = omega (arith, length-append done (some a ∷ []));
-      head = trim_set done a ∙ sym (take_all (length done + 1) (done ++ (some a ∷ [])) (omega (arith, length-append done (some a ∷ []))));
+      whole = append_assoc done (Some a ∷ []) left ∙ k.whole;
+      near = omega (arith, length-append done (Some a ∷ []));
+      head = trim_set done a ∙ sym (take_all (length done + 1) (done ++ (Some a ∷ [])) (omega (arith, length-append done (Some a ∷ []))));
     }
 
     pub slotting_end : {done : List (Option A)} {h : ℕ} → Slotting all [] done h → (done ≡ all) × (trim all ≡ take h all)
@@ -96,9 +95,9 @@ module _ {A : Type 0} (F : A → List ℕ) where
   -- nulls at the end go from the blocks as they go from the slots
   keep_block : (x : Option A) (l : List (Option A)) → map (block F) (keep_slot x l) ≡ keep_slot (block F x) (map (block F) l)
   unfolding keep_slot block
-  keep_block none [] = refl
-  keep_block none (y ∷ l) = refl
-  keep_block (some a) l = refl
+  keep_block None [] = refl
+  keep_block None (y ∷ l) = refl
+  keep_block (Some a) l = refl
 
   pub trim_blocks : (l : List (Option A)) → map (block F) (trim l) ≡ trim (map (block F) l)
   unfolding trim
@@ -108,14 +107,14 @@ module _ {A : Type 0} (F : A → List ℕ) where
 -- and they have no words
 keep_words : (x : Option (List ℕ)) (l : List (Option (List ℕ))) → blocks (keep_slot x l) ≡ blocks (x ∷ l)
 unfolding keep_slot blocks
-keep_words none [] = refl
-keep_words none (y ∷ l) = refl
-keep_words (some b) l = refl
+keep_words None [] = refl
+keep_words None (y ∷ l) = refl
+keep_words (Some b) l = refl
 
 cons_words : (x : Option (List ℕ)) (l r : List (Option (List ℕ))) → blocks l ≡ blocks r → blocks (x ∷ l) ≡ blocks (x ∷ r)
 unfolding blocks
-cons_words none l r e = e
-cons_words (some b) l r e = ap (λ (k : List ℕ). b ++ k) e
+cons_words None l r e = e
+cons_words (Some b) l r e = ap (λ (k : List ℕ). b ++ k) e
 
 pub trim_words : (l : List (Option (List ℕ))) → blocks (trim l) ≡ blocks l
 unfolding trim

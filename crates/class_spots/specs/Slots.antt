@@ -1,7 +1,6 @@
 -- The slots of format 2, as they stand in the area while it is not known where their sets will stand.
-use Rattle.std.specs.Prelude.{ℕ, zero, suc, ◌+◌, ◌-◌, ◌*◌, ◌/◌, ◌≤◌, ◌<◌, ◌≡◌, refl, Bool, true, false, cond, ◌&&◌, ◌||◌, List, [], ◌∷◌, map, length, take, eqb}
+use Rattle.std.specs.Prelude.{ℕ, zero, suc, ◌+◌, ◌-◌, ◌*◌, ◌/◌, ◌≤◌, ◌<◌, ◌≡◌, refl, Bool, true, false, cond, ◌&&◌, ◌||◌, List, [], ◌∷◌, map, length, take, eqb, Option, None, Some}
 use Rattle.std.proofs.Common.{sym, ap, ◌∙◌, true≢false, arith, eq-eqb, eqb-true}
-use Rattle.std.proofs.Math.Option.{Option, none, some}
 use Rattle.std.proofs.Math.Decide.{dec_lt}
 use Rattle.std.proofs.lemmas.List.{length-map}
 use Rattle.meaning.specs.Words.{word, flat, is_some, member}
@@ -20,7 +19,8 @@ use Rattle.area.specs.Part.{part}
 use Rattle.kept_rules.specs.Left.{AllInside, maps_in}
 use Rattle.kept_rules.specs.declared.Maps.{Maps}
 use Rattle.ranked_maps.specs.Present.{top_of, present_from, present, present_out}
-use Rattle.class_spots.specs.Sets.{slots_at, count_at, set_left, SetSound}
+use Rattle.class_places.specs.Places.{slots_at}
+use Rattle.class_spots.specs.Sets.{count_at, set_left, SetSound}
 use Rattle.class_spots.specs.declared.Classes.{Classes}
 use Rattle.class_spots.specs.declared.Slots.{Slots}
 
@@ -48,12 +48,12 @@ sets_full = 65526
 pub record Ready (chained : Bool) (s t : List ℕ) (maps : Maps) (classes : Classes) : Type 0 where
   pub short : length s ≤ limit
   pub header : slots_at chained + 2 * count_at s (slots_at chained) ≤ length s
-  pub sets : (i : ℕ) → i < count_at s (slots_at chained) → (word s (slots_at chained + 2 * i) ≡ 0 → ⊥) → set_fault (rule_fault chained s) s (word s (slots_at chained + 2 * i)) ≡ none
+  pub sets : (i : ℕ) → i < count_at s (slots_at chained) → (word s (slots_at chained + 2 * i) ≡ 0 → ⊥) → set_fault (rule_fault chained s) s (word s (slots_at chained + 2 * i)) ≡ None
   pub inside : AllInside t maps
   pub near : classes.marks < 0x1_0000_0000_0000
   pub few : maps.input.mask < 65536
   pub number : classes.count ≡ length (present t maps.input)
-  pub words : (at : ℕ) → SetSound chained s at → {ws : List ℕ} → set_left chained (maps_in t maps) s at ≡ some ws → 2 * length ws ≤ 65535 → All Word ws
+  pub words : (at : ℕ) → SetSound chained s at → {ws : List ℕ} → set_left chained (maps_in t maps) s at ≡ Some ws → 2 * length ws ≤ 65535 → All Word ws
 
 -- those of the classes that are marked in the cells from `at` on
 unfoldable pub marked_of : List ℕ → ℕ → List ℕ → List ℕ

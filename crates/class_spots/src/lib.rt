@@ -6,7 +6,7 @@ ghost use Rattle.meaning.specs.Subset.{limit};
 ghost use Rattle.numbers.specs.Leaves.{Leaves};
 ghost use Rattle.member_sets.specs.Dead.{Dead};
 ghost use Rattle.kept_rules.specs.Left.{AllInside, maps_in, rule_left};
-ghost use Rattle.class_spots.specs.Sets.{slots_at, set_place, set_left, set_most, SetSound, Asked};
+ghost use Rattle.class_spots.specs.Sets.{set_place, set_left, set_most, SetSound, Asked};
 ghost use Rattle.class_spots.specs.Placing.{SpotAsked, PlacedSpot};
 
 use area::{over, put};
@@ -37,16 +37,6 @@ pub struct Turn {
     pub slot: usize,
     pub first: usize,
     pub pos: usize,
-}
-
-// Where the slots stand, in the source and in the small table: after the format, the offsets of the coverage and of one class table or three, and the count.
-pub fn slots_at(chained: bool) -> usize
-    ensures { result ≡ slots_at chained }
-{
-    if chained {
-        return 12;
-    }
-    8
 }
 
 // The place of the set of a class; 0 if it has none, or if no retained covered glyph holds the class, which its bit in the cells from `marks` on tells.

@@ -2,7 +2,7 @@
 use Prim.Native.Nat.{ℕ, zero, suc, ◌+◌, ◌-◌, ◌%◌, ◌≤◌, ◌<◌}
 use mathlib.Core.Path.{◌≡◌, refl, sym, ◌∙◌}
 use mathlib.Core.Bool.{Bool, true, false, cond, ◌&&◌, ◌||◌, not}
-use mathlib.Core.Option.{Option}
+use Rattle.std.specs.Prelude.{Option}
 use mathlib.Core.List.{List}
 use native.Mathlib.Decide.{dec_lt}
 use native.Mathlib.Omega.{arith}
@@ -18,29 +18,6 @@ use Rattle.class_stretches.specs.Tables.{table_at}
 use Rattle.class_stretches.specs.Stretches.{Hint, Found}
 use Rattle.class_lists.specs.Elsewhere.{Elsewhere, elsewhere_all, elsewhere_set, elsewhere_more, elsewhere_wide}
 use Rattle.class_strays.specs.Numbered.{Holding, Cleared, first_put, Lowest, lowest_in, compared, marked_with, Marked, ClassesNumbered}
-
--- Clearing.
-
-module _ {t₀ : List ℕ} {base : ℕ} where
-  pub clearing_none : Cleared 0 t₀ t₀ base
-  clearing_none = record { each = λ c h. absurd (omega arith); elsewhere = elsewhere_all }
-
-  pub clearing_turn : {t : List ℕ} {n : ℕ} → Cleared n t₀ t base → base + n < length t₀ → Cleared (n + 1) t₀ (set t (base + n) 0) base
-  clearing_turn {t} {n} k h = record {
-    each = λ c l. cell c l (dec_lt c n);
-    elsewhere = elsewhere_more (elsewhere_wide (omega arith) (omega arith) k.elsewhere) (elsewhere_set t (base + n) 0 (omega arith) (omega arith));
-  }
-    where
-      cell : (c : ℕ) → c < n + 1 → Dec (c < n) → get_or (set t (base + n) 0) (base + c) 0 ≡ 0
-      cell c l (yes d) = get_or-set_other t (base + n) (base + c) 0 0 (λ q. omega arith) ∙ k.each c d
-      cell c l (no d) =
-          let q : c ≡ n = omega arith in
-          rw q (get_or-set_same t (base + n) 0 0 (omega (arith, k.elsewhere.size)))
-
-  pub clearing_end : {t : List ℕ} {n : ℕ} → Cleared n t₀ t base → n ≤ 65536 → 65536 ≤ n → Cleared 65536 t₀ t base
-  clearing_end {t} {n} k l h =
-      let e : n ≡ 65536 = omega arith in
-      rw e at k
 
 -- Stretches of ids that hold one class.
 
@@ -378,11 +355,8 @@ module _ {s : List ℕ} {at : ℕ} {q : List ℕ} {to : ℕ} {t₀ : List ℕ} {
     end : (g ≤ z) × (z ≤ l.last) × (z ≤ r.last)
     end = ends (ltb l.last r.last) refl m
 
-    pub straying_far : g ≤ z
+    straying_far : g ≤ z
     straying_far = end.0
-
-    pub straying_low : z < 65536
-    straying_low = omega (arith, end.1, v.0.low)
 
     held : (y : ℕ) → g ≤ y → y ≤ z → (class_in (table_at s at) y ≡ class_in (table_at s at) g) × (class_in (table_at q to) y ≡ class_in (table_at q to) g)
     held y a b = (

@@ -1,6 +1,5 @@
 -- Cells that hold the numbers of the classes of two class tables, and the way to them.
-use Rattle.std.specs.Prelude.{ℕ, ◌+◌, ◌-◌, ◌%◌, ◌≤◌, ◌<◌, ◌≡◌, cond, List, get_or, set, leb, eqb}
-use Rattle.std.proofs.Math.Option.{Option}
+use Rattle.std.specs.Prelude.{ℕ, ◌+◌, ◌-◌, ◌%◌, ◌≤◌, ◌<◌, ◌≡◌, cond, List, get_or, set, leb, eqb, Option}
 use Rattle.meaning.specs.Parts.{class_in}
 use Rattle.difference_laws.specs.ClassNumbers.{lowest, strays, class_number}
 use Rattle.class_stretches.specs.declared.Stretch.{Stretch}

@@ -66,6 +66,7 @@ pub fn mark_strays(left: &[u8], at: usize, right: &[u8], to: usize, t: &mut [u32
     let mut l = stretch_from(left, at, 0, 0);
     let mut r = stretch_from(right, to, 0, 0);
     let mut g = 0;
+    // A while: each step passes what two stretches share.
     while g < 65536 {
         l = onward(left, at, l, g);
         r = onward(right, to, r, g);

@@ -1,6 +1,5 @@
 -- A class table by its offset, which may be null, and by its format.
-use Rattle.std.specs.Prelude.{ℕ, ◌+◌, ◌*◌, ◌≤◌, ◌≡◌, true, cond, List, [], length, leb, eqb}
-use Rattle.std.proofs.Math.Option.{Option, none, some}
+use Rattle.std.specs.Prelude.{ℕ, ◌+◌, ◌*◌, ◌≤◌, ◌≡◌, true, cond, List, [], length, leb, eqb, Option, None, Some}
 use borrow.Author.Tests.{leb-true, eq-eqb, ne_eqb}
 use Rattle.meaning.specs.Words.{word, words, triples, inside}
 use Rattle.meaning.specs.Parts.{ranges_ascend, array_classes, range_classes, classes, classes_sound, listed}
@@ -8,7 +7,7 @@ use Rattle.laws.specs.Runs.{both}
 
 -- the class table at an offset; there is none where it is null
 unfoldable pub table_at : List ℕ → ℕ → Option (List (ℕ × ℕ))
-table_at s at = cond (eqb at 0) none (some (classes s at))
+table_at s at = cond (eqb at 0) None (Some (classes s at))
 
 -- what it lists
 abbrev pub classes_at : List ℕ → ℕ → List (ℕ × ℕ)
@@ -27,11 +26,11 @@ pub record ArrayInside (s : List ℕ) (at : ℕ) : Type 0 where
   pub inside : at + 6 + 2 * word s (at + 4) ≤ length s
 
 -- a null table lists nothing; another is read by its format
-pub null_table : (s : List ℕ) {at : ℕ} → at ≡ 0 → table_at s at ≡ none
+pub null_table : (s : List ℕ) {at : ℕ} → at ≡ 0 → table_at s at ≡ None
 unfolding table_at
 null_table s {at} h = rw (eq-eqb at 0 h)
 
-pub table_there : (s : List ℕ) {at : ℕ} → (at ≡ 0 → ⊥) → table_at s at ≡ some (classes s at)
+pub table_there : (s : List ℕ) {at : ℕ} → (at ≡ 0 → ⊥) → table_at s at ≡ Some (classes s at)
 unfolding table_at
 table_there s {at} h = rw (ne_eqb at 0 h)
 

@@ -2,7 +2,7 @@
 use Prim.Native.Nat.{ℕ, zero, suc, ◌+◌, ◌*◌, ◌≤◌, ◌<◌}
 use mathlib.Core.Path.{◌≡◌, refl, sym, ◌∙◌}
 use mathlib.Core.Bool.{Bool, true, false, cond}
-use mathlib.Core.Option.{Option, none, some}
+use Rattle.std.specs.Prelude.{Option, None, Some}
 use mathlib.Core.List.{List, []}
 use native.Mathlib.Omega.{arith}
 use native.Mathlib.Nat.{zero-add}
@@ -19,7 +19,8 @@ use Rattle.differences.specs.Content.{Content, content, rule_says, class_runs?, 
 use Rattle.class_stretches.specs.Tables.{table_at, NullOrSound, null_table}
 use Rattle.class_lists.specs.Elsewhere.{Elsewhere, elsewhere_more, elsewhere_wide}
 use Rattle.class_strays.specs.Numbered.{ClassesNumbered}
-use Rattle.class_tables.specs.Contexts.{back_at, input_at, ahead_at, count_at, set_at, set_place, rules_at, SoundTables, TablesNumbered}
+use Rattle.class_places.specs.Places.{back_at, input_at, ahead_at, count_at}
+use Rattle.class_tables.specs.Contexts.{set_at, set_place, rules_at, SoundTables, TablesNumbered}
 
 -- a place that was read
 pub sound_at : {s : List ℕ} {w at : ℕ} → w ≡ at → NullOrSound s at → NullOrSound s w
@@ -50,7 +51,7 @@ table_at_lem : (s : List ℕ) (slot : ℕ) → reach (classes s) s 0 slot ≡ ta
 unfolding reach table_at
 table_at_lem s slot = rw (zero-add (word s slot))
 
-no_table : (s : List ℕ) → none ≡ table_at s 0
+no_table : (s : List ℕ) → None ≡ table_at s 0
 no_table s = sym (null_table s refl)
 
 -- its content: each covered glyph with the rules of the set that its class reaches
@@ -62,21 +63,21 @@ class_table false s h = rw (table_context s false, h, table_at_lem s 4, no_table
 class_table true s h = rw (table_context s true, h, table_at_lem s 4, table_at_lem s 6, table_at_lem s 8)
 
 -- an offset of a header without a fault leads to a sound table, or nowhere
-class_sound : (s : List ℕ) (slot n : ℕ) → fault_through (classes_fault s) s 0 slot (suc n) ≡ none → NullOrSound s (word s slot) × (fault_through (classes_fault s) s 0 (slot + 2) n ≡ none)
+class_sound : (s : List ℕ) (slot n : ℕ) → fault_through (classes_fault s) s 0 slot (suc n) ≡ None → NullOrSound s (word s slot) × (fault_through (classes_fault s) s 0 (slot + 2) n ≡ None)
 unfolding fault_through classes_fault
 class_sound s slot n h =
-    let q = lowest_none (cond (eqb (word s slot) 0) none (classes_fault s (0 + word s slot))) (fault_through (classes_fault s) s 0 (slot + 2) n) h in
-    (record { sound = λ z. (part_sound (word s slot) (classes_sound s (word s slot)) none (rw (ne_eqb (word s slot) 0 z, zero-add (word s slot)) at q.0)).0 }, q.1)
+    let q = lowest_none (cond (eqb (word s slot) 0) None (classes_fault s (0 + word s slot))) (fault_through (classes_fault s) s 0 (slot + 2) n) h in
+    (record { sound = λ z. (part_sound (word s slot) (classes_sound s (word s slot)) None (rw (ne_eqb (word s slot) 0 z, zero-add (word s slot)) at q.0)).0 }, q.1)
 
 null_sound : (s : List ℕ) → NullOrSound s 0
 null_sound s = record { sound = λ z. absurd (z refl) }
 
 -- so that the tables of a context without a fault are sound
-pub tables_sound : (chained : Bool) (s : List ℕ) → fault (cond chained 2 1) s ≡ none → word s 0 ≡ 2 → SoundTables chained s
+pub tables_sound : (chained : Bool) (s : List ℕ) → fault (cond chained 2 1) s ≡ None → word s 0 ≡ 2 → SoundTables chained s
 unfolding context_fault
 tables_sound chained s h e = go chained (rw e at (part_sound 0 (inside s 0 2) (context_fault chained s) (sym (fault_context s chained) ∙ h)).1)
   where
-    go : (c : Bool) → cond c (header_fault true 3 10 (set_fault (rule_fault c s) s) s) (header_fault true 1 6 (set_fault (rule_fault c s) s) s) ≡ none → SoundTables c s
+    go : (c : Bool) → cond c (header_fault true 3 10 (set_fault (rule_fault c s) s) s) (header_fault true 1 6 (set_fault (rule_fault c s) s) s) ≡ None → SoundTables c s
     go false f =
         let a = class_sound s 4 0 (header_good s true 1 6 (set_fault (rule_fault false s) s) f).2 in
         record { back = null_sound s; input = a.0; ahead = null_sound s }
@@ -103,14 +104,14 @@ module _ (chained : Bool) (s : List ℕ) (g : ℕ) {at : ℕ} (e : at ≡ input_
     place_there l q = (rw (← e, ne_eqb at 0 z, ← f, ← h, ← k, lt-leb n class l) q.0, q.1)
 
 -- the i-th of n sets
-sets_at : (chained : Bool) (s : List ℕ) (slot n i : ℕ) → set_holds (get_or (reaches (rule_set chained s) s 0 slot n) i none) ≡ rules_at chained s (cond (leb n i) 0 (word s (slot + 2 * i)))
+sets_at : (chained : Bool) (s : List ℕ) (slot n i : ℕ) → set_holds (get_or (reaches (rule_set chained s) s 0 slot n) i None) ≡ rules_at chained s (cond (leb n i) 0 (word s (slot + 2 * i)))
 unfolding reach reaches set_holds rules_at
 sets_at chained s slot zero i = rw (le-leb 0 i (omega arith))
 sets_at chained s slot (suc n) zero =
     let e : slot + 2 * 0 ≡ slot = omega arith in
     rw (lt-leb (suc n) 0 (omega arith), e) (one (eqb (word s slot) 0))
   where
-    one : (b : Bool) → set_holds (cond b none (some (rule_set chained s (0 + word s slot)))) ≡ cond b [] (rule_set chained s (word s slot))
+    one : (b : Bool) → set_holds (cond b None (Some (rule_set chained s (0 + word s slot)))) ≡ cond b [] (rule_set chained s (word s slot))
     one true = refl
     one false = rw (zero-add (word s slot))
 sets_at chained s slot (suc n) (suc i) =
@@ -126,11 +127,11 @@ sets_at chained s slot (suc n) (suc i) =
 
 -- what the set of a glyph's class holds stands at its place
 pub class_set : (chained : Bool) (s : List ℕ) (g : ℕ)
-    → set_holds (bind (table_at s (input_at chained s)) (λ t. get_or (reaches (rule_set chained s) s 0 (count_at chained + 2) (word s (count_at chained))) (class_of t g) none)) ≡ rules_at chained s (set_place chained s g)
+    → set_holds (bind (table_at s (input_at chained s)) (λ t. get_or (reaches (rule_set chained s) s 0 (count_at chained + 2) (word s (count_at chained))) (class_of t g) None)) ≡ rules_at chained s (set_place chained s g)
 unfolding bind set_holds set_place set_at rules_at class_in listed table_at
 class_set chained s g = go (eqb (input_at chained s) 0)
   where
-    go : (b : Bool) → set_holds (bind (cond b none (some (classes s (input_at chained s)))) (λ t. get_or (reaches (rule_set chained s) s 0 (count_at chained + 2) (word s (count_at chained))) (class_of t g) none))
-        ≡ rules_at chained s (cond b 0 (cond (leb (word s (count_at chained)) (class_of (listed (cond b none (some (classes s (input_at chained s))))) g)) 0 (word s (count_at chained + 2 + 2 * class_of (listed (cond b none (some (classes s (input_at chained s))))) g))))
+    go : (b : Bool) → set_holds (bind (cond b None (Some (classes s (input_at chained s)))) (λ t. get_or (reaches (rule_set chained s) s 0 (count_at chained + 2) (word s (count_at chained))) (class_of t g) None))
+        ≡ rules_at chained s (cond b 0 (cond (leb (word s (count_at chained)) (class_of (listed (cond b None (Some (classes s (input_at chained s))))) g)) 0 (word s (count_at chained + 2 + 2 * class_of (listed (cond b None (Some (classes s (input_at chained s))))) g))))
     go true = refl
     go false = sets_at chained s (count_at chained + 2) (word s (count_at chained)) (class_of (classes s (input_at chained s)) g)

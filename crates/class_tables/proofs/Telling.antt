@@ -2,7 +2,7 @@
 use Prim.Native.Nat.{ℕ, zero, suc, ◌+◌, ◌*◌, ◌/◌, ◌%◌, ◌<◌}
 use mathlib.Core.Path.{◌≡◌, refl, sym, ap, ap₂, ◌∙◌}
 use mathlib.Core.Bool.{Bool, true, false, cond}
-use mathlib.Core.Option.{Option, none}
+use Rattle.std.specs.Prelude.{Option, None}
 use mathlib.Core.List.{List, [], ◌∷◌, map}
 use native.Mathlib.Omega.{arith}
 use lib.ListN.{get_or}
@@ -26,7 +26,8 @@ use Rattle.rule_says.specs.declared.Shape.{Shape}
 use Rattle.rule_says.specs.Said.{numbered, says_at, base_of, says_by, lowest}
 use Rattle.class_stretches.specs.Tables.{table_at, NullOrSound, null_table, table_there}
 use Rattle.class_strays.specs.Numbered.{ClassesNumbered}
-use Rattle.class_tables.specs.Contexts.{back_at, input_at, ahead_at, SoundTables, TablesNumbered, class_says, class_says_by}
+use Rattle.class_places.specs.Places.{back_at, input_at, ahead_at}
+use Rattle.class_tables.specs.Contexts.{SoundTables, TablesNumbered, class_says, class_says_by}
 
 -- two tests that tell equality agree where the equalities do
 told : {A B : Type 0} {same : A → A → Bool} {also : B → B → Bool} → Tells same → Tells also → (a b : A) (c d : B) → (a ≡ b → c ≡ d) → (c ≡ d → a ≡ b) → same a b ≡ also c d
@@ -117,7 +118,7 @@ module _ (s : List ℕ) (bytes : (i : ℕ) → get_or s i 0 < 256) where
   -- a sound class table has classes
   table_good : (at : ℕ) → NullOrSound s at → Opt Classes (table_at s at)
   table_good zero k =
-      let e : table_at s 0 ≡ none = null_table s refl in
+      let e : table_at s 0 ≡ None = null_table s refl in
       rw e tt
   table_good (suc at) k =
       let z : suc at ≡ 0 → ⊥ = λ e. omega arith in

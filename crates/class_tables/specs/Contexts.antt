@@ -4,27 +4,10 @@ use Rattle.meaning.specs.Words.{word}
 use Rattle.meaning.specs.Parts.{class_in}
 use Rattle.meaning.specs.Tables.{Rule, rule, rule_set}
 use Rattle.differences.specs.Content.{Says, rule_says, class_runs?}
+use Rattle.class_places.specs.Places.{back_at, input_at, ahead_at, count_at}
 use Rattle.class_stretches.specs.Tables.{table_at, NullOrSound}
 use Rattle.class_strays.specs.Numbered.{ClassesNumbered}
 use Rattle.rule_rows.specs.Rows.{side_of}
-
--- where the class tables of backtrack, input and lookahead stand; 0 for a null one
-abbrev pub back_at : Bool → List ℕ → ℕ
-back_at false s = 0
-back_at true s = word s 4
-
-abbrev pub input_at : Bool → List ℕ → ℕ
-input_at false s = word s 4
-input_at true s = word s 6
-
-abbrev pub ahead_at : Bool → List ℕ → ℕ
-ahead_at false s = 0
-ahead_at true s = word s 8
-
--- where the count of the sets stands
-abbrev pub count_at : Bool → ℕ
-count_at false = 6
-count_at true = 10
 
 -- where the set of a class stands; 0 for none
 unfoldable pub set_at : List ℕ → ℕ → ℕ → ℕ

@@ -4,51 +4,13 @@
 ghost use Rattle.std.specs.Prelude.{◌≡◌, ◌≤◌, ◌<◌, length};
 ghost use Rattle.class_stretches.specs.Tables.{NullOrSound};
 ghost use Rattle.class_lists.specs.Elsewhere.{Elsewhere};
-ghost use Rattle.class_tables.specs.Contexts.{back_at, input_at, ahead_at, count_at, set_place, SoundTables, TablesNumbered};
+ghost use Rattle.class_places.specs.Places.{input_at};
+ghost use Rattle.class_tables.specs.Contexts.{set_place, SoundTables, TablesNumbered};
 
 use class_numbers::number_classes;
+use class_places::{ahead_at, back_at, count_at, input_at};
 use class_stretches::class_of;
 use wire::word_at;
-
-// Where the class table of the backtrack stands; 0 for a null one.
-fn back_at(chained: bool, src: &[u8]) -> usize
-    ensures { result ≡ back_at chained src.now }
-{
-    if chained {
-        return word_at(src, 4);
-    }
-    0
-}
-
-// Where that of the input stands.
-fn input_at(chained: bool, src: &[u8]) -> usize
-    ensures { result ≡ input_at chained src.now }
-{
-    if chained {
-        return word_at(src, 6);
-    }
-    word_at(src, 4)
-}
-
-// Where that of the lookahead stands.
-fn ahead_at(chained: bool, src: &[u8]) -> usize
-    ensures { result ≡ ahead_at chained src.now }
-{
-    if chained {
-        return word_at(src, 8);
-    }
-    0
-}
-
-// Where the count of the sets stands.
-fn count_at(chained: bool) -> usize
-    ensures { (result ≡ count_at chained) × (result ≤ 10) }
-{
-    if chained {
-        return 10;
-    }
-    6
-}
 
 // Where the set stands that a covered glyph reaches by its class; 0 for none: a null set, a class past the last set, or a null class table.
 pub fn set_of(chained: bool, src: &[u8], glyph: usize) -> usize

@@ -2,7 +2,7 @@
 use Prim.Native.Nat.{ℕ, ◌+◌, ◌-◌, ◌*◌, ◌%◌, ◌≤◌, ◌<◌}
 use mathlib.Core.Path.{◌≡◌, refl, sym, ap, ◌∙◌, subst}
 use mathlib.Core.Bool.{Bool, true, false}
-use mathlib.Core.Option.{Option, none}
+use Rattle.std.specs.Prelude.{Option, None}
 use mathlib.Core.List.{List, [], ◌∷◌, ◌++◌, map, append-nil}
 use native.Mathlib.Omega.{arith}
 use lib.ListN.{length, get_or, take, length-append, length-map}
@@ -34,7 +34,7 @@ use Rattle.new_class_tables.proofs.Placing.{keeps_store, touches_none, touches_n
 
 -- what the class tables are, by the places that stand for them in the book
 abbrev pub left_of : List (Option (List ℕ)) → ℕ → Option (List ℕ)
-left_of all n = get_or all (n - 1) none
+left_of all n = get_or all (n - 1) None
 
 -- some of them are gathered, and fit words
 pub record Tabled (packed : Bool) (all : List (Option (List ℕ))) (gap p : ℕ) (bs : List (Option (List ℕ))) (before area : List ℕ) (end : ℕ) (book : List ℕ) : Type 0 where

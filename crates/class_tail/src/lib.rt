@@ -10,8 +10,9 @@ ghost use Rattle.remade_classes.specs.Tail.{cover_of, table_blocks, TailIn, Bloc
 
 use area::{over, put};
 use area_parts::write_cover;
+use class_places::slots_at;
 use class_slots::settle_slots;
-use class_spots::{Turn, slots_at};
+use class_spots::Turn;
 use known_blocks::begin;
 use new_class_tables::write_table;
 use remade_classes::{OldTable, Tail, make_table};

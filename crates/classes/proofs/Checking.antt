@@ -8,10 +8,7 @@ use lib.Dec.{leb}
 use borrow.Author.Tests.{le-leb, lt-leb, eq-eqb, ne_eqb}
 use Rattle.meaning.specs.Words.{word, triples, inside}
 use Rattle.meaning.specs.Parts.{ranges_ascend, classes_sound}
-use Rattle.meaning.specs.Fault.{part_fault, classes_fault}
 use Rattle.laws.specs.Left.{triples_left, triples_all, triples_none}
-use Rattle.faults.specs.Fault.{fault_of}
-use Rattle.faults.specs.declared.Fault.TheVariants.{At, Sound}
 use Rattle.classes.specs.Formats.{array_sound}
 
 -- bytes after others lie inside as the others do with them
@@ -22,15 +19,6 @@ inside_on s at a b =
     rw e
 
 module _ (s : List ℕ) (at : ℕ) where
-  -- a table is faulty at its start, or not at all
-  pub fault_none : classes_sound s at ≡ true → Sound ≡ fault_of (classes_fault s at)
-  unfolding classes_fault part_fault
-  fault_none h = rw h
-
-  pub fault_here : classes_sound s at ≡ false → At at ≡ fault_of (classes_fault s at)
-  unfolding classes_fault part_fault
-  fault_here h = rw h
-
   -- the array's three tests, in order
   pub array_short : inside s at 6 ≡ false → false ≡ array_sound s at
   unfolding array_sound

@@ -5,21 +5,20 @@ ghost use Rattle.std.specs.Prelude.{◌≡◌, true, ◌+◌, ◌*◌, ◌<◌};
 ghost use Rattle.meaning.specs.Words.{triples};
 ghost use Rattle.meaning.specs.Parts.{ranges_ascend, classes_sound};
 ghost use Rattle.meaning.specs.Fault.{classes_fault};
-ghost use Rattle.faults.specs.Fault.{fault_of};
 ghost use Rattle.classes.specs.Formats.{array_sound};
 
-use faults::Fault;
 use wire::{inside, word_at};
 
 // Where the class table at `at` is faulty: at its start, or nowhere.
-pub fn check(src: &[u8], at: usize) -> Fault
+#[tactic(auto, unfolding(meaning::specs::Fault::classes_fault, meaning::specs::Fault::part_fault))]
+pub fn check(src: &[u8], at: usize) -> Option<usize>
     requires { at < 0x1_0000_0000_0000 }
-    ensures { result ≡ fault_of (classes_fault src.now at) }
+    ensures { result ≡ classes_fault src.now at }
 {
     if sound(src, at) {
-        return Fault::Sound;
+        return None;
     }
-    Fault::At(at)
+    Some(at)
 }
 
 // Whether the class table at `at` lies inside the source, has format 1 or 2, and ascends or ends by glyph 65,535.
@@ -65,8 +64,7 @@ fn ranges_ascend(src: &[u8], at: usize, n: usize) -> bool
     ensures { result ≡ ranges_ascend 0 (triples src.now at n) }
 {
     let mut low = 0;
-    let mut i = 0;
-    while i < n {
+    for i in 0..n {
         let first = word_at(src, at + 6 * i);
         let last = word_at(src, at + 6 * i + 2);
         if first < low {
@@ -76,7 +74,6 @@ fn ranges_ascend(src: &[u8], at: usize, n: usize) -> bool
             return false;
         }
         low = last + 1;
-        i += 1;
     }
     true
 }

@@ -9,7 +9,6 @@ ghost use Rattle.meaning.specs.Fault.{first_below, second_below, classes_below};
 ghost use Rattle.covered_between.specs.Stretches.{stretches};
 
 use covered_between::{Stretch, past};
-use faults::Fault;
 use view::{header, subtable_place};
 use wire::word_at;
 
@@ -51,12 +50,10 @@ fn listed_below(src: &[u8], at: usize, n: usize) -> bool
     ensures { result ≡ every (λ e. ltb e.1 n) (classes src.now at) }
 {
     let k = count(src, at);
-    let mut i = 0;
-    while i < k {
+    for i in 0..k {
         if n <= stretch_at(src, at, i).class {
             return false;
         }
-        i += 1;
     }
     true
 }
@@ -67,17 +64,16 @@ fn covered_below(src: &[u8], cover: usize, at: usize, n: usize) -> bool
     ensures { result ≡ every (λ g. ltb (class_of (classes src.now at) g) n) (coverage src.now cover) }
 {
     let k = count(src, at);
-    let mut i = 0;
-    while i < k {
+    for i in 0..k {
         if past(src, cover, stretch_at(src, at, i), n) {
             return false;
         }
-        i += 1;
     }
     true
 }
 
 // Whether the first class of each covered glyph is below `n`; not judged where the coverage is null, or it or the first class table is faulty.
+#[tactic(auto, unfolding(meaning::specs::Fault::first_below, meaning::specs::Fault::coverage_fault, meaning::specs::Fault::classes_fault, meaning::specs::Fault::part_fault))]
 fn first_below(src: &[u8], n: usize) -> bool
     ensures { result ≡ first_below src.now n }
 {
@@ -85,13 +81,13 @@ fn first_below(src: &[u8], n: usize) -> bool
     if cover == 0 {
         return true;
     }
-    let Fault::Sound = coverage::check(src, cover) else {
+    if coverage::check(src, cover).is_some() {
         return true;
-    };
+    }
     let at = subtable_place(src, 8);
-    let Fault::Sound = classes::check(src, at) else {
+    if classes::check(src, at).is_some() {
         return true;
-    };
+    }
     if n == 0 {
         return coverage_glyphs::count(src, cover) == 0;
     }
@@ -99,13 +95,14 @@ fn first_below(src: &[u8], n: usize) -> bool
 }
 
 // Whether the second class of any glyph is below `n`: 0, and each that is listed; not judged where the second class table is faulty.
+#[tactic(auto, unfolding(meaning::specs::Fault::second_below, meaning::specs::Fault::classes_fault, meaning::specs::Fault::part_fault))]
 fn second_below(src: &[u8], n: usize) -> bool
     ensures { result ≡ second_below src.now n }
 {
     let at = subtable_place(src, 10);
-    let Fault::Sound = classes::check(src, at) else {
+    if classes::check(src, at).is_some() {
         return true;
-    };
+    }
     if n == 0 {
         return false;
     }
@@ -113,6 +110,7 @@ fn second_below(src: &[u8], n: usize) -> bool
 }
 
 // Whether classes are below their counts; not judged where one of the class tables is null.
+#[tactic(auto, unfolding(meaning::specs::Fault::classes_below))]
 pub fn classes_below(src: &[u8]) -> bool
     ensures { result ≡ classes_below src.now }
 {

@@ -6,7 +6,7 @@ ghost use Rattle.differences.specs.Compare.{refusal, compare};
 ghost use Rattle.compare_refusals.specs.Answers.{number_of, length_of, compared_of, decoded};
 
 use compare_lists::lay;
-use compare_refusals::{Compared, Judged, refusal};
+use compare_refusals::{Refusal, judge};
 
 // The call with lent cells, whatever they hold: what differs between two subtables of this kind, listed in the buffer, or the first of the refusals that applies.
 // Where the cells are too few our own are taken; `set_differences::NUM`, `NUMS`, `HEADS` and `LINKS` are enough. Only rules in format 1 or 2 need any.
@@ -19,21 +19,19 @@ pub fn compare_in(
     heads: &mut [u32],
     links: &mut [u32],
     out: &mut [u8],
-) -> Compared
+) -> Result<usize, Refusal>
     ensures { (compared_of result out.new ≡ compare kind left.now right.now out.old) × (length_of result < 0x100_0000_0000_0000) }
 {
-    if let Judged::Refused(answer) = refusal(kind, left, right) {
-        return answer;
-    }
+    judge(kind, left, right)?;
     let size = lay(kind, left, right, num, nums, heads, links, out);
     if out.len() < size {
-        return Compared::NoRoom(size);
+        return Err(Refusal::NoRoom(size));
     }
-    Compared::Listed(size)
+    Ok(size)
 }
 
 // The call without lent cells.
-pub fn compare(kind: usize, left: &[u8], right: &[u8], out: &mut [u8]) -> Compared
+pub fn compare(kind: usize, left: &[u8], right: &[u8], out: &mut [u8]) -> Result<usize, Refusal>
     ensures { (compared_of result out.new ≡ compare kind left.now right.now out.old) × (length_of result < 0x100_0000_0000_0000) }
 {
     let mut num = [0u32; 1];
@@ -46,37 +44,34 @@ pub fn compare(kind: usize, left: &[u8], right: &[u8], out: &mut [u8]) -> Compar
 }
 
 // The number of an answer in document 01.
-pub fn number_of(a: Compared) -> usize
+pub fn number_of(a: Result<usize, Refusal>) -> usize
     ensures { result ≡ number_of a }
 {
     match a {
-        Compared::Listed(_) => 0,
-        Compared::BadKind => 1,
-        Compared::LongSource => 4,
-        Compared::BadFormat => 5,
-        Compared::Malformed(_) => 6,
-        Compared::Device => 7,
-        Compared::NoRoom(_) => 10,
+        Ok(_) => 0,
+        Err(Refusal::BadKind) => 1,
+        Err(Refusal::LongSource) => 4,
+        Err(Refusal::BadFormat) => 5,
+        Err(Refusal::Malformed(_)) => 6,
+        Err(Refusal::Device) => 7,
+        Err(Refusal::NoRoom(_)) => 10,
     }
 }
 
 // The length that comes with an answer.
-pub fn length_of(a: Compared) -> usize
+pub fn length_of(a: Result<usize, Refusal>) -> usize
     ensures { result ≡ length_of a }
 {
     match a {
-        Compared::Listed(n) => n,
-        Compared::BadKind => 0,
-        Compared::LongSource => 0,
-        Compared::BadFormat => 0,
-        Compared::Malformed(place) => place,
-        Compared::Device => 0,
-        Compared::NoRoom(n) => n,
+        Ok(n) => n,
+        Err(Refusal::Malformed(place)) => place,
+        Err(Refusal::NoRoom(n)) => n,
+        Err(_) => 0,
     }
 }
 
 // An answer as one number: its number times 2^56, plus its length, which can pass 32 bits.
-fn one_number(a: Compared) -> u64
+fn one_number(a: Result<usize, Refusal>) -> u64
     requires { length_of a < 0x100_0000_0000_0000 }
     ensures { result ≡ number_of a * 0x100_0000_0000_0000 + length_of a }
 {

@@ -3,6 +3,7 @@ use Prim.Native.Nat.{ℕ, ◌≤◌, ◌<◌}
 use mathlib.Core.Path.{◌≡◌, refl, ap, ◌∙◌}
 use mathlib.Core.Bool.{Bool, true, false, cond}
 use mathlib.Core.List.{List, [], ◌++◌}
+use Rattle.std.specs.Prelude.{Result}
 use native.Mathlib.Omega.{arith}
 use lib.ListN.{length, take, drop, replicate, length-append, length-take}
 use lib.Seq.{length-take-le}
@@ -17,7 +18,7 @@ use Rattle.report_lines.specs.Text.{Put, Printable, line_text}
 use Rattle.report_lines.specs.Lengths.{line_length, lines_length}
 use Rattle.report_lines.proofs.Writing.{put_length}
 use Rattle.compare_refusals.specs.Answers.{number_of, length_of, compared_of}
-use Rattle.compare_refusals.specs.declared.Compared.{Compared}
+use Rattle.compare_refusals.specs.declared.Refusal.{Refusal}
 use Rattle.compare_file.specs.CompareFile.{kind_in, left_part, right_part, good_file, printed}
 use Rattle.compare_job.specs.Program.{compare_file, said, room, program, outcome_of, text_room}
 use Rattle.compare_job.specs.declared.Answered.{Answered}
@@ -32,7 +33,7 @@ module _ (f out : List ℕ) where
   unfolding compare_file
   faulty h = rw h
 
-  pub compared : good_file f ≡ true → {kind number len : ℕ} {l r after : List ℕ} (a : Compared) → (kind ≡ kind_in f) × (kind < 65536) → l ≡ bytes_of f (left_part f) → r ≡ bytes_of f (right_part f)
+  pub compared : good_file f ≡ true → {kind number len : ℕ} {l r after : List ℕ} (a : Result ℕ Refusal) → (kind ≡ kind_in f) × (kind < 65536) → l ≡ bytes_of f (left_part f) → r ≡ bytes_of f (right_part f)
       → (compared_of a after ≡ compare kind l r out) × (length_of a < 0x100_0000_0000_0000) → number ≡ number_of a → len ≡ length_of a → record { number = number; len = len; out = after } ≡ compare_file f out
   unfolding compare_file
   compared h a k l r e n m = rw (n, m, h, ← k.0, ← l, ← r) e.0

@@ -7,7 +7,7 @@ ghost use Rattle.compare_job.specs.Program.{compare_file, said, outcome_of, prog
 
 use compare::{compare, length_of, number_of};
 use compare_file::{good_file, kind_of, left_of, put_answer, right_of};
-use input::{Input, read_input};
+use input::read_input;
 use std::io::Write;
 
 // One byte more than the longest compare file has, so that a longer one is seen.
@@ -78,7 +78,7 @@ fn answer(file: &[u8], text: &mut [u8]) -> usize
 // Reads the file, and writes the text at once. Where that fails, a sentence on standard error says so; a failed read leaves standard output empty.
 fn main(rt: HostRuntime) {
     let mut file = [0u8; FILE];
-    let Input::Bytes(n) = read_input(&mut rt.stdin(), &mut file) else {
+    let Ok(n) = read_input(&mut rt.stdin(), &mut file) else {
         let _ = eprintln!(rt; "compare_job: standard input could not be read");
         return;
     };

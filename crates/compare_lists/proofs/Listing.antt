@@ -2,7 +2,7 @@
 use Prim.Native.Nat.{ℕ, ◌+◌, ◌≤◌, ◌<◌}
 use mathlib.Core.Path.{◌≡◌, refl, sym, ap, ◌∙◌}
 use mathlib.Core.Bool.{Bool, true, false, cond, ◌&&◌, not, true≢false}
-use mathlib.Core.Option.{none}
+use Rattle.std.specs.Prelude.{None}
 use mathlib.Core.List.{List}
 use native.Mathlib.Decide.{dec_lt}
 use native.Mathlib.Omega.{arith}
@@ -24,7 +24,7 @@ use Rattle.compare_lists.proofs.Formats.{context_kind}
 
 -- a subtable by its kind
 module _ {kind k : ℕ} (e : kind ≡ k) (l r : List ℕ) where
-  pub sound_as : {s : List ℕ} → Passes kind s → fault k s ≡ none
+  pub sound_as : {s : List ℕ} → Passes kind s → fault k s ≡ None
   sound_as p = rw (← e) p.sound
 
   pub listed_as : (most : ℕ) → most ≤ 0x100_0000_0000 → {out out' : List ℕ} {q : ℕ} → Listed (differences (content (table k l)) (content (table k r))) out 0 out' q × (q ≤ 0 + most)

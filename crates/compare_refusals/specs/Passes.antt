@@ -1,6 +1,5 @@
 -- What is known of a subtable that is not refused.
-use Rattle.std.specs.Prelude.{ℕ, ◌≤◌, ◌≡◌, Bool, true, ◌&&◌, not, List, length, eqb}
-use Rattle.std.proofs.Math.Option.{none}
+use Rattle.std.specs.Prelude.{ℕ, ◌≤◌, ◌≡◌, Bool, true, ◌&&◌, not, List, length, eqb, None}
 use Rattle.meaning.specs.Words.{word}
 use Rattle.meaning.specs.Fault.{fault}
 use Rattle.differences.specs.Compare.{compared_format}
@@ -9,7 +8,7 @@ use Rattle.gathered.specs.Gathered.{Scratch}
 pub record Passes (kind : ℕ) (s : List ℕ) : Type 0 where
   pub short : length s ≤ 262144
   pub format : compared_format kind (word s 0) ≡ true
-  pub sound : fault kind s ≡ none
+  pub sound : fault kind s ≡ None
 
 -- whether rules are to be paired, by the kind and the two formats: contexts of one format, 1 or 2, and ligatures
 unfoldable pub by_rules : ℕ → ℕ → ℕ → Bool

@@ -2,7 +2,7 @@
 use Prim.Native.Nat.{ℕ, ◌+◌, ◌/◌, ◌%◌, ◌≤◌, ◌<◌}
 use mathlib.Core.Path.{◌≡◌, refl, sym, ap, ◌∙◌, subst}
 use mathlib.Core.Bool.{Bool, true, false, cond}
-use mathlib.Core.Option.{Option}
+use Rattle.std.specs.Prelude.{Option, Result}
 use mathlib.Core.List.{List, [], ◌∷◌, ◌++◌, map}
 use mathlib.Core.Logic.{◌⊎◌, inl, inr}
 use native.Mathlib.Decide.{dec_lt}
@@ -26,7 +26,7 @@ use Rattle.numbers.specs.Alike.{holds_alike, set_alike}
 use Rattle.kept_rules.specs.Left.{maps_in}
 use Rattle.class_spots.specs.Slots.{slot_blocks, present_few, slots_marked}
 use Rattle.tried.specs.Tries.{Tries, tries_less}
-use Rattle.tried.specs.declared.Tried.{Tried}
+use Rattle.tried.specs.declared.NotCut.{NotCut}
 use Rattle.remade_classes.specs.Front.{front_size, front_elsewhere, joined_holds}
 use Rattle.remade_classes.specs.Made.{old_same, old_stays}
 use Rattle.remade_classes.specs.Tail.{table_blocks, cover_of}
@@ -38,7 +38,8 @@ use Rattle.ranked_maps.specs.Present.{top_of, top_small}
 use Rattle.ranked_maps.specs.Mapped.{holds_null}
 use Rattle.class_ranks.specs.Same.{Same, after_same, part_alike, present_same}
 use Rattle.class_sides.specs.Sides.{mark_cells, Asks, SideIn, Sided, InputAsks, InputIn, InputLaid}
-use Rattle.context_classes.specs.Meaning.{back_at, input_at, ahead_at, rules_maps, tables_of, blocks_of, cut_words, slots_alike}
+use Rattle.class_places.specs.Places.{back_at, input_at, ahead_at}
+use Rattle.context_classes.specs.Meaning.{rules_maps, tables_of, blocks_of, cut_words, slots_alike}
 use Rattle.context_classes.specs.Cutting.{enough_cells, prepared_of, Begins, ClassesIn, ClassesLaid, Cuts}
 use Rattle.context_classes.proofs.Smallness.{left_fits}
 use Rattle.remade_classes.specs.declared.Noted.{Noted}
@@ -276,7 +277,7 @@ module _ {s glyphs lookups : List ℕ} {b : Begun} {t₀ area : List ℕ} (a : C
             step true = refl
             step false = refl
 
-        pub cut_into : {p : Prepared} (r : Tried) (out after : List ℕ) → p ≡ prepared_of b s c l → Tries ⊥ (length area < enough_area) r out after (left_into out s glyphs t₂ p)
+        pub cut_into : {p : Prepared} (r : Result ℕ NotCut) (out after : List ℕ) → p ≡ prepared_of b s c l → Tries ⊥ (length area < enough_area) r out after (left_into out s glyphs t₂ p)
             → Tries (length t₀ < enough_cells) (length area < enough_area) r out after (written_in b.marks.layout out (cut gm es (class_context chained s)))
         cut_into r out after e k =
             tries_less ⊥ (length area < enough_area) (length t₀ < enough_cells) (length area < enough_area) r out after (written_in b.marks.layout out (cut gm es (class_context chained s))) (λ f. absurd f) (λ f. f)

@@ -1,6 +1,5 @@
 -- What a cut of a context by class asks and answers.
-use Rattle.std.specs.Prelude.{ℕ, ◌+◌, ◌*◌, ◌/◌, ◌≤◌, ◌<◌, ◌≡◌, Bool, true, List, length}
-use Rattle.std.proofs.Math.Option.{none}
+use Rattle.std.specs.Prelude.{ℕ, ◌+◌, ◌*◌, ◌/◌, ◌≤◌, ◌<◌, ◌≡◌, Bool, true, List, length, None}
 use Rattle.meaning.specs.Words.{word, keys, ascends}
 use Rattle.meaning.specs.Maps.{map_entries, good_form, glyph_entries, good_glyph_map}
 use Rattle.meaning.specs.Parts.{coverage, coverage_sound}
@@ -17,7 +16,8 @@ use Rattle.glyph_runs.specs.Runs.{GlyphMap}
 use Rattle.ranked_maps.specs.Present.{most_cells}
 use Rattle.remade_classes.specs.Made.{OldIn}
 use Rattle.remade_classes.specs.declared.Noted.{Noted}
-use Rattle.context_classes.specs.Meaning.{back_at, input_at, ahead_at, SoundContext}
+use Rattle.class_places.specs.Places.{back_at, input_at, ahead_at}
+use Rattle.context_classes.specs.Meaning.{SoundContext}
 use Rattle.class_sides.specs.Sides.{InputIn}
 use Rattle.context_classes.specs.declared.Begun.{Begun}
 use Rattle.context_classes.specs.declared.Classed.{Classed}
@@ -29,7 +29,7 @@ enough_cells = 2 * 65536 + 3 * most_cells + 2048
 
 -- what a cut asks: the source is a context of format 2 without a fault and is not over the limit, the glyph map is good, and the old numbers of the lookup map ascend
 pub record Sound (chained : Bool) (s : List ℕ) (form : ℕ) (glyphs lookups : List ℕ) : Type 0 where
-  pub sound : context_fault chained s ≡ none
+  pub sound : context_fault chained s ≡ None
   pub format : word s 0 ≡ 2
   pub source : length s ≤ limit
   pub form_good : good_form form ≡ true

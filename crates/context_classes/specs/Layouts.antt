@@ -1,9 +1,8 @@
 -- The words of format 2 in either layout, as the definitions say them, and when they fit.
-use Rattle.std.specs.Prelude.{ℕ, ◌+◌, ◌*◌, ◌≡◌, refl, Bool, ◌&&◌, ltb, eqb}
+use Rattle.std.specs.Prelude.{ℕ, ◌+◌, ◌*◌, ◌≡◌, refl, Bool, ◌&&◌, ltb, eqb, Option, None, Some}
 use Rattle.std.proofs.Common.{sym, ◌∙◌, leb-true, leb-false, lt-ltb, le-ltb}
 use Rattle.std.proofs.Math.Path.{ap, ap₂}
 use Rattle.std.proofs.Math.Bool.{true, false, cond}
-use Rattle.std.proofs.Math.Option.{Option, none, some}
 use mathlib.Core.List.{List, [], ◌∷◌, map, append-nil}
 use native.Mathlib.Omega.{arith}
 use Rattle.std.proofs.Math.ListN.{length}
@@ -25,8 +24,8 @@ use Rattle.class_finish.specs.Table.{cover_place, class_table}
 tables_short : (cs : List (Option (List (ℕ × ℕ)))) → short_tables cs ≡ short_blocks (map (block class_words) cs)
 unfolding short_tables short_blocks block
 tables_short [] = refl
-tables_short (none ∷ cs) = tables_short cs
-tables_short (some es ∷ cs) = ap (λ (t : Bool). leb (length (class_words es)) 65538 && t) (tables_short cs)
+tables_short (None ∷ cs) = tables_short cs
+tables_short (Some es ∷ cs) = ap (λ (t : Bool). leb (length (class_words es)) 65538 && t) (tables_short cs)
 
 -- a number that fits a word
 below_is : (q : ℕ) → ltb q 65536 ≡ leb q 65535
@@ -45,21 +44,21 @@ module _ (cover : List ℕ) (tables sets : List (Option (List ℕ))) where
   abbrev first : ℕ
   first = 6 + 2 * length tables + 2 * length sets
 
-  plain_words : sets_layout 2 (some cover ∷ tables) [] sets ≡ class_table false cover tables sets
+  plain_words : sets_layout 2 (Some cover ∷ tables) [] sets ≡ class_table false cover tables sets
   unfolding sets_layout class_table offsets blocks
   plain_words =
-      let e : 4 + 2 * length (some cover ∷ tables) + 2 * length {A = ℕ} [] + 2 * length sets ≡ first = omega arith in
+      let e : 4 + 2 * length (Some cover ∷ tables) + 2 * length {A = ℕ} [] + 2 * length sets ≡ first = omega arith in
       rw e
 
-  packed_words_lem : packed (sets_header 2 (some cover) tables [] sets) ≡ class_table true cover tables sets
+  packed_words_lem : packed (sets_header 2 (Some cover) tables [] sets) ≡ class_table true cover tables sets
   unfolding class_table offsets blocks
   packed_words_lem =
       let e : 6 + 2 * length tables + 2 * length {A = ℕ} [] + 2 * length sets ≡ first = omega arith in
-      packed_sets 2 (some cover) tables [] sets ∙ rw (append-nil cover, e)
+      packed_sets 2 (Some cover) tables [] sets ∙ rw (append-nil cover, e)
 
 module _ (chained : Bool) (cov : List ℕ) (b i a : Option (List (ℕ × ℕ))) (sets : List (Option (List Rule))) where
   abbrev table : Table
-  table = Table.by_class chained (some cov) b i a sets
+  table = Table.by_class chained (Some cov) b i a sets
 
   -- the class tables, and the blocks of them and of the sets
   abbrev cs : List (Option (List (ℕ × ℕ)))
@@ -79,7 +78,7 @@ module _ (chained : Bool) (cov : List ℕ) (b i a : Option (List (ℕ × ℕ))) 
   unfolding words_in table_words block
   words_class packing = step (eqb packing 1)
     where
-      step : (t : Bool) → cond t (packed_words table) (sets_layout 2 (some (coverage_words cov) ∷ cb) [] sb) ≡ class_table t (coverage_words cov) cb sb
+      step : (t : Bool) → cond t (packed_words table) (sets_layout 2 (Some (coverage_words cov) ∷ cb) [] sb) ≡ class_table t (coverage_words cov) cb sb
       step true = shared_words
       step false = plain_words (coverage_words cov) cb sb
 
@@ -92,7 +91,7 @@ module _ (chained : Bool) (cov : List ℕ) (b i a : Option (List (ℕ × ℕ))) 
         let e : q ≡ cover_place false cb sb = omega arith in
         let k = words_fit (offsets (q + 2 * length (coverage_words cov)) cb) in
         by_class_exactly chained cov b i a sets g
-        ∙ ap (λ (t : Bool). t && short_tables cs) (sym (offsets_exactly q (some (coverage_words cov) ∷ cb)))
+        ∙ ap (λ (t : Bool). t && short_tables cs) (sym (offsets_exactly q (Some (coverage_words cov) ∷ cb)))
         ∙ and_assoc (ltb q 65536) k (short_tables cs)
         ∙ ap₂ (λ (x y : Bool). x && (k && y)) (below_is q) (tables_short cs)
         ∙ ap (λ (n : ℕ). tail_fit false n (coverage_words cov) cb) e

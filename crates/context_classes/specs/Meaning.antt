@@ -1,8 +1,7 @@
 -- Format 2 as its source says it, and what the definitions say is left of it.
-use Rattle.std.specs.Prelude.{ℕ, ◌+◌, ◌*◌, ◌≤◌, ◌<◌, ◌≡◌, refl, Bool, true, false, cond, List, [], ◌∷◌, map, length, get_or, eqb}
+use Rattle.std.specs.Prelude.{ℕ, ◌+◌, ◌*◌, ◌≤◌, ◌<◌, ◌≡◌, refl, Bool, true, false, cond, List, [], ◌∷◌, map, length, get_or, eqb, Option, None, Some}
 use Rattle.std.proofs.Math.Path.{sym, ap}
 use Rattle.std.proofs.Common.{◌∙◌, subst, zero-add}
-use Rattle.std.proofs.Math.Option.{Option, none, some}
 use borrow.Author.Tests.{eq-eqb, ne_eqb}
 use Rattle.meaning.specs.Words.{word, bind, keys, member}
 use Rattle.meaning.specs.Parts.{coverage, coverage_sound, classes, listed}
@@ -17,22 +16,10 @@ use Rattle.laws.specs.CutGood.{GoodMap, Values, GoodOf}
 use Rattle.laws.specs.CutTables.{cut_good}
 use Rattle.class_stretches.specs.Tables.{table_at, classes_at, NullOrSound, table_there}
 use Rattle.class_spots.specs.SlotWalk.{trim_blocks}
-use Rattle.class_spots.specs.Sets.{slots_at, count_at}
+use Rattle.class_places.specs.Places.{back_at, input_at, ahead_at, slots_at}
+use Rattle.class_spots.specs.Sets.{count_at}
 use Rattle.class_finish.specs.Table.{table_into}
 use Rattle.context_classes.specs.Layouts.{laid_class}
-
--- where the class tables of backtrack, input and lookahead stand; 0 is none
-abbrev pub back_at : Bool → List ℕ → ℕ
-back_at false s = 0
-back_at true s = word s 4
-
-abbrev pub input_at : Bool → List ℕ → ℕ
-input_at false s = word s 4
-input_at true s = word s 6
-
-abbrev pub ahead_at : Bool → List ℕ → ℕ
-ahead_at false s = 0
-ahead_at true s = word s 8
 
 -- A context by class that the check let through: it is not over the limit, its offsets lie inside, and its coverage, its class tables and its sets are sound.
 pub record SoundContext (chained : Bool) (s : List ℕ) : Type 0 where
@@ -42,7 +29,7 @@ pub record SoundContext (chained : Bool) (s : List ℕ) : Type 0 where
   pub back : NullOrSound s (back_at chained s)
   pub input : NullOrSound s (input_at chained s)
   pub ahead : NullOrSound s (ahead_at chained s)
-  pub sets : (i : ℕ) → i < count_at s (slots_at chained) → (word s (slots_at chained + 2 * i) ≡ 0 → ⊥) → set_fault (rule_fault chained s) s (word s (slots_at chained + 2 * i)) ≡ none
+  pub sets : (i : ℕ) → i < count_at s (slots_at chained) → (word s (slots_at chained + 2 * i) ≡ 0 → ⊥) → set_fault (rule_fault chained s) s (word s (slots_at chained + 2 * i)) ≡ None
 
 -- the sets of the source
 abbrev pub sets_of : Bool → List ℕ → List (Option (List Rule))
@@ -64,19 +51,19 @@ kept_words k packing chained out cov b i a (x ∷ l) g = laid_class chained cov 
 
 -- what is left of a context whose coverage and input classes are there
 cut_class : (g l : List (ℕ × ℕ)) (chained : Bool) (cov : List ℕ) (b a : Option (List (ℕ × ℕ))) (cs : List (ℕ × ℕ)) (sets : List (Option (List Rule)))
-    → cut g l (Table.by_class chained (some cov) b (some cs) a sets) ≡ kept_by_class chained (new_coverage g cov) (new_classes? g b) (new_classes? g (some cs)) (new_classes? g a)
+    → cut g l (Table.by_class chained (Some cov) b (Some cs) a sets) ≡ kept_by_class chained (new_coverage g cov) (new_classes? g b) (new_classes? g (Some cs)) (new_classes? g a)
     (trim (slots (cut_set chained (record { back = class_map? g b; input = class_map g cs; ahead = class_map? g a; lookups = l })) (held_by cs (retained g cov)) sets (held_by cs (keys g))))
 unfolding cut
 cut_class g l chained cov b a cs sets = refl
 
-nothing_covered : (g l : List (ℕ × ℕ)) (chained : Bool) (x y z : Option (List (ℕ × ℕ))) (sets : List (Option (List Rule))) → cut g l (Table.by_class chained none x y z sets) ≡ none
+nothing_covered : (g l : List (ℕ × ℕ)) (chained : Bool) (x y z : Option (List (ℕ × ℕ))) (sets : List (Option (List Rule))) → cut g l (Table.by_class chained None x y z sets) ≡ None
 unfolding cut
 nothing_covered g l chained x y z sets = refl
 
-nothing_classed : (g l : List (ℕ × ℕ)) (chained : Bool) (o : Option (List ℕ)) (x z : Option (List (ℕ × ℕ))) (sets : List (Option (List Rule))) → cut g l (Table.by_class chained o x none z sets) ≡ none
+nothing_classed : (g l : List (ℕ × ℕ)) (chained : Bool) (o : Option (List ℕ)) (x z : Option (List (ℕ × ℕ))) (sets : List (Option (List Rule))) → cut g l (Table.by_class chained o x None z sets) ≡ None
 unfolding cut
-nothing_classed g l chained none x z sets = refl
-nothing_classed g l chained (some cov) x z sets = refl
+nothing_classed g l chained None x z sets = refl
+nothing_classed g l chained (Some cov) x z sets = refl
 
 -- the blocks of the new class tables
 abbrev pub tables_of : Bool → List ℕ → List (ℕ × ℕ) → List (Option (List ℕ))
@@ -102,7 +89,7 @@ module _ (chained : Bool) (s : List ℕ) (g l : List (ℕ × ℕ)) where
   abbrev pub blocks_of : List (Option (List ℕ))
   blocks_of = map (block (set_words (rule_words chained))) (slots (cut_set chained rules_maps) (held_by (classes_at s (input_at chained s)) (retained g (coverage s (word s 2)))) (sets_of chained s) (held_by (classes_at s (input_at chained s)) (keys g)))
 
-  there : (word s 2 ≡ 0 → ⊥) → reach (coverage s) s 0 2 ≡ some (coverage s (word s 2))
+  there : (word s 2 ≡ 0 → ⊥) → reach (coverage s) s 0 2 ≡ Some (coverage s (word s 2))
   unfolding reach
   there z = rw (ne_eqb (word s 2) 0 z, zero-add)
 
@@ -115,24 +102,24 @@ module _ (chained : Bool) (s : List ℕ) (g l : List (ℕ × ℕ)) where
       let a = table_at s (ahead_at chained s) in
       let cs = classes s (input_at chained s) in
       let cov = coverage s (word s 2) in
-      let i : table_at s (input_at chained s) ≡ some cs = table_there s y in
+      let i : table_at s (input_at chained s) ≡ Some cs = table_there s y in
       let sl = slots (cut_set chained (record { back = class_map? g b; input = class_map g cs; ahead = class_map? g a; lookups = l })) (held_by cs (retained g cov)) (sets_of chained s) (held_by cs (keys g)) in
       let k = kind_of (class_context chained s) in
-      let is : cut g l (class_context chained s) ≡ kept_by_class chained (new_coverage g cov) (new_classes? g b) (new_classes? g (some cs)) (new_classes? g a) (trim sl) =
-      ap (cut g l) (context_is chained s ∙ ap (λ (o : Option (List ℕ)). Table.by_class chained o b (table_at s (input_at chained s)) a (sets_of chained s)) (there z) ∙ ap (λ (o : Option (List (ℕ × ℕ))). Table.by_class chained (some cov) b o a (sets_of chained s)) i)
+      let is : cut g l (class_context chained s) ≡ kept_by_class chained (new_coverage g cov) (new_classes? g b) (new_classes? g (Some cs)) (new_classes? g a) (trim sl) =
+      ap (cut g l) (context_is chained s ∙ ap (λ (o : Option (List ℕ)). Table.by_class chained o b (table_at s (input_at chained s)) a (sets_of chained s)) (there z) ∙ ap (λ (o : Option (List (ℕ × ℕ))). Table.by_class chained (Some cov) b o a (sets_of chained s)) i)
       ∙ cut_class g l chained cov b a cs (sets_of chained s)
       in
       ap (written_in packing out) is
-      ∙ kept_words k packing chained out (new_coverage g cov) (new_classes? g b) (new_classes? g (some cs)) (new_classes? g a) (trim sl) (subst (Opt (GoodOf k)) is (cut_good g l m v (class_context chained s) good))
-      ∙ ap (table_into (eqb packing 1) out (coverage_words (new_coverage g cov)) (map (block class_words) (cond chained (new_classes? g b ∷ new_classes? g (some cs) ∷ new_classes? g a ∷ []) (new_classes? g (some cs) ∷ [])))) (trim_blocks (set_words (rule_words chained)) sl)
+      ∙ kept_words k packing chained out (new_coverage g cov) (new_classes? g b) (new_classes? g (Some cs)) (new_classes? g a) (trim sl) (subst (Opt (GoodOf k)) is (cut_good g l m v (class_context chained s) good))
+      ∙ ap (table_into (eqb packing 1) out (coverage_words (new_coverage g cov)) (map (block class_words) (cond chained (new_classes? g b ∷ new_classes? g (Some cs) ∷ new_classes? g a ∷ []) (new_classes? g (Some cs) ∷ [])))) (trim_blocks (set_words (rule_words chained)) sl)
       ∙ sym (rw i refl)
 
 -- slots by a cut that leaves the same of each set
 pub slots_alike : (f h : List Rule → Option (List Rule)) → ((rs : List Rule) → f rs ≡ h rs) → (covered : List ℕ) (sets : List (Option (List Rule))) (cs : List ℕ) → slots f covered sets cs ≡ slots h covered sets cs
 unfolding slots bind
 slots_alike f h e covered sets [] = refl
-slots_alike f h e covered sets (c ∷ cs) = rw (slots_alike f h e covered sets cs) (ap (λ (o : Option (List Rule)). cond (member c covered) o none ∷ slots h covered sets cs) (one (get_or sets c none)))
+slots_alike f h e covered sets (c ∷ cs) = rw (slots_alike f h e covered sets cs) (ap (λ (o : Option (List Rule)). cond (member c covered) o None ∷ slots h covered sets cs) (one (get_or sets c None)))
   where
     one : (o : Option (List Rule)) → bind o f ≡ bind o h
-    one none = refl
-    one (some rs) = e rs
+    one None = refl
+    one (Some rs) = e rs

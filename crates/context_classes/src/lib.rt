@@ -2,11 +2,11 @@
 #![tactic(auto)]
 
 ghost use Rattle.std.specs.Prelude.{◌≡◌};
-ghost use Rattle.context_classes.specs.Meaning.{back_at, input_at, ahead_at};
 ghost use Rattle.context_classes.specs.Cutting.{prepared_of, Begins, ClassesLaid};
 
 use cell_maps::Map;
 use class_finish::Prepared;
+use class_places::{ahead_at, back_at, input_at};
 use class_sides::{Input, class_input, class_side, mark_cells, no_input};
 use kept_rules::Maps;
 use marks::Marks;
@@ -27,36 +27,6 @@ pub struct Classed {
     pub input: Input,
     pub back: Map,
     pub ahead: Map,
-}
-
-// Where the class table of the backtrack stands; 0 if it is null, and in a plain context, which has none.
-fn back_at(chained: bool, src: &[u8]) -> usize
-    ensures { result ≡ back_at chained src.now }
-{
-    if chained {
-        return word_at(src, 4);
-    }
-    0
-}
-
-// Where the class table of the input stands; 0 if it is null.
-pub fn input_at(chained: bool, src: &[u8]) -> usize
-    ensures { result ≡ input_at chained src.now }
-{
-    if chained {
-        return word_at(src, 6);
-    }
-    word_at(src, 4)
-}
-
-// Where the class table of the lookahead stands; 0 if it is null, and in a plain context, which has none.
-fn ahead_at(chained: bool, src: &[u8]) -> usize
-    ensures { result ≡ ahead_at chained src.now }
-{
-    if chained {
-        return word_at(src, 8);
-    }
-    0
 }
 
 // What is answered where there are too few cells for the class tables.

@@ -2,7 +2,7 @@
 use Prim.Native.Nat.{ℕ, suc, ◌+◌, ◌-◌, ◌*◌, ◌/◌, ◌≤◌, ◌<◌}
 use mathlib.Core.Path.{◌≡◌, refl, sym, ap, ◌∙◌, subst}
 use mathlib.Core.Bool.{Bool, true, false, ◌&&◌, and_assoc}
-use mathlib.Core.Option.{Option, none, some}
+use Rattle.std.specs.Prelude.{Option, None, Some}
 use mathlib.Core.List.{List, [], ◌∷◌, ◌++◌, append_assoc}
 use native.Mathlib.Decide.{dec_lt}
 use native.Mathlib.Omega.{arith}
@@ -38,7 +38,7 @@ use Rattle.cover_contexts.proofs.Layouts.{no_offsets, no_blocks}
 
 -- What is left, where it is known.
 module _ {left : Option (List ℕ)} {fit : Bool} {before after : List ℕ} where
-  settles_none : left ≡ none → Settles left fit before after 0
+  settles_none : left ≡ None → Settles left fit before after 0
   settles_none e = record {
     gone = λ g. refl;
     kept = λ {ws = ws} g. absurd (some_none (sym g ∙ e));
@@ -47,7 +47,7 @@ module _ {left : Option (List ℕ)} {fit : Bool} {before after : List ℕ} where
     full = λ {ws = ws} g h f. absurd (some_none (sym g ∙ e));
   }
 
-  settles_some : (ws : List ℕ) {r : ℕ} → left ≡ some ws → 0 < length ws → Ends before ws fit after r → Settles left fit before after r
+  settles_some : (ws : List ℕ) {r : ℕ} → left ≡ Some ws → 0 < length ws → Ends before ws fit after r → Settles left fit before after r
   settles_some ws {r} e n h = record {
     gone = λ g. absurd (some_none (sym e ∙ g));
     kept = λ {ws = vs} g. step (dec_lt (length before) r);
@@ -73,16 +73,16 @@ unfolding covers_words
 plain_layout packed i rs n first c e = rw (e, ← c)
 
 -- what is left of a plain context, whose other rows reach nothing
-no_covers : (g : List (ℕ × ℕ)) (s : List ℕ) (row : Row) → row.len ≡ 0 → row_left g s row ≡ some []
+no_covers : (g : List (ℕ × ℕ)) (s : List ℕ) (row : Row) → row.len ≡ 0 → row_left g s row ≡ Some []
 unfolding blocks_left map_all reaches
 no_covers g s row e = rw e
 
 module _ (packed : Bool) (g l : List (ℕ × ℕ)) (s : List ℕ) (r : CoverParts) (q : Plain r) where
-  plain_left : context_left packed false g l s r ≡ bind (row_left g s r.input) (λ i. some (covers_words packed false [] i [] (cut_records l (records_at s r.records))))
+  plain_left : context_left packed false g l s r ≡ bind (row_left g s r.input) (λ i. Some (covers_words packed false [] i [] (cut_records l (records_at s r.records))))
   unfolding context_left bind
   plain_left = rw (no_covers g s r.back q.back, no_covers g s r.ahead q.ahead)
 
-  plain_fit : {i : List (Option (List ℕ))} → row_left g s r.input ≡ some i → context_fit packed false g l s r ≡ words_fit (offsets_behind packed (covers_from false [] i [] (cut_records l (records_at s r.records))) [] i)
+  plain_fit : {i : List (Option (List ℕ))} → row_left g s r.input ≡ Some i → context_fit packed false g l s r ≡ words_fit (offsets_behind packed (covers_from false [] i [] (cut_records l (records_at s r.records))) [] i)
   unfolding context_fit offsets_fit bind
   plain_fit e = rw (no_covers g s r.back q.back, no_covers g s r.ahead q.ahead, e) refl
 
@@ -110,33 +110,33 @@ said_otherwise {area} {after} {end} {f} {g} ws vs e d h = subst (λ (w : List �
 
 -- a row that is left with nothing leaves nothing of the context
 module _ (packed c : Bool) (g l : List (ℕ × ℕ)) (s : List ℕ) (r : CoverParts) where
-  first_none : row_left g s r.back ≡ none → context_left packed c g l s r ≡ none
+  first_none : row_left g s r.back ≡ None → context_left packed c g l s r ≡ None
   unfolding context_left bind
   first_none e = rw e
 
-  second_none : row_left g s r.input ≡ none → context_left packed c g l s r ≡ none
+  second_none : row_left g s r.input ≡ None → context_left packed c g l s r ≡ None
   unfolding context_left bind
   second_none e = step (row_left g s r.back)
     where
-      step : (o : Option (List (Option (List ℕ)))) → bind o (λ b. bind (row_left g s r.input) (λ i. bind (row_left g s r.ahead) (λ a. some (covers_words packed c b i a (cut_records l (records_at s r.records)))))) ≡ none
-      step none = refl
-      step (some b) = rw e
+      step : (o : Option (List (Option (List ℕ)))) → bind o (λ b. bind (row_left g s r.input) (λ i. bind (row_left g s r.ahead) (λ a. Some (covers_words packed c b i a (cut_records l (records_at s r.records)))))) ≡ None
+      step None = refl
+      step (Some b) = rw e
 
-  third_none : row_left g s r.ahead ≡ none → context_left packed c g l s r ≡ none
+  third_none : row_left g s r.ahead ≡ None → context_left packed c g l s r ≡ None
   unfolding context_left bind
   third_none e = step (row_left g s r.back) (row_left g s r.input)
     where
-      step : (o p : Option (List (Option (List ℕ)))) → bind o (λ b. bind p (λ i. bind (row_left g s r.ahead) (λ a. some (covers_words packed c b i a (cut_records l (records_at s r.records)))))) ≡ none
-      step none p = refl
-      step (some b) none = refl
-      step (some b) (some i) = rw e
+      step : (o p : Option (List (Option (List ℕ)))) → bind o (λ b. bind p (λ i. bind (row_left g s r.ahead) (λ a. Some (covers_words packed c b i a (cut_records l (records_at s r.records)))))) ≡ None
+      step None p = refl
+      step (Some b) None = refl
+      step (Some b) (Some i) = rw e
 
-  all_some : {b i a : List (Option (List ℕ))} → row_left g s r.back ≡ some b → row_left g s r.input ≡ some i → row_left g s r.ahead ≡ some a
-      → context_left packed c g l s r ≡ some (covers_words packed c b i a (cut_records l (records_at s r.records)))
+  all_some : {b i a : List (Option (List ℕ))} → row_left g s r.back ≡ Some b → row_left g s r.input ≡ Some i → row_left g s r.ahead ≡ Some a
+      → context_left packed c g l s r ≡ Some (covers_words packed c b i a (cut_records l (records_at s r.records)))
   unfolding context_left bind
   all_some e f h = rw (e, f, h)
 
-  all_fit : {b i a : List (Option (List ℕ))} → row_left g s r.back ≡ some b → row_left g s r.input ≡ some i → row_left g s r.ahead ≡ some a
+  all_fit : {b i a : List (Option (List ℕ))} → row_left g s r.back ≡ Some b → row_left g s r.input ≡ Some i → row_left g s r.ahead ≡ Some a
       → context_fit packed c g l s r ≡ offsets_fit packed c b i a (cut_records l (records_at s r.records))
   unfolding context_fit bind
   all_fit e f h = rw (e, f, h) refl
@@ -183,8 +183,8 @@ some_length f [] = omega arith
 some_length f (x ∷ xs) = step (f x) (some_length f xs)
   where
     step : (o : Option _) → length (map_some f xs) ≤ length xs → length (push o (map_some f xs)) ≤ suc (length xs)
-    step none h = omega arith
-    step (some y) h = omega arith
+    step None h = omega arith
+    step (Some y) h = omega arith
 
 pub few_records : (l rs : List (ℕ × ℕ)) → length (cut_records l rs) ≤ length rs
 unfolding cut_records
@@ -255,8 +255,8 @@ module _ {s : List ℕ} {r : CoverParts} {glyphs : List ℕ} {h : Held} {l : Map
         where
           step : (o : Option (List (Option (List ℕ)))) → row_left (glyph_entries h.form glyphs) s r.input ≡ o → LaysLeft (left_at (glyph_entries h.form glyphs) s) o h.map t t₁ next r.input.at (record { first = p; pos = p }) after end book book₁
               → Settles (context_left (packs book) false (glyph_entries h.form glyphs) (entries_in t l) s r) (context_fit (packs book) false (glyph_entries h.form glyphs) (entries_in t l) s r) area after end
-          step none o d = subst (λ (n : ℕ). Settles (context_left (packs book) false (glyph_entries h.form glyphs) (entries_in t l) s r) (context_fit (packs book) false (glyph_entries h.form glyphs) (entries_in t l) s r) area after n) (sym (d.gone refl)) (settles_none (plain_left (packs book) (glyph_entries h.form glyphs) (entries_in t l) s r q ∙ rw o refl))
-          step (some i) o d =
+          step None o d = subst (λ (n : ℕ). Settles (context_left (packs book) false (glyph_entries h.form glyphs) (entries_in t l) s r) (context_fit (packs book) false (glyph_entries h.form glyphs) (entries_in t l) s r) area after n) (sym (d.gone refl)) (settles_none (plain_left (packs book) (glyph_entries h.form glyphs) (entries_in t l) s r q ∙ rw o refl))
+          step (Some i) o d =
               let rs = kept_at t l s r in
               let c : length i ≡ r.input.len = row_length (glyph_entries h.form glyphs) s r.input i o in
               let k : (p - r.records.at) / 4 ≡ length rs = omega (arith, w.place, twos_length rs) in
@@ -295,7 +295,7 @@ module _ {s : List ℕ} {r : CoverParts} {glyphs : List ℕ} {h : Held} {l : Map
     )
 
     -- the records with their number: there is room for them
-    pub counted_written : {mid : List ℕ} {p : ℕ} → Leaves area (r.records.at - 2) (some (length (kept_at t l s r) ∷ twos (kept_at t l s r))) (2 + 4 * r.records.len) mid p → Extends area (r.records.at - 2) (length (kept_at t l s r) ∷ twos (kept_at t l s r)) mid p
+    pub counted_written : {mid : List ℕ} {p : ℕ} → Leaves area (r.records.at - 2) (Some (length (kept_at t l s r) ∷ twos (kept_at t l s r))) (2 + 4 * r.records.len) mid p → Extends area (r.records.at - 2) (length (kept_at t l s r) ∷ twos (kept_at t l s r)) mid p
     counted_written w = w.stays refl (leaves_room w (omega (arith, a.header, link.records)))
 
     -- after the records and the format
@@ -331,7 +331,7 @@ module _ {s : List ℕ} {r : CoverParts} {glyphs : List ℕ} {h : Held} {l : Map
           settled = settles_none (first_none (packs book) true (glyph_entries h.form glyphs) (entries_in t l) s r (laid_zero (row_left (glyph_entries h.form glyphs) s r.back) d [] back_before (omega (arith, w.place)) z));
         }
 
-        back_stood : {B : List (Option (List ℕ))} → row_left (glyph_entries h.form glyphs) s r.back ≡ some B → q ≤ length a₁ → Stood (packs book₁) (left_at (glyph_entries h.form glyphs) s) p B a₁ q book₁
+        back_stood : {B : List (Option (List ℕ))} → row_left (glyph_entries h.form glyphs) s r.back ≡ Some B → q ≤ length a₁ → Stood (packs book₁) (left_at (glyph_entries h.form glyphs) s) p B a₁ q book₁
         back_stood {B} eb k = subst (λ (b : Bool). Stood b (left_at (glyph_entries h.form glyphs) s) p B a₁ q book₁) (sym kind₁) (stood_more back_before d.same (omega (arith, link.back, link.input, link.ahead, link.records, w.place, row_length (glyph_entries h.form glyphs) s r.back B eb)) (d.stays eb [] back_before) k)
 
         module _ (z : q ≡ 0 → ⊥) where
@@ -339,8 +339,8 @@ module _ {s : List ℕ} {r : CoverParts} {glyphs : List ℕ} {h : Held} {l : Map
           back_standing = step (row_left (glyph_entries h.form glyphs) s r.back) refl
             where
               step : (o : Option (List (Option (List ℕ)))) → row_left (glyph_entries h.form glyphs) s r.back ≡ o → Standing (left_at (glyph_entries h.form glyphs) s) (record { first = p; pos = q }) a₁ book₁
-              step none o = absurd (z (d.gone o))
-              step (some B) o = record { pre = B; stood = back_stood o; room = λ k. omega (arith, n.room (sym kind₁ ∙ k), d.pages) }
+              step None o = absurd (z (d.gone o))
+              step (Some B) o = record { pre = B; stood = back_stood o; room = λ k. omega (arith, n.room (sym kind₁ ∙ k), d.pages) }
 
           pub input_asks : WritesRow s r.input glyphs h t₁ a₁ (record { first = p; pos = q }) book₁ × (2 ≤ r.input.at)
           input_asks = row_asks r.input a.parts.input a.notes.input (omega (arith, link.input)) (omega (arith, link.ahead, link.records)) (record { first = p; pos = q }) d.cells back_same (omega (arith, w.place)) (omega arith) back_standing
@@ -365,7 +365,7 @@ module _ {s : List ℕ} {r : CoverParts} {glyphs : List ℕ} {h : Held} {l : Map
               settled = settles_none (second_none (packs book) true (glyph_entries h.form glyphs) (entries_in t l) s r (laid_zero (row_left (glyph_entries h.form glyphs) s r.input) f back_standing.pre (input_before back_standing.stood) (omega arith) y));
             }
 
-            input_stood : {B I : List (Option (List ℕ))} → row_left (glyph_entries h.form glyphs) s r.back ≡ some B → row_left (glyph_entries h.form glyphs) s r.input ≡ some I → u ≤ length a₂ → Stood (packs book₂) (left_at (glyph_entries h.form glyphs) s) p (B ++ I) a₂ u book₂
+            input_stood : {B I : List (Option (List ℕ))} → row_left (glyph_entries h.form glyphs) s r.back ≡ Some B → row_left (glyph_entries h.form glyphs) s r.input ≡ Some I → u ≤ length a₂ → Stood (packs book₂) (left_at (glyph_entries h.form glyphs) s) p (B ++ I) a₂ u book₂
             input_stood {B} {I} eb ei k =
                 subst (λ (b : Bool). Stood b (left_at (glyph_entries h.form glyphs) s) p (B ++ I) a₂ u book₂) (sym (same_kind book₂ book₁ f.pages))
                 (stood_more (input_before (back_stood eb)) f.same (omega (arith, link.ahead, link.records, w.place, row_length (glyph_entries h.form glyphs) s r.input I ei)) (f.stays ei B (input_before (back_stood eb))) k)
@@ -375,9 +375,9 @@ module _ {s : List ℕ} {r : CoverParts} {glyphs : List ℕ} {h : Held} {l : Map
               input_standing = step (row_left (glyph_entries h.form glyphs) s r.back) (row_left (glyph_entries h.form glyphs) s r.input) refl refl
                 where
                   step : (o v : Option (List (Option (List ℕ)))) → row_left (glyph_entries h.form glyphs) s r.back ≡ o → row_left (glyph_entries h.form glyphs) s r.input ≡ v → Standing (left_at (glyph_entries h.form glyphs) s) (record { first = p; pos = u }) a₂ book₂
-                  step none v o x = absurd (z (d.gone o))
-                  step (some B) none o x = absurd (y (f.gone x))
-                  step (some B) (some I) o x = record { pre = B ++ I; stood = input_stood o x; room = λ k. omega (arith, n.room (sym kind₂ ∙ k), d.pages, f.pages) }
+                  step None v o x = absurd (z (d.gone o))
+                  step (Some B) None o x = absurd (y (f.gone x))
+                  step (Some B) (Some I) o x = record { pre = B ++ I; stood = input_stood o x; room = λ k. omega (arith, n.room (sym kind₂ ∙ k), d.pages, f.pages) }
 
               pub ahead_asks : WritesRow s r.ahead glyphs h t₂ a₂ (record { first = p; pos = u }) book₂ × (2 ≤ r.ahead.at)
               ahead_asks = row_asks r.ahead a.parts.ahead a.notes.ahead (omega (arith, link.ahead)) (omega (arith, link.records)) (record { first = p; pos = u }) (kept_more d.cells f.cells) input_same (omega (arith, w.place)) (omega arith) input_standing
@@ -391,7 +391,7 @@ module _ {s : List ℕ} {r : CoverParts} {glyphs : List ℕ} {h : Held} {l : Map
                 ahead_same = j.same ∙ length-sets a₂ (r.ahead.at - 2) (bytes2 r.ahead.len) ∙ input_same
 
                 -- all three rows are left
-                all_rows : (B I A : List (Option (List ℕ))) → row_left (glyph_entries h.form glyphs) s r.back ≡ some B → row_left (glyph_entries h.form glyphs) s r.input ≡ some I → row_left (glyph_entries h.form glyphs) s r.ahead ≡ some A
+                all_rows : (B I A : List (Option (List ℕ))) → row_left (glyph_entries h.form glyphs) s r.back ≡ Some B → row_left (glyph_entries h.form glyphs) s r.input ≡ Some I → row_left (glyph_entries h.form glyphs) s r.ahead ≡ Some A
                     → Settles (context_left (packs book) true (glyph_entries h.form glyphs) (entries_in t l) s r) (context_fit (packs book) true (glyph_entries h.form glyphs) (entries_in t l) s r) area a₃ end
                 all_rows B I A eb ei ea =
                     let rs = kept_at t l s r in
@@ -408,7 +408,7 @@ module _ {s : List ℕ} {r : CoverParts} {glyphs : List ℕ} {h : Held} {l : Map
                   where
                     step : (o p' v : Option (List (Option (List ℕ)))) → row_left (glyph_entries h.form glyphs) s r.back ≡ o → row_left (glyph_entries h.form glyphs) s r.input ≡ p' → row_left (glyph_entries h.form glyphs) s r.ahead ≡ v
                         → Settles (context_left (packs book) true (glyph_entries h.form glyphs) (entries_in t l) s r) (context_fit (packs book) true (glyph_entries h.form glyphs) (entries_in t l) s r) area a₃ end
-                    step none p' v eb ei ea = absurd (z (d.gone eb))
-                    step (some B) none v eb ei ea = absurd (y (f.gone ei))
-                    step (some B) (some I) none eb ei ea = subst (λ (x : ℕ). Settles (context_left (packs book) true (glyph_entries h.form glyphs) (entries_in t l) s r) (context_fit (packs book) true (glyph_entries h.form glyphs) (entries_in t l) s r) area a₃ x) (sym (j.gone ea)) (settles_none (third_none (packs book) true (glyph_entries h.form glyphs) (entries_in t l) s r ea))
-                    step (some B) (some I) (some A) eb ei ea = all_rows B I A eb ei ea
+                    step None p' v eb ei ea = absurd (z (d.gone eb))
+                    step (Some B) None v eb ei ea = absurd (y (f.gone ei))
+                    step (Some B) (Some I) None eb ei ea = subst (λ (x : ℕ). Settles (context_left (packs book) true (glyph_entries h.form glyphs) (entries_in t l) s r) (context_fit (packs book) true (glyph_entries h.form glyphs) (entries_in t l) s r) area a₃ x) (sym (j.gone ea)) (settles_none (third_none (packs book) true (glyph_entries h.form glyphs) (entries_in t l) s r ea))
+                    step (Some B) (Some I) (Some A) eb ei ea = all_rows B I A eb ei ea

@@ -2,7 +2,7 @@
 use Prim.Native.Nat.{ℕ, suc, ◌+◌, ◌*◌, ◌≤◌, ◌<◌}
 use mathlib.Core.Path.{◌≡◌, refl, sym, ap, ◌∙◌, subst}
 use mathlib.Core.Bool.{Bool, true, ◌&&◌}
-use mathlib.Core.Option.{Option, none, some}
+use Rattle.std.specs.Prelude.{Option, None, Some}
 use mathlib.Core.List.{List, [], ◌∷◌, ◌++◌, append_assoc}
 use native.Mathlib.Decide.{dec_lt}
 use native.Mathlib.Omega.{arith}
@@ -110,15 +110,15 @@ pub head_length : (head : List ℕ) (n : ℕ) (packed : Bool) (place : ℕ) (pre
 head_length head n packed place pre bs = omega (arith, length-append head (n ∷ offsets_behind packed place pre bs), behind_length packed place pre bs)
 
 -- the blocks that are left of a row are as many as its offsets
-covers_length : (g : List (ℕ × ℕ)) (cs : List (Option (List ℕ))) (bs : List (Option (List ℕ))) → blocks_left g cs ≡ some bs → length bs ≡ length cs
+covers_length : (g : List (ℕ × ℕ)) (cs : List (Option (List ℕ))) (bs : List (Option (List ℕ))) → blocks_left g cs ≡ Some bs → length bs ≡ length cs
 unfolding blocks_left map_all bind
 covers_length g [] bs e = ap length (sym (some_same e))
 covers_length g (c ∷ cs) bs e = step (block_left g c) (blocks_left g cs) (covers_length g cs) e
   where
-    step : (o : Option (Option (List ℕ))) (p : Option (List (Option (List ℕ)))) → ((bs : List (Option (List ℕ))) → p ≡ some bs → length bs ≡ length cs) → bind o (λ b. bind p (λ bs. some (b ∷ bs))) ≡ some bs → length bs ≡ suc (length cs)
-    step none p r q = absurd (some_none (sym q))
-    step (some b) none r q = absurd (some_none (sym q))
-    step (some b) (some ds) r q = ap length (sym (some_same q)) ∙ ap suc (r ds refl)
+    step : (o : Option (Option (List ℕ))) (p : Option (List (Option (List ℕ)))) → ((bs : List (Option (List ℕ))) → p ≡ Some bs → length bs ≡ length cs) → bind o (λ b. bind p (λ bs. Some (b ∷ bs))) ≡ Some bs → length bs ≡ suc (length cs)
+    step None p r q = absurd (some_none (sym q))
+    step (Some b) None r q = absurd (some_none (sym q))
+    step (Some b) (Some ds) r q = ap length (sym (some_same q)) ∙ ap suc (r ds refl)
 
-pub row_length : (g : List (ℕ × ℕ)) (s : List ℕ) (row : Row) (bs : List (Option (List ℕ))) → row_left g s row ≡ some bs → length bs ≡ row.len
+pub row_length : (g : List (ℕ × ℕ)) (s : List ℕ) (row : Row) (bs : List (Option (List ℕ))) → row_left g s row ≡ Some bs → length bs ≡ row.len
 row_length g s row bs e = covers_length g (reaches (coverage s) s 0 row.at row.len) bs e ∙ reaches_length (coverage s) s 0 row.at row.len

@@ -1,6 +1,5 @@
 -- A context by coverages: what is asked of it, and the words of what is left of it.
-use Rattle.std.specs.Prelude.{ℕ, ◌+◌, ◌*◌, ◌≤◌, ◌<◌, ◌≡◌, Bool, true, false, ◌&&◌, List, [], ◌∷◌, ◌++◌, length}
-use Rattle.std.proofs.Math.Option.{Option, none, some, get_or}
+use Rattle.std.specs.Prelude.{ℕ, ◌+◌, ◌*◌, ◌≤◌, ◌<◌, ◌≡◌, Bool, true, false, ◌&&◌, List, [], ◌∷◌, ◌++◌, length, Option, None, Some, unwrap_or}
 use Rattle.meaning.specs.Words.{bind, twos}
 use Rattle.meaning.specs.Maps.{glyph_entries}
 use Rattle.meaning.specs.Cut.{cut_records}
@@ -35,7 +34,7 @@ covers_words packed true b i a rs =
 unfoldable pub context_left : Bool → Bool → List (ℕ × ℕ) → List (ℕ × ℕ) → List ℕ → CoverParts → Option (List ℕ)
 context_left packed chained g l s r =
     bind (row_left g s r.back) (λ b. bind (row_left g s r.input) (λ i. bind (row_left g s r.ahead) (λ a.
-    some (covers_words packed chained b i a (cut_records l (records_at s r.records))))))
+    Some (covers_words packed chained b i a (cut_records l (records_at s r.records))))))
 
 -- the offsets of blocks that are laid as format 3 lays them fit words
 unfoldable pub offsets_fit : Bool → Bool → List (Option (List ℕ)) → List (Option (List ℕ)) → List (Option (List ℕ)) → List (ℕ × ℕ) → Bool
@@ -47,18 +46,18 @@ offsets_fit packed true b i a rs =
 -- those of what is left of the context do; so it is said too where nothing is left
 unfoldable pub context_fit : Bool → Bool → List (ℕ × ℕ) → List (ℕ × ℕ) → List ℕ → CoverParts → Bool
 context_fit packed chained g l s r =
-    get_or
+    unwrap_or
     (bind (row_left g s r.back) (λ b. bind (row_left g s r.input) (λ i. bind (row_left g s r.ahead) (λ a.
-    some (offsets_fit packed chained b i a (cut_records l (records_at s r.records)))))))
+    Some (offsets_fit packed chained b i a (cut_records l (records_at s r.records)))))))
     true
 
 -- What is left stands from the area's start on, and its offsets fit words, as `fit` says; r is the place after it, or past the area: then the area has not enough bytes, or not all its offsets fit. r is 0 if nothing is left.
 pub record Settles (left : Option (List ℕ)) (fit : Bool) (before after : List ℕ) (r : ℕ) : Type 0 where
-  pub gone : left ≡ none → r ≡ 0
-  pub kept : {ws : List ℕ} → left ≡ some ws → 0 < r
-  pub fits : {ws : List ℕ} → left ≡ some ws → r ≤ length before → Extends before 0 ws after r
-  pub near : {ws : List ℕ} → left ≡ some ws → r ≤ length before → fit ≡ true
-  pub full : {ws : List ℕ} → left ≡ some ws → length before < r → fit ≡ true → length before < enough_area
+  pub gone : left ≡ None → r ≡ 0
+  pub kept : {ws : List ℕ} → left ≡ Some ws → 0 < r
+  pub fits : {ws : List ℕ} → left ≡ Some ws → r ≤ length before → Extends before 0 ws after r
+  pub near : {ws : List ℕ} → left ≡ Some ws → r ≤ length before → fit ≡ true
+  pub full : {ws : List ℕ} → left ≡ Some ws → length before < r → fit ≡ true → length before < enough_area
 
 -- n is a bound for the glyphs that can be noted of any coverage of the context, and at most 65,536
 pub record MostNotes (form : ℕ) (glyphs s : List ℕ) (r : CoverParts) (n : ℕ) : Type 0 where

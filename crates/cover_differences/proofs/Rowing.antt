@@ -2,7 +2,7 @@
 use Prim.Native.Nat.{ℕ, suc, ◌+◌, ◌-◌, ◌*◌, ◌≤◌, ◌<◌}
 use mathlib.Core.Path.{◌≡◌, refl, sym, ap, ap₂, ◌∙◌}
 use mathlib.Core.Bool.{Bool, true, false, cond, ◌&&◌, ◌||◌, true≢false}
-use mathlib.Core.Option.{none, some}
+use Rattle.std.specs.Prelude.{None, Some}
 use mathlib.Core.List.{List, [], ◌∷◌, ◌++◌}
 use native.Mathlib.Nat.{zero-add}
 use native.Mathlib.Omega.{arith}
@@ -91,7 +91,7 @@ slot_runs : (s : List ℕ) (slot : ℕ) → cover_runs (reach (coverage s) s 0 s
 unfolding reach cover_runs glyph_runs
 slot_runs s slot = rw (zero-add (word s slot)) (step (eqb (word s slot) 0))
   where
-    step : (b : Bool) → cover_runs (cond b none (some (coverage s (word s slot)))) ≡ glyph_runs (cond b [] (coverage s (word s slot)))
+    step : (b : Bool) → cover_runs (cond b None (Some (coverage s (word s slot)))) ≡ glyph_runs (cond b [] (coverage s (word s slot)))
     step true = refl
     step false = refl
 
@@ -102,10 +102,10 @@ slots_same s t p q = rw (slot_runs s p, slot_runs t q) (runs_same (cover_at s (w
 row_sound : (s : List ℕ) (p n : ℕ) → SoundRow s p (suc n) → (sound_at s (word s p) ≡ true) × SoundRow s (p + 2) n
 unfolding coverage_fault reach
 row_sound s p n h =
-    let q = one_good s (λ at. coverage_sound s at ≡ true) (λ at. at) (coverage_fault s) (λ at f. (part_sound at (coverage_sound s at) none f).0) p n h in
+    let q = one_good s (λ at. coverage_sound s at ≡ true) (λ at. at) (coverage_fault s) (λ at f. (part_sound at (coverage_sound s at) None f).0) p n h in
     (step (eqb (word s p) 0) (rw (zero-add (word s p)) at q.0), q.1)
   where
-    step : (b : Bool) → Opt (λ at. coverage_sound s at ≡ true) (cond b none (some (word s p))) → b || coverage_sound s (word s p) ≡ true
+    step : (b : Bool) → Opt (λ at. coverage_sound s at ≡ true) (cond b None (Some (word s p))) → b || coverage_sound s (word s p) ≡ true
     step true q = refl
     step false q = q
 

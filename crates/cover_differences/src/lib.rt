@@ -1,8 +1,7 @@
 // What differs between two contexts by coverages (format 3): one rule each, compared as it stands. A coverage is its glyphs, in whichever format they are listed.
 #![tactic(auto)]
 
-ghost use Rattle.std.specs.Prelude.{◌≡◌, true, ◌+◌, ◌*◌, ◌≤◌, ◌<◌, eqb};
-ghost use Rattle.std.proofs.Math.Option.{none};
+ghost use Rattle.std.specs.Prelude.{◌≡◌, true, ◌+◌, ◌*◌, ◌≤◌, ◌<◌, eqb, None};
 ghost use Rattle.meaning.specs.Words.{word, entries};
 ghost use Rattle.meaning.specs.Tables.{table};
 ghost use Rattle.meaning.specs.Fault.{fault};
@@ -71,6 +70,7 @@ fn same_glyphs(left: &[u8], l: usize, right: &[u8], r: usize) -> bool
     let mut j = 0;
     let mut a = 0;
     let mut b = 0;
+    // A while: a step passes a stretch of one side, or of both.
     'stretches: while i < m {
         if n <= j {
             return false;
@@ -107,14 +107,12 @@ fn same_covers(left: &[u8], right: &[u8], p: usize, n: usize) -> bool
     requires { (p + 2 * n < 0x1_0000_0000) × SoundRow left.now p n × SoundRow right.now p n }
     ensures { result ≡ same_row (row_runs left.now p n) (row_runs right.now p n) }
 {
-    let mut i = 0;
-    while i < n {
+    for i in 0..n {
         let l = word_at(left, p + 2 * i);
         let r = word_at(right, p + 2 * i);
         if !same_glyphs(left, l, right, r) {
             return false;
         }
-        i += 1;
     }
     true
 }
@@ -124,15 +122,13 @@ fn same_entries(left: &[u8], right: &[u8], p: usize, n: usize) -> bool
     requires { p + 4 * n < 0x1_0000_0000 }
     ensures { result ≡ same_list same_two (entries left.now p n) (entries right.now p n) }
 {
-    let mut i = 0;
-    while i < n {
+    for i in 0..n {
         if word_at(left, p + 4 * i) != word_at(right, p + 4 * i) {
             return false;
         }
         if word_at(left, p + 4 * i + 2) != word_at(right, p + 4 * i + 2) {
             return false;
         }
-        i += 1;
     }
     true
 }
@@ -190,7 +186,7 @@ fn list_rules(same: bool, out: &mut [u8], pos: usize) -> usize
 
 // What differs between two sound plain contexts by coverages, listed from `pos` on, where there is room; the place after it.
 pub fn list_plain(left: &[u8], right: &[u8], out: &mut [u8], pos: usize) -> usize
-    requires { (fault 1 left.now ≡ none) × (word left.now 0 ≡ 3) × (fault 1 right.now ≡ none) × (word right.now 0 ≡ 3) × (pos < 0x4000_0000_0000) }
+    requires { (fault 1 left.now ≡ None) × (word left.now 0 ≡ 3) × (fault 1 right.now ≡ None) × (word right.now 0 ≡ 3) × (pos < 0x4000_0000_0000) }
     ensures { Listed (differences (content (table 1 left.now)) (content (table 1 right.now))) out.old pos out.new result × (result ≤ pos + 24) }
 {
     list_rules(same_plain(left, right), out, pos)
@@ -218,7 +214,7 @@ fn same_chained(left: &[u8], right: &[u8]) -> bool
 
 // What differs between two sound chained contexts by coverages, listed from `pos` on, where there is room; the place after it.
 pub fn list_chained(left: &[u8], right: &[u8], out: &mut [u8], pos: usize) -> usize
-    requires { (fault 2 left.now ≡ none) × (word left.now 0 ≡ 3) × (fault 2 right.now ≡ none) × (word right.now 0 ≡ 3) × (pos < 0x4000_0000_0000) }
+    requires { (fault 2 left.now ≡ None) × (word left.now 0 ≡ 3) × (fault 2 right.now ≡ None) × (word right.now 0 ≡ 3) × (pos < 0x4000_0000_0000) }
     ensures { Listed (differences (content (table 2 left.now)) (content (table 2 right.now))) out.old pos out.new result × (result ≤ pos + 24) }
 {
     list_rules(same_chained(left, right), out, pos)

@@ -2,7 +2,7 @@
 use Prim.Native.Nat.{ℕ, suc, ◌+◌, ◌-◌, ◌*◌, ◌≤◌, ◌<◌}
 use mathlib.Core.Path.{◌≡◌, refl, sym, ap, ◌∙◌, subst}
 use mathlib.Core.Bool.{Bool, true, false}
-use mathlib.Core.Option.{Option, none, some, get_or}
+use Rattle.std.specs.Prelude.{Option, None, Some, unwrap_or, Result, Err}
 use mathlib.Core.List.{List, [], ◌∷◌, ◌++◌, map}
 use native.Mathlib.Omega.{arith}
 use lib.ListN.{length}
@@ -25,11 +25,11 @@ use Rattle.cell_maps.specs.Cells.{Holds}
 use Rattle.cell_maps.specs.declared.Map.{Map}
 use Rattle.area.specs.Part.{part, take_part}
 use Rattle.room.specs.Laid.{enough_area, outcome_of, laid_as, laid_words_lem, laid_unfit}
-use Rattle.room.specs.declared.Laid.{Laid}
-use Rattle.room.specs.declared.Laid.TheVariants.{Nothing, TooBig}
-use Rattle.tried.specs.Tries.{Tries, tries_less}
-use Rattle.tried.specs.declared.Tried.{Tried}
-use Rattle.tried.specs.declared.Tried.TheVariants.{FewCells, Short, Became}
+use Rattle.room.specs.declared.NotLaid.{NotLaid}
+use Rattle.room.specs.declared.NotLaid.TheVariants.{Nothing, TooBig}
+use Rattle.tried.specs.Tries.{became, Tries, tries_became, tries_less}
+use Rattle.tried.specs.declared.NotCut.{NotCut}
+use Rattle.tried.specs.declared.NotCut.TheVariants.{FewCells, Short, Refused}
 use Rattle.numbers.specs.Entries.{entries_in}
 use Rattle.numbers.specs.Alike.{holds_alike, records_alike}
 use Rattle.known_blocks.specs.Book.{book_cells, packs, Begun}
@@ -44,20 +44,20 @@ use Rattle.cover_contexts.proofs.Layouts.{words_covers, covers_fit}
 use Rattle.cover_contexts.proofs.Context.{few_records}
 
 -- the blocks that are left are those of the coverages that are left
-blocks_are : (g : List (ℕ × ℕ)) (cs : List (Option (List ℕ))) → blocks_left g cs ≡ bind (covers_left g cs) (λ ks. some (map (block coverage_words) ks))
+blocks_are : (g : List (ℕ × ℕ)) (cs : List (Option (List ℕ))) → blocks_left g cs ≡ bind (covers_left g cs) (λ ks. Some (map (block coverage_words) ks))
 unfolding blocks_left block_left words_left covers_left map_all bind block
 blocks_are g [] = refl
-blocks_are g (none ∷ cs) = refl
-blocks_are g (some cov ∷ cs) = step (unless_empty (new_coverage g cov)) (covers_left g cs) (blocks_left g cs) (blocks_are g cs)
+blocks_are g (None ∷ cs) = refl
+blocks_are g (Some cov ∷ cs) = step (unless_empty (new_coverage g cov)) (covers_left g cs) (blocks_left g cs) (blocks_are g cs)
   where
-    step : (o : Option (List ℕ)) (p q : Option (List (Option (List ℕ)))) → q ≡ bind p (λ ks. some (map (block coverage_words) ks))
-        → bind (bind (bind o (λ k. some (coverage_words k))) (λ b. some (some b))) (λ b. bind q (λ bs. some (b ∷ bs))) ≡ bind (bind (bind o (λ k. some (some k))) (λ c. bind p (λ ks. some (c ∷ ks)))) (λ ks. some (map (block coverage_words) ks))
-    step none p q e = refl
-    step (some k) none q e = rw e
-    step (some k) (some ks) q e = rw e
+    step : (o : Option (List ℕ)) (p q : Option (List (Option (List ℕ)))) → q ≡ bind p (λ ks. Some (map (block coverage_words) ks))
+        → bind (bind (bind o (λ k. Some (coverage_words k))) (λ b. Some (Some b))) (λ b. bind q (λ bs. Some (b ∷ bs))) ≡ bind (bind (bind o (λ k. Some (Some k))) (λ c. bind p (λ ks. Some (c ∷ ks)))) (λ ks. Some (map (block coverage_words) ks))
+    step None p q e = refl
+    step (Some k) None q e = rw e
+    step (Some k) (Some ks) q e = rw e
 
 module _ (chained : Bool) (g l : List (ℕ × ℕ)) (b i a : List (Option (List ℕ))) (rs : List (ℕ × ℕ)) where
-  cut_covers : cut g l (Table.by_cover chained b i a rs) ≡ bind (covers_left g b) (λ b'. bind (covers_left g i) (λ i'. bind (covers_left g a) (λ a'. some (Table.by_cover chained b' i' a' (cut_records l rs)))))
+  cut_covers : cut g l (Table.by_cover chained b i a rs) ≡ bind (covers_left g b) (λ b'. bind (covers_left g i) (λ i'. bind (covers_left g a) (λ a'. Some (Table.by_cover chained b' i' a' (cut_records l rs)))))
   unfolding cut
   cut_covers = refl
 
@@ -65,13 +65,13 @@ module _ (chained : Bool) (g l : List (ℕ × ℕ)) (b i a : List (Option (List 
 left_length : (g : List (ℕ × ℕ)) (cs : List (Option (List ℕ))) → Opt (λ ks. length ks ≡ length cs) (covers_left g cs)
 unfolding covers_left map_all bind
 left_length g [] = refl
-left_length g (none ∷ cs) = tt
-left_length g (some cov ∷ cs) = step (unless_empty (new_coverage g cov)) (covers_left g cs) (left_length g cs)
+left_length g (None ∷ cs) = tt
+left_length g (Some cov ∷ cs) = step (unless_empty (new_coverage g cov)) (covers_left g cs) (left_length g cs)
   where
-    step : (o : Option (List ℕ)) (p : Option (List (Option (List ℕ)))) → Opt (λ ks. length ks ≡ length cs) p → Opt (λ ks. length ks ≡ suc (length cs)) (bind (bind o (λ k. some (some k))) (λ c. bind p (λ ks. some (c ∷ ks))))
-    step none p h = tt
-    step (some k) none h = tt
-    step (some k) (some ks) h = ap suc h
+    step : (o : Option (List ℕ)) (p : Option (List (Option (List ℕ)))) → Opt (λ ks. length ks ≡ length cs) p → Opt (λ ks. length ks ≡ suc (length cs)) (bind (bind o (λ k. Some (Some k))) (λ c. bind p (λ ks. Some (c ∷ ks))))
+    step None p h = tt
+    step (Some k) None h = tt
+    step (Some k) (Some ks) h = ap suc h
 
 -- what is left of a context is what the definitions say
 context_is : {chained : Bool} {s : List ℕ} {r : CoverParts} → IsContext chained s r → Good (cover_context chained s) → (packing : ℕ) (g l : List (ℕ × ℕ)) → GoodMap g → Values l → (out : List ℕ)
@@ -93,14 +93,14 @@ context_is {chained} {s} {r} k good packing g l m v out =
     ws ks = map (block coverage_words) ks
 
     step : (b i a : Option (List (Option (List ℕ)))) → Opt (λ ks. length ks ≡ length (covers_at s r.back)) b → Opt (λ ks. length ks ≡ length (covers_at s r.input)) i → Opt (λ ks. length ks ≡ length (covers_at s r.ahead)) a
-        → Opt (GoodOf (kind_of (cover_context chained s))) (bind b (λ b'. bind i (λ i'. bind a (λ a'. some (Table.by_cover chained b' i' a' rs)))))
-        → words_into (get_or (bind (bind b (λ ks. some (ws ks))) (λ b. bind (bind i (λ ks. some (ws ks))) (λ i. bind (bind a (λ ks. some (ws ks))) (λ a. some (offsets_fit (is_packed packing) chained b i a rs))))) true) out
-        (bind (bind b (λ ks. some (ws ks))) (λ b. bind (bind i (λ ks. some (ws ks))) (λ i. bind (bind a (λ ks. some (ws ks))) (λ a. some (covers_words (is_packed packing) chained b i a rs)))))
-        ≡ written_in packing out (bind b (λ b'. bind i (λ i'. bind a (λ a'. some (Table.by_cover chained b' i' a' rs)))))
-    step none i a lb li la o = refl
-    step (some b) none a lb li la o = refl
-    step (some b) (some i) none lb li la o = refl
-    step (some b) (some i) (some a) lb li la o =
+        → Opt (GoodOf (kind_of (cover_context chained s))) (bind b (λ b'. bind i (λ i'. bind a (λ a'. Some (Table.by_cover chained b' i' a' rs)))))
+        → words_into (unwrap_or (bind (bind b (λ ks. Some (ws ks))) (λ b. bind (bind i (λ ks. Some (ws ks))) (λ i. bind (bind a (λ ks. Some (ws ks))) (λ a. Some (offsets_fit (is_packed packing) chained b i a rs))))) true) out
+        (bind (bind b (λ ks. Some (ws ks))) (λ b. bind (bind i (λ ks. Some (ws ks))) (λ i. bind (bind a (λ ks. Some (ws ks))) (λ a. Some (covers_words (is_packed packing) chained b i a rs)))))
+        ≡ written_in packing out (bind b (λ b'. bind i (λ i'. bind a (λ a'. Some (Table.by_cover chained b' i' a' rs)))))
+    step None i a lb li la o = refl
+    step (Some b) None a lb li la o = refl
+    step (Some b) (Some i) None lb li la o = refl
+    step (Some b) (Some i) (Some a) lb li la o =
         ap (λ (w : List ℕ). laid_as (offsets_fit (is_packed packing) chained (ws b) (ws i) (ws a) rs) out (flat w)) (sym (words_covers chained b i a rs packing))
         ∙ laid_words_lem out (words_in packing (Table.by_cover chained b i a rs))
         (covers_fit b i a rs packing chained o.0 (omega (arith, lb, at r.back, k.few.back)) (omega (arith, li, at r.input, k.few.input)) (omega (arith, la, at r.ahead, k.few.ahead))
@@ -116,20 +116,20 @@ held_is {s = s} {r} k good packing g {t} {l} {es} h m v out = rw (records_alike 
 module _ {before area : List ℕ} {end : ℕ} where
   -- nothing is left
   settled_none : (left : Option (List ℕ)) (fit : Bool) → Settles left fit before area end → end ≡ 0 → (out : List ℕ) → refused out 8 ≡ words_into fit out left
-  settled_none none fit k z out = refl
-  settled_none (some ws) fit k z out = absurd (omega (arith, k.kept refl))
+  settled_none None fit k z out = refl
+  settled_none (Some ws) fit k z out = absurd (omega (arith, k.kept refl))
 
   -- an offset doesn't fit, if the area has enough bytes
   settled_big : (left : Option (List ℕ)) (fit : Bool) → Settles left fit before area end → length before < end → enough_area ≤ length before → (out : List ℕ) → refused out 9 ≡ words_into fit out left
-  settled_big none fit k l b out = absurd (omega (arith, k.gone refl))
-  settled_big (some ws) false k l b out = sym (laid_unfit out (flat ws))
-  settled_big (some ws) true k l b out = absurd (omega (arith, k.full refl l refl))
+  settled_big None fit k l b out = absurd (omega (arith, k.gone refl))
+  settled_big (Some ws) false k l b out = sym (laid_unfit out (flat ws))
+  settled_big (Some ws) true k l b out = absurd (omega (arith, k.full refl l refl))
 
   -- it stands at the area's front
   settled_bytes : (left : Option (List ℕ)) (fit : Bool) → Settles left fit before area end → (end ≡ 0 → ⊥) → end ≤ length before → (out : List ℕ) → laid_as true out (part area 0 0 ++ part area 0 (end - 0)) ≡ words_into fit out left
   unfolding part
-  settled_bytes none fit k z l out = absurd (z (k.gone refl))
-  settled_bytes (some ws) fit k z l out =
+  settled_bytes None fit k z l out = absurd (z (k.gone refl))
+  settled_bytes (Some ws) fit k z l out =
       let x = k.fits refl l in
       let e : end - 0 ≡ end = omega arith in
       let f : 0 + end ≡ end = omega arith in
@@ -137,17 +137,17 @@ module _ {before area : List ℕ} {end : ℕ} where
       ap (laid_as true out) (rw e p) ∙ ap (λ (t : Bool). laid_as t out (flat ws)) (sym (k.near refl l))
 
 module _ {end : ℕ} {area out : List ℕ} where
-  pub hands_nothing : end ≡ 0 → HandsOver end area (Became Nothing) out out
+  pub hands_nothing : end ≡ 0 → HandsOver end area (Err (Refused Nothing)) out out
   hands_nothing z = record { handed = λ {left = left} {fit = fit} {before = before} k s. settled_none left fit k z out }
 
-  pub hands_short : length area < enough_area → HandsOver end area Short out out
+  pub hands_short : length area < enough_area → HandsOver end area (Err Short) out out
   hands_short h = record { handed = λ {left = left} {fit = fit} {before = before} k s. (h, refl) }
 
-  pub hands_big : length area < end → enough_area ≤ length area → HandsOver end area (Became TooBig) out out
+  pub hands_big : length area < end → enough_area ≤ length area → HandsOver end area (Err (Refused TooBig)) out out
   hands_big h l = record { handed = λ {left = left} {fit = fit} {before = before} k s. settled_big left fit k (omega arith) (omega arith) out }
 
-  pub hands_over : {laid : Laid} {after : List ℕ} → (end ≡ 0 → ⊥) → end ≤ length area → outcome_of laid after ≡ laid_as true out (part area 0 0 ++ part area 0 (end - 0)) → HandsOver end area (Became laid) out after
-  hands_over z l e = record { handed = λ {left = left} {fit = fit} {before = before} k s. e ∙ settled_bytes left fit k z (omega arith) out }
+  pub hands_over : (laid : Result ℕ NotLaid) {after : List ℕ} → (end ≡ 0 → ⊥) → end ≤ length area → outcome_of laid after ≡ laid_as true out (part area 0 0 ++ part area 0 (end - 0)) → HandsOver end area (became laid) out after
+  hands_over laid {after} z l e = record { handed = λ {left = left} {fit = fit} {before = before} k s. tries_became ⊥ (length area < enough_area) laid out after (words_into fit out left) (e ∙ settled_bytes left fit k z (omega arith) out) }
 
 -- The rows of a context, one after the other: each bound is no less than the one before it.
 pub most_of : {form : ℕ} {glyphs s : List ℕ} {r : CoverParts} {a b n : ℕ} → MostRow form glyphs s r.back 0 a → MostRow form glyphs s r.input a b → MostRow form glyphs s r.ahead b n → MostNotes form glyphs s r n
@@ -181,15 +181,15 @@ module _ {chained : Bool} {s glyphs : List ℕ} {h : Held} {l : Map} {t area : L
   cut_asks f i = record { bytes = a.bytes; source = a.source; parts = k; ready = a.ready; most = n; notes = c; room = f; lookups = a.lookups; header = i; short = a.short; cells = a.cells }
 
   -- there are too few cells for the notes
-  pub cut_few : {packing : ℕ} {out : List ℕ} → length t ≤ h.map.at + h.map.mask + 1 + n → CutsInto packing chained s glyphs h l t area FewCells out out
+  pub cut_few : {packing : ℕ} {out : List ℕ} → length t ≤ h.map.at + h.map.mask + 1 + n → CutsInto packing chained s glyphs h l t area (Err FewCells) out out
   cut_few i = record { cuts = λ {es = es} o v. (omega (arith, c.small), refl) }
 
   -- the header alone is longer than the area
-  pub cut_short : {packing : ℕ} {out : List ℕ} → length area < r.records.at + 4 * r.records.len → CutsInto packing chained s glyphs h l t area Short out out
+  pub cut_short : {packing : ℕ} {out : List ℕ} → length area < r.records.at + 4 * r.records.len → CutsInto packing chained s glyphs h l t area (Err Short) out out
   unfolding limit
   cut_short i = record { cuts = λ {es = es} o v. (omega (arith, k.records, a.source), refl) }
 
-  pub cut_into : {packing : ℕ} {next out after : List ℕ} {end : ℕ} {x : Tried} → Writes (is_packed packing) chained s r glyphs h l t area next end → HandsOver end next x out after → CutsInto packing chained s glyphs h l t area x out after
+  pub cut_into : {packing : ℕ} {next out after : List ℕ} {end : ℕ} {x : Result ℕ NotCut} → Writes (is_packed packing) chained s r glyphs h l t area next end → HandsOver end next x out after → CutsInto packing chained s glyphs h l t area x out after
   cut_into {packing} {next} {out} {after} {end} {x} w v = record {
     cuts = λ {es = es} o u.
         let made = written_in packing out (cut (glyph_entries h.form glyphs) es (cover_context chained s)) in

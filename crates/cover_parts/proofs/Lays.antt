@@ -2,7 +2,7 @@
 use Prim.Native.Nat.{ℕ, ◌+◌, ◌*◌, ◌≤◌, ◌<◌}
 use mathlib.Core.Path.{◌≡◌, refl, sym, ap, ◌∙◌, subst}
 use mathlib.Core.Bool.{Bool, true, ◌&&◌, true≢false}
-use mathlib.Core.Option.{Option, none, some, get_or}
+use Rattle.std.specs.Prelude.{Option, None, Some, unwrap_or}
 use mathlib.Core.List.{List, [], ◌∷◌, ◌++◌, append-nil, append_assoc}
 use native.Mathlib.Decide.{dec_lt}
 use native.Mathlib.Omega.{arith}
@@ -28,23 +28,23 @@ use Rattle.cover_parts.specs.Rows.{highest_end, Stood, Lays, LaysLeft}
 use Rattle.cover_parts.specs.declared.Places.{Places}
 
 -- what is there is not gone, and is one
-pub some_none : {A : Type 0} {a : A} → some a ≡ none → ⊥
+pub some_none : {A : Type 0} {a : A} → Some a ≡ None → ⊥
 unfolding is_some
 some_none h = true≢false (ap is_some h)
 
-pub some_same : {A : Type 0} {a b : A} → some a ≡ some b → a ≡ b
-some_same {A} {a} h = ap (λ o. get_or o a) h
+pub some_same : {A : Type 0} {a b : A} → Some a ≡ Some b → a ≡ b
+some_same {A} {a} h = ap (λ o. unwrap_or o a) h
 
 -- both of two
 pub and_true : (a b : Bool) → a ≡ true → b ≡ true → a && b ≡ true
 and_true a b h k = rw (h, k) refl
 
 -- the offset of one block fits if its place is a word
-one_fits : (packed : Bool) (first : ℕ) (pre : List (Option (List ℕ))) (b : List ℕ) → place_in packed first pre b ≤ 65535 → words_fit (offsets_behind packed first pre (some b ∷ [])) ≡ true
+one_fits : (packed : Bool) (first : ℕ) (pre : List (Option (List ℕ))) (b : List ℕ) → place_in packed first pre b ≤ 65535 → words_fit (offsets_behind packed first pre (Some b ∷ [])) ≡ true
 unfolding offsets_behind words_fit every
 one_fits packed first pre b h = rw (lt-ltb (place_in packed first pre b) 65536 (omega arith)) refl
 
-pub fits_one : (packed : Bool) (first : ℕ) (pre : List (Option (List ℕ))) (b : List ℕ) → words_fit (offsets_behind packed first pre (some b ∷ [])) ≡ true → place_in packed first pre b ≤ 65535
+pub fits_one : (packed : Bool) (first : ℕ) (pre : List (Option (List ℕ))) (b : List ℕ) → words_fit (offsets_behind packed first pre (Some b ∷ [])) ≡ true → place_in packed first pre b ≤ 65535
 unfolding offsets_behind words_fit every
 fits_one packed first pre b h = omega (arith, ltb-true (place_in packed first pre b) 65536 (both (ltb (place_in packed first pre b) 65536) true h).0)
 
@@ -67,13 +67,13 @@ module _ {packed : Bool} {left : ℕ → Option (List ℕ)} {first : ℕ} {pre :
     }
 
     -- one block: what it adds, and its offset
-    pub lays_one : (b : List ℕ) {mid after : List ℕ} {r : ℕ} {book : List ℕ} → slot + 2 ≤ p → Extends before p (added_by packed pre (some b)) mid r → after ≡ sets mid slot (bytes2 (place_in packed first pre b))
-        → place_in packed first pre b ≤ 65535 → All Word (added_by packed pre (some b)) → r ≤ highest_end → Booked left (in_book packed (pre ++ (some b ∷ []))) book → Lays packed left first pre before slot p (some b ∷ []) after r book
+    pub lays_one : (b : List ℕ) {mid after : List ℕ} {r : ℕ} {book : List ℕ} → slot + 2 ≤ p → Extends before p (added_by packed pre (Some b)) mid r → after ≡ sets mid slot (bytes2 (place_in packed first pre b))
+        → place_in packed first pre b ≤ 65535 → All Word (added_by packed pre (Some b)) → r ≤ highest_end → Booked left (in_book packed (pre ++ (Some b ∷ []))) book → Lays packed left first pre before slot p (Some b ∷ []) after r book
     unfolding offsets_behind blocks_behind bytes2
     lays_one b {mid} {after} {r} l x e n w h k = record {
-      fits = λ g. subst (λ (a : List ℕ). Extends a p (added_by packed pre (some b) ++ []) after r) (ap (sets before slot) (sym (flat_one at)))
-          (extends_said (subst (λ (a : List ℕ). Extends (sets before slot (bytes2 at)) p (added_by packed pre (some b)) a r) (sym e) (extends_store slot (bytes2 at) x l)) (sym (append-nil (added_by packed pre (some b)))));
-      small = λ g. subst (All Word) (sym (append-nil (added_by packed pre (some b)))) w;
+      fits = λ g. subst (λ (a : List ℕ). Extends a p (added_by packed pre (Some b) ++ []) after r) (ap (sets before slot) (sym (flat_one at)))
+          (extends_said (subst (λ (a : List ℕ). Extends (sets before slot (bytes2 at)) p (added_by packed pre (Some b)) a r) (sym e) (extends_store slot (bytes2 at) x l)) (sym (append-nil (added_by packed pre (Some b)))));
+      small = λ g. subst (All Word) (sym (append-nil (added_by packed pre (Some b)))) w;
       near = λ g. one_fits packed first pre b n;
       low = λ g. h;
       booked = λ g. k;
@@ -150,7 +150,7 @@ module _ {packed : Bool} {left : ℕ → Option (List ℕ)} {first : ℕ} {pre :
 -- What is left.
 module _ {source : ℕ → Option (List ℕ)} {left : Option (List (Option (List ℕ)))} {m : Map} {t₀ t before : List ℕ} {slot : ℕ} {at : Places} {after book₀ book : List ℕ} (c : Kept (m.at + m.mask + 1) t₀ t) (s : length after ≡ length before) (p : length book ≡ length book₀) where
   -- it was laid down, or nothing is left
-  pub laid_some : {bs : List (Option (List ℕ))} {r : ℕ} → left ≡ some bs
+  pub laid_some : {bs : List (Option (List ℕ))} {r : ℕ} → left ≡ Some bs
       → ((pre : List (Option (List ℕ))) → (at.pos ≤ length before → Stood (packs book₀) source at.first pre before at.pos book₀) → Lays (packs book₀) source at.first pre before slot at.pos bs after r book)
       → LaysLeft source left m t₀ t before slot at after r book₀ book
   laid_some {bs} {r} e h = record {
@@ -161,7 +161,7 @@ module _ {source : ℕ → Option (List ℕ)} {left : Option (List (Option (List
     stays = λ {bs = cs} g pre st. subst (λ (x : List (Option (List ℕ))). Lays (packs book₀) source at.first pre before slot at.pos x after r book) (some_same (sym e ∙ g)) (h pre st);
   }
 
-  pub laid_none : left ≡ none → LaysLeft source left m t₀ t before slot at after 0 book₀ book
+  pub laid_none : left ≡ None → LaysLeft source left m t₀ t before slot at after 0 book₀ book
   laid_none e = record { cells = c; same = s; pages = p; gone = λ g. refl; stays = λ {bs = cs} g pre st. absurd (some_none (sym g ∙ e)) }
 
 module _ {source : ℕ → Option (List ℕ)} {m : Map} {t₀ t before : List ℕ} {slot : ℕ} {at : Places} {after : List ℕ} {r : ℕ} {book₀ book : List ℕ} where
@@ -170,6 +170,6 @@ module _ {source : ℕ → Option (List ℕ)} {m : Map} {t₀ t before : List �
   laid_said e h = rw e at h
 
   -- the place is 0 if nothing is left
-  pub laid_zero : (left : Option (List (Option (List ℕ)))) → LaysLeft source left m t₀ t before slot at after r book₀ book → (pre : List (Option (List ℕ))) → (at.pos ≤ length before → Stood (packs book₀) source at.first pre before at.pos book₀) → 0 < at.pos → r ≡ 0 → left ≡ none
-  laid_zero none h pre st l z = refl
-  laid_zero (some bs) h pre st l z = absurd (omega (arith, ((h.stays refl pre st).fits (omega arith)).place))
+  pub laid_zero : (left : Option (List (Option (List ℕ)))) → LaysLeft source left m t₀ t before slot at after r book₀ book → (pre : List (Option (List ℕ))) → (at.pos ≤ length before → Stood (packs book₀) source at.first pre before at.pos book₀) → 0 < at.pos → r ≡ 0 → left ≡ None
+  laid_zero None h pre st l z = refl
+  laid_zero (Some bs) h pre st l z = absurd (omega (arith, ((h.stays refl pre st).fits (omega arith)).place))

@@ -2,7 +2,7 @@
 use Prim.Native.Nat.{ℕ, ◌+◌, ◌*◌, ◌≤◌, ◌<◌}
 use mathlib.Core.Path.{◌≡◌, refl, sym}
 use mathlib.Core.Bool.{true, false, ◌&&◌, true≢false}
-use mathlib.Core.Option.{none}
+use Rattle.std.specs.Prelude.{None}
 use mathlib.Core.List.{List}
 use native.Mathlib.Omega.{arith}
 use lib.ListN.{length}
@@ -26,7 +26,7 @@ module _ (s : List ℕ) where
   no_row = record { inside = omega arith; sound = refl }
 
   -- a plain context: counts, offsets, records
-  pub plain_is : {n k : ℕ} → covers_fault false s ≡ none → (n ≡ word s 2) × (n < 65536) → (k ≡ word s 4) × (k < 65536)
+  pub plain_is : {n k : ℕ} → covers_fault false s ≡ None → (n ≡ word s 2) × (n < 65536) → (k ≡ word s 4) × (k < 65536)
       → IsContext false s (record { back = record { at = 0; len = 0 }; input = record { at = 6; len = n }; ahead = record { at = 0; len = 0 }; records = record { at = 6 + 2 * n; len = k } })
   unfolding cover_context reaches covers_fault
   plain_is {n} {k} h e f =
@@ -44,7 +44,7 @@ module _ (s : List ℕ) where
       }
 
   -- a chained context: three arrays and the records, each with its count before it
-  pub chained_is : {b n a k : ℕ} → covers_fault true s ≡ none → (b ≡ word s 2) × (b < 65536) → (n ≡ word s (4 + 2 * b)) × (n < 65536)
+  pub chained_is : {b n a k : ℕ} → covers_fault true s ≡ None → (b ≡ word s 2) × (b < 65536) → (n ≡ word s (4 + 2 * b)) × (n < 65536)
       → (a ≡ word s (4 + 2 * b + 2 + 2 * n)) × (a < 65536) → (k ≡ word s (4 + 2 * b + 2 + 2 * n + 2 + 2 * a)) × (k < 65536)
       → IsContext true s
       (record {

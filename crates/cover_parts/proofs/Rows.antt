@@ -2,7 +2,7 @@
 use Prim.Native.Nat.{ℕ, zero, suc, ◌+◌, ◌-◌, ◌*◌, ◌%◌, ◌≤◌, ◌<◌}
 use mathlib.Core.Path.{◌≡◌, refl, sym, ap, ◌∙◌, subst}
 use mathlib.Core.Bool.{Bool, true, false, cond, true≢false}
-use mathlib.Core.Option.{Option, none, some}
+use Rattle.std.specs.Prelude.{Option, None, Some}
 use mathlib.Core.List.{List, [], ◌∷◌, ◌++◌, append_assoc, append-nil}
 use native.Mathlib.Nat.{zero-add}
 use native.Mathlib.Decide.{dec_lt}
@@ -45,20 +45,20 @@ use Rattle.cover_parts.specs.declared.Held.{Held}
 use Rattle.cover_parts.proofs.Lays.{some_none, some_same, fits_one, stood_store, lays_none, lays_one, lays_over, lays_past, stood_more, lays_more, laid_some, laid_none, laid_zero}
 
 -- a part that an offset of a row reaches has no fault if the row's parts have none
-through_none : (fault_at : ℕ → Option ℕ) (s : List ℕ) (slot n i : ℕ) → fault_through fault_at s 0 slot n ≡ none → i < n → (word s (slot + 2 * i) ≡ 0 → ⊥) → fault_at (word s (slot + 2 * i)) ≡ none
+through_none : (fault_at : ℕ → Option ℕ) (s : List ℕ) (slot n i : ℕ) → fault_through fault_at s 0 slot n ≡ None → i < n → (word s (slot + 2 * i) ≡ 0 → ⊥) → fault_at (word s (slot + 2 * i)) ≡ None
 unfolding fault_through
 through_none fault_at s slot zero i h l z = absurd (omega arith)
 through_none fault_at s slot (suc n) zero h l z =
     let e : slot + 2 * 0 ≡ slot = omega arith in
-    rw e (rw (ne_eqb (word s slot) 0 (rw e at z), zero-add) at (lowest_none (cond (eqb (word s slot) 0) none (fault_at (0 + word s slot))) _ h).0)
+    rw e (rw (ne_eqb (word s slot) 0 (rw e at z), zero-add) at (lowest_none (cond (eqb (word s slot) 0) None (fault_at (0 + word s slot))) _ h).0)
 through_none fault_at s slot (suc n) (suc i) h l z =
     let e : slot + 2 * suc i ≡ slot + 2 + 2 * i = omega arith in
-    rw e (through_none fault_at s (slot + 2) n i (lowest_none (cond (eqb (word s slot) 0) none (fault_at (0 + word s slot))) _ h).1 (omega arith) (rw e at z))
+    rw e (through_none fault_at s (slot + 2) n i (lowest_none (cond (eqb (word s slot) 0) None (fault_at (0 + word s slot))) _ h).1 (omega arith) (rw e at z))
 
 -- the coverage at a non-null offset of a row is sound
 pub sound_at : {s : List ℕ} {row : Row} → SoundRow s row → {i at : ℕ} → i < row.len → at ≡ word s (row.at + 2 * i) → (at ≡ 0 → ⊥) → coverage_sound s at ≡ true
 unfolding coverage_fault
-sound_at {s} {row} k {i} h e z = rw e (part_sound _ _ none (through_none (coverage_fault s) s row.at row.len i k.sound h (λ q. z (e ∙ q)))).0
+sound_at {s} {row} k {i} h e z = rw e (part_sound _ _ None (through_none (coverage_fault s) s row.at row.len i k.sound h (λ q. z (e ∙ q)))).0
 
 -- a coverage has two words or more, and at most 65,538
 words_two : (gs : List ℕ) → 2 ≤ length (coverage_words gs)
@@ -85,50 +85,50 @@ words_most gs k = step (leb (4 + 2 * length gs) (4 + 6 * length rs)) refl
 
 -- One coverage.
 module _ (g : List (ℕ × ℕ)) (cov : List ℕ) where
-  one_gone : new_coverage g cov ≡ [] → blocks_left g (some cov ∷ []) ≡ none
+  one_gone : new_coverage g cov ≡ [] → blocks_left g (Some cov ∷ []) ≡ None
   unfolding blocks_left block_left words_left map_all bind unless_empty
   one_gone e = rw e
 
-  words_left_lem : (n : ℕ) (ns : List ℕ) → new_coverage g cov ≡ n ∷ ns → words_left g cov ≡ some (coverage_words (new_coverage g cov))
+  words_left_lem : (n : ℕ) (ns : List ℕ) → new_coverage g cov ≡ n ∷ ns → words_left g cov ≡ Some (coverage_words (new_coverage g cov))
   unfolding words_left bind unless_empty
   words_left_lem n ns e = rw e
 
-  left_one : {b : List ℕ} → words_left g cov ≡ some b → blocks_left g (some cov ∷ []) ≡ some (some b ∷ [])
+  left_one : {b : List ℕ} → words_left g cov ≡ Some b → blocks_left g (Some cov ∷ []) ≡ Some (Some b ∷ [])
   unfolding blocks_left block_left map_all bind
   left_one e = rw e
 
-  left_long : {b : List ℕ} → words_left g cov ≡ some b → 2 ≤ length b
+  left_long : {b : List ℕ} → words_left g cov ≡ Some b → 2 ≤ length b
   unfolding words_left bind unless_empty
   left_long {b} e = step (new_coverage g cov) e
     where
-      step : (l : List ℕ) → bind (unless_empty l) (λ k. some (coverage_words k)) ≡ some b → 2 ≤ length b
+      step : (l : List ℕ) → bind (unless_empty l) (λ k. Some (coverage_words k)) ≡ Some b → 2 ≤ length b
       step [] q = absurd (some_none (sym q))
       step (n ∷ ns) q = subst (λ (x : List ℕ). 2 ≤ length x) (some_same q) (words_two (n ∷ ns))
 
   -- by how many glyphs are noted
-  news_gone : (t : List ℕ) (to k : ℕ) → news t to k ≡ new_coverage g cov → k ≡ 0 → blocks_left g (some cov ∷ []) ≡ none
+  news_gone : (t : List ℕ) (to k : ℕ) → news t to k ≡ new_coverage g cov → k ≡ 0 → blocks_left g (Some cov ∷ []) ≡ None
   unfolding part
   news_gone t to k e z = one_gone (sym e ∙ rw z refl)
 
-  news_left : (t : List ℕ) (to k : ℕ) → news t to k ≡ new_coverage g cov → (k ≡ 0 → ⊥) → words_left g cov ≡ some (coverage_words (new_coverage g cov))
+  news_left : (t : List ℕ) (to k : ℕ) → news t to k ≡ new_coverage g cov → (k ≡ 0 → ⊥) → words_left g cov ≡ Some (coverage_words (new_coverage g cov))
   unfolding part
   news_left t to zero e z = absurd (z refl)
   news_left t to (suc k) e z = words_left_lem (get_or t to 0 % 65536) (news t (to + 1) k) (sym e)
 
   -- by whether one is retained
-  passes_on : (p : ℕ) → is_some (unless_empty (new_coverage g cov)) ≡ true → Passes (blocks_left g (some cov ∷ [])) p p
+  passes_on : (p : ℕ) → is_some (unless_empty (new_coverage g cov)) ≡ true → Passes (blocks_left g (Some cov ∷ [])) p p
   unfolding is_some unless_empty
   passes_on p h = step (new_coverage g cov) refl h
     where
-      step : (l : List ℕ) → new_coverage g cov ≡ l → is_some (unless_empty l) ≡ true → Passes (blocks_left g (some cov ∷ [])) p p
+      step : (l : List ℕ) → new_coverage g cov ≡ l → is_some (unless_empty l) ≡ true → Passes (blocks_left g (Some cov ∷ [])) p p
       step [] e h = absurd (true≢false (sym h))
       step (n ∷ ns) e h = record { gone = λ q. absurd (some_none (sym (left_one (words_left_lem n ns e)) ∙ q)); stays = λ {bs = bs} q. refl }
 
-  passes_gone : (p : ℕ) → is_some (unless_empty (new_coverage g cov)) ≡ false → Passes (blocks_left g (some cov ∷ [])) p 0
+  passes_gone : (p : ℕ) → is_some (unless_empty (new_coverage g cov)) ≡ false → Passes (blocks_left g (Some cov ∷ [])) p 0
   unfolding is_some unless_empty
   passes_gone p h = step (new_coverage g cov) refl h
     where
-      step : (l : List ℕ) → new_coverage g cov ≡ l → is_some (unless_empty l) ≡ false → Passes (blocks_left g (some cov ∷ [])) p 0
+      step : (l : List ℕ) → new_coverage g cov ≡ l → is_some (unless_empty l) ≡ false → Passes (blocks_left g (Some cov ∷ [])) p 0
       step [] e h = record { gone = λ q. refl; stays = λ {bs = bs} q. absurd (some_none (sym q ∙ one_gone e)) }
       step (n ∷ ns) e h = absurd (true≢false h)
 
@@ -140,7 +140,7 @@ module _ {form : ℕ} {s : List ℕ} {cover : ℕ} {glyphs : List ℕ} {m : Map}
   over_gone h = passes_gone (glyph_entries form glyphs) (coverage s cover) p (sym e ∙ h)
 
 -- the blocks of a book, each of two words or more, have at least twice as many words
-listed_long : (left : ℕ → Option (List ℕ)) → ((x : ℕ) (d : List ℕ) → left x ≡ some d → 2 ≤ length d) → (book : List ℕ) (i w : ℕ) (ds : List (List ℕ)) → Listed left book i w ds → 2 * length ds ≤ length (together ds)
+listed_long : (left : ℕ → Option (List ℕ)) → ((x : ℕ) (d : List ℕ) → left x ≡ Some d → 2 ≤ length d) → (book : List ℕ) (i w : ℕ) (ds : List (List ℕ)) → Listed left book i w ds → 2 * length ds ≤ length (together ds)
 unfolding together
 listed_long left f book i w [] h = omega arith
 listed_long left f book i w (d ∷ ds) h = omega (arith, f _ d h.1, listed_long left f book (i + 1) (w + length d) ds h.2, length-append d (together ds))
@@ -191,7 +191,7 @@ module _ {area : List ℕ} {slot : Slot} {at : Places} {q : ℕ} {book₀ book :
         added_short false b = omega arith
 
         step : {left : ℕ → Option (List ℕ)} (pre : List (Option (List ℕ))) (b : List ℕ) → Behind left pre b area at.first at.pos q slot.cover book₀
-            → (spot.at ≡ place_in (packs book₀) at.first pre b) × (spot.end ≡ at.first + 2 * length (blocks_in (packs book₀) (pre ++ (some b ∷ [])))) × Booked left (in_book (packs book₀) (pre ++ (some b ∷ []))) book
+            → (spot.at ≡ place_in (packs book₀) at.first pre b) × (spot.end ≡ at.first + 2 * length (blocks_in (packs book₀) (pre ++ (Some b ∷ [])))) × Booked left (in_book (packs book₀) (pre ++ (Some b ∷ []))) book
             → Pointed (packs book₀) left at.first pre b area slot.at after spot.end book
         step pre b h w = record {
           far = λ g. absurd (omega (arith, w.1, a.lies, h.place, h.end, ap length (blocks_next (packs book₀) 0 pre b), length-append (blocks_in (packs book₀) pre) (cond (known (packs book₀) pre b) [] b), added_short (known (packs book₀) pre b) b));
@@ -239,11 +239,11 @@ module _ {s : List ℕ} {slot : Slot} {glyphs : List ℕ} {h : Held} {t area : L
         let y = w.found a.standing.pre stands.booked z in
         laid_some (kept_all (h.map.at + h.map.mask + 1) t) (ap length e ∙ length-sets area slot.at (bytes2 x)) refl (left_one g cov y.is) (λ pre st. step y.words y.is pre (st l) (w.found pre (st l).booked z))
       where
-        step : (ws : List ℕ) → source slot.cover ≡ some ws → (pre : List (Option (List ℕ))) → Stood (packs book) source at.first pre area at.pos book → Repeated source pre book at.first slot.cover x
-            → Lays (packs book) source at.first pre area slot.at at.pos (some ws ∷ []) next at.pos book
+        step : (ws : List ℕ) → source slot.cover ≡ Some ws → (pre : List (Option (List ℕ))) → Stood (packs book) source at.first pre area at.pos book → Repeated source pre book at.first slot.cover x
+            → Lays (packs book) source at.first pre area slot.at at.pos (Some ws ∷ []) next at.pos book
         step ws f pre st y =
-            let k : added_by (packs book) pre (some y.words) ≡ [] = ap (λ (b : Bool). cond b [] y.words) y.again in
-            subst (λ (v : List ℕ). Lays (packs book) source at.first pre area slot.at at.pos (some v ∷ []) next at.pos book) (some_same (sym y.is ∙ f))
+            let k : added_by (packs book) pre (Some y.words) ≡ [] = ap (λ (b : Bool). cond b [] y.words) y.again in
+            subst (λ (v : List ℕ). Lays (packs book) source at.first pre area slot.at at.pos (Some v ∷ []) next at.pos book) (some_same (sym y.is ∙ f))
             (lays_one y.words (omega (arith, a.before, st.laid.place)) (extends_said (extends_none l) (sym k)) (e ∙ ap (λ (n : ℕ). sets area slot.at (bytes2 n)) y.at)
             (omega (arith, known_near (packs book) at.first pre y.words st.near y.again)) (subst (All Word) (sym k) tt) st.low y.booked)
 
@@ -260,7 +260,7 @@ module _ {s : List ℕ} {slot : Slot} {glyphs : List ℕ} {h : Held} {t area : L
         written : Tried area at.pos words mid q
         written = rw (met_news g m) at w
 
-        is_left : source slot.cover ≡ some words
+        is_left : source slot.cover ≡ Some words
         is_left = news_left g cov next (h.map.at + h.map.mask + 1) k (met_news g m) z
 
         glyphs_left : Glyphs (new_coverage g cov)
@@ -270,7 +270,7 @@ module _ {s : List ℕ} {slot : Slot} {glyphs : List ℕ} {h : Held} {t area : L
         pub slot_short : length mid < q → LaysLeft source (slot_left g s slot.cover) h.map t next area slot.at at mid q book book
         slot_short d =
             laid_some m.kept written.same refl (left_one g cov is_left)
-            (λ pre st. lays_past (omega (arith, written.same)) (some words ∷ []) (λ f. omega (arith, written.full (omega (arith, written.same)), stands.low, words_most (new_coverage g cov) glyphs_left)))
+            (λ pre st. lays_past (omega (arith, written.same)) (Some words ∷ []) (λ f. omega (arith, written.full (omega (arith, written.same)), stands.low, words_most (new_coverage g cov) glyphs_left)))
 
         module _ (d : q ≤ length mid) where
           wrote : Extends area at.pos words mid q
@@ -312,8 +312,8 @@ module _ {s : List ℕ} {slot : Slot} {glyphs : List ℕ} {h : Held} {t area : L
             }
 
             -- what they add
-            added : {r : ℕ} → r ≡ at.first + 2 * length (blocks_in (packs book) (pre ++ (some words ∷ []))) → place_in (packs book) at.first pre words ≤ 65535
-                → Extends area at.pos (added_by (packs book) pre (some words)) mid r × All Word (added_by (packs book) pre (some words)) × (r ≤ highest_end)
+            added : {r : ℕ} → r ≡ at.first + 2 * length (blocks_in (packs book) (pre ++ (Some words ∷ []))) → place_in (packs book) at.first pre words ≤ 65535
+                → Extends area at.pos (added_by (packs book) pre (Some words)) mid r × All Word (added_by (packs book) pre (Some words)) × (r ≤ highest_end)
             added {r} e n = step (known (packs book) pre words) refl (omega (arith, e, st.laid.place, ap length (blocks_next (packs book) 0 pre words), length-append (blocks_in (packs book) pre) (cond (known (packs book) pre words) [] words)))
               where
                 step : (b : Bool) → known (packs book) pre words ≡ b → r ≡ at.pos + 2 * length (cond (known (packs book) pre words) [] words)
@@ -329,8 +329,8 @@ module _ {s : List ℕ} {slot : Slot} {glyphs : List ℕ} {h : Held} {t area : L
           slot_written {after} {r} {book₁} y = laid_some m.kept (y.same ∙ written.same) y.pages (left_one g cov is_left) (λ pre st. step pre (st l) (y.points pre words (behind pre (st l))) (dec_lt (length mid) r))
             where
               step : (pre : List (Option (List ℕ))) → Stood (packs book) source at.first pre area at.pos book → Pointed (packs book) source at.first pre words mid slot.at after r book₁ → Dec (length mid < r)
-                  → Lays (packs book) source at.first pre area slot.at at.pos (some words ∷ []) after r book₁
-              step pre st v (yes x) = lays_past (omega (arith, written.same)) (some words ∷ []) (λ f. absurd (omega (arith, v.far x, fits_one (packs book) at.first pre words f)))
+                  → Lays (packs book) source at.first pre area slot.at at.pos (Some words ∷ []) after r book₁
+              step pre st v (yes x) = lays_past (omega (arith, written.same)) (Some words ∷ []) (λ f. absurd (omega (arith, v.far x, fits_one (packs book) at.first pre words f)))
               step pre st v (no x) =
                   let i : r ≤ length mid = omega arith in
                   let u = added pre st (v.end i) (v.near i) in
@@ -371,11 +371,11 @@ module _ (g : List (ℕ × ℕ)) (s : List ℕ) (slot n : ℕ) where
       rw (e, f)
 
   module _ {i cover : ℕ} (h : i < n) (e : cover ≡ word s (slot + 2 * i)) where
-    null_left : cover ≡ 0 → left_from i ≡ none
+    null_left : cover ≡ 0 → left_from i ≡ None
     unfolding blocks_left block_left map_all reach bind
     null_left z = rw (reaches_left i h, ← e, eq-eqb cover 0 z)
 
-    there_left : (cover ≡ 0 → ⊥) → left_from i ≡ bind (block_left g (some (coverage s cover))) (λ b. bind (left_from (i + 1)) (λ bs. some (b ∷ bs)))
+    there_left : (cover ≡ 0 → ⊥) → left_from i ≡ bind (block_left g (Some (coverage s cover))) (λ b. bind (left_from (i + 1)) (λ bs. Some (b ∷ bs)))
     unfolding blocks_left map_all reach
     there_left z = rw (reaches_left i h, ← e, ne_eqb cover 0 z, zero-add)
 
@@ -388,18 +388,18 @@ pub record Rowing (g : List (ℕ × ℕ)) (s : List ℕ) (row : Row) (m : Map) (
   pub start : 0 < p
   pub done : List (Option (List ℕ))
   pub count : length done ≡ i
-  pub whole : row_left g s row ≡ bind (left_from g s row.at row.len i) (λ bs. some (done ++ bs))
+  pub whole : row_left g s row ≡ bind (left_from g s row.at row.len i) (λ bs. Some (done ++ bs))
   pub lays : (pre : List (Option (List ℕ))) → (at.pos ≤ length before → Stood (packs book₀) (left_at g s) at.first pre before at.pos book₀) → Lays (packs book₀) (left_at g s) at.first pre before row.at at.pos done area p book
 
-bind_some : {A : Type 0} (o : Option (List A)) → o ≡ bind o (λ bs. some ([] ++ bs))
+bind_some : {A : Type 0} (o : Option (List A)) → o ≡ bind o (λ bs. Some ([] ++ bs))
 unfolding bind
-bind_some none = refl
-bind_some (some bs) = refl
+bind_some None = refl
+bind_some (Some bs) = refl
 
-bind_more : {A : Type 0} (done : List A) (b : A) (o : Option (List A)) → bind (bind o (λ bs. some (b ∷ bs))) (λ bs. some (done ++ bs)) ≡ bind o (λ bs. some ((done ++ (b ∷ [])) ++ bs))
+bind_more : {A : Type 0} (done : List A) (b : A) (o : Option (List A)) → bind (bind o (λ bs. Some (b ∷ bs))) (λ bs. Some (done ++ bs)) ≡ bind o (λ bs. Some ((done ++ (b ∷ [])) ++ bs))
 unfolding bind
-bind_more done b none = refl
-bind_more done b (some bs) = ap some (sym (append_assoc done (b ∷ []) bs))
+bind_more done b None = refl
+bind_more done b (Some bs) = ap Some (sym (append_assoc done (b ∷ []) bs))
 
 module _ {s : List ℕ} {row : Row} {glyphs : List ℕ} {h : Held} {t₀ before : List ℕ} {at : Places} {book₀ : List ℕ} (a : WritesRow s row glyphs h t₀ before at book₀) where
   abbrev gs : List (ℕ × ℕ)
@@ -458,31 +458,31 @@ module _ {s : List ℕ} {row : Row} {glyphs : List ℕ} {h : Held} {t₀ before 
 
     module _ {next after pages : List ℕ} {r : ℕ} (z : cover ≡ 0 → ⊥) (d : LaysLeft from (slot_left gs s cover) h.map t next area (start + 2 * i) (record { first = at.first; pos = p }) after r book pages) where
       -- what is left of the row, by what is left of this coverage
-      row_is : row_left gs s row ≡ bind (bind (block_left gs (some (coverage s cover))) (λ b. bind (left_from gs s start row.len (i + 1)) (λ bs. some (b ∷ bs)))) (λ bs. some (c.done ++ bs))
-      row_is = c.whole ∙ ap (λ (o : Option (List (Option (List ℕ)))). bind o (λ bs. some (c.done ++ bs))) (there_left gs s start row.len l e z)
+      row_is : row_left gs s row ≡ bind (bind (block_left gs (Some (coverage s cover))) (λ b. bind (left_from gs s start row.len (i + 1)) (λ bs. Some (b ∷ bs)))) (λ bs. Some (c.done ++ bs))
+      row_is = c.whole ∙ ap (λ (o : Option (List (Option (List ℕ)))). bind o (λ bs. Some (c.done ++ bs))) (there_left gs s start row.len l e z)
 
-      slot_is : slot_left gs s cover ≡ bind (block_left gs (some (coverage s cover))) (λ b. some (b ∷ []))
+      slot_is : slot_left gs s cover ≡ bind (block_left gs (Some (coverage s cover))) (λ b. Some (b ∷ []))
       unfolding blocks_left map_all bind
       slot_is = refl
 
       pub rowing_gone : r ≡ 0 → LaysLeft from (row_left gs s row) h.map t₀ next before start at after 0 book₀ pages
       unfolding bind
       rowing_gone y = laid_none (kept_more c.cells d.cells) (d.same ∙ c.same) (d.pages ∙ c.pages)
-          (row_is ∙ step (block_left gs (some (coverage s cover))) (sym slot_is ∙ laid_zero (slot_left gs s cover) d (a.standing.pre ++ c.done) (stood_done a.standing.pre a.standing.stood) c.start y))
+          (row_is ∙ step (block_left gs (Some (coverage s cover))) (sym slot_is ∙ laid_zero (slot_left gs s cover) d (a.standing.pre ++ c.done) (stood_done a.standing.pre a.standing.stood) c.start y))
         where
-          step : (o : Option (Option (List ℕ))) → bind o (λ b. some (b ∷ [])) ≡ none → bind (bind o (λ b. bind (left_from gs s start row.len (i + 1)) (λ bs. some (b ∷ bs)))) (λ bs. some (c.done ++ bs)) ≡ none
-          step none q = refl
-          step (some b) q = absurd (some_none q)
+          step : (o : Option (Option (List ℕ))) → bind o (λ b. Some (b ∷ [])) ≡ None → bind (bind o (λ b. bind (left_from gs s start row.len (i + 1)) (λ bs. Some (b ∷ bs)))) (λ bs. Some (c.done ++ bs)) ≡ None
+          step None q = refl
+          step (Some b) q = absurd (some_none q)
 
       pub rowing_turn : (r ≡ 0 → ⊥) → Rowing gs s row h.map t₀ before at book₀ next after pages r (i + 1)
       unfolding bind
-      rowing_turn y = step (block_left gs (some (coverage s cover))) slot_is row_is
+      rowing_turn y = step (block_left gs (Some (coverage s cover))) slot_is row_is
         where
-          step : (o : Option (Option (List ℕ))) → slot_left gs s cover ≡ bind o (λ b. some (b ∷ []))
-              → row_left gs s row ≡ bind (bind o (λ b. bind (left_from gs s start row.len (i + 1)) (λ bs. some (b ∷ bs)))) (λ bs. some (c.done ++ bs))
+          step : (o : Option (Option (List ℕ))) → slot_left gs s cover ≡ bind o (λ b. Some (b ∷ []))
+              → row_left gs s row ≡ bind (bind o (λ b. bind (left_from gs s start row.len (i + 1)) (λ bs. Some (b ∷ bs)))) (λ bs. Some (c.done ++ bs))
               → Rowing gs s row h.map t₀ before at book₀ next after pages r (i + 1)
-          step none q w = absurd (y (d.gone q))
-          step (some b) q w = record {
+          step None q w = absurd (y (d.gone q))
+          step (Some b) q w = record {
             within = omega arith;
             cells = kept_more c.cells d.cells;
             same = d.same ∙ c.same;
@@ -498,4 +498,4 @@ module _ {s : List ℕ} {row : Row} {glyphs : List ℕ} {h : Held} {t₀ before 
   unfolding blocks_left map_all reaches bind
   rowing_end {t} {area} {book} {p} {i} c l =
       let e : row.len - i ≡ 0 = omega arith in
-      laid_some c.cells c.same c.pages (rw e at c.whole ∙ ap some (append-nil c.done)) c.lays
+      laid_some c.cells c.same c.pages (rw e at c.whole ∙ ap Some (append-nil c.done)) c.lays

@@ -1,8 +1,7 @@
 -- Blocks of one kind that come behind others, in the layout that is asked for: their offsets, and what they add to the blocks that are written.
-use Rattle.std.specs.Prelude.{ℕ, ◌+◌, ◌*◌, ◌≡◌, Bool, true, false, cond, ◌&&◌, ◌||◌, length}
+use Rattle.std.specs.Prelude.{ℕ, ◌+◌, ◌*◌, ◌≡◌, Bool, true, false, cond, ◌&&◌, ◌||◌, length, Option, None, Some}
 use Rattle.std.proofs.Math.Path.{refl, sym, ap}
 use Rattle.std.proofs.Common.{◌∙◌, subst, true≢false, arith}
-use Rattle.std.proofs.Math.Option.{Option, none, some}
 use mathlib.Core.List.{List, [], ◌∷◌, ◌++◌, map, append-nil, append_assoc}
 use Rattle.meaning.specs.Words.{eq_list}
 use Rattle.meaning.specs.Tables.{drop_null}
@@ -16,12 +15,12 @@ use Rattle.known_blocks.specs.Shared.{offsets_in, blocks_in, known, place_in, of
 
 -- the offset of the next block, and what it adds; no block, no offset
 abbrev pub place_of : Bool → ℕ → List (Option (List ℕ)) → Option (List ℕ) → ℕ
-place_of packed p pre none = 0
-place_of packed p pre (some b) = place_in packed p pre b
+place_of packed p pre None = 0
+place_of packed p pre (Some b) = place_in packed p pre b
 
 abbrev pub added_by : Bool → List (Option (List ℕ)) → Option (List ℕ) → List ℕ
-added_by packed pre none = []
-added_by packed pre (some b) = cond (known packed pre b) [] b
+added_by packed pre None = []
+added_by packed pre (Some b) = cond (known packed pre b) [] b
 
 -- the offsets of blocks behind the blocks `pre`, which stand from p on, and what they add to these
 unfoldable pub offsets_behind : Bool → ℕ → List (Option (List ℕ)) → List (Option (List ℕ)) → List ℕ
@@ -40,8 +39,8 @@ module _ (packed : Bool) (p : ℕ) where
   behind_length pre (b ∷ bs) = omega (arith, behind_length (pre ++ (b ∷ [])) bs)
 
   one_more : (pre : List (Option (List ℕ))) (b : Option (List ℕ)) → offsets_in packed p (pre ++ (b ∷ [])) ≡ offsets_in packed p pre ++ (place_of packed p pre b ∷ [])
-  one_more pre none = offsets_null packed p pre
-  one_more pre (some b) = offsets_next packed p pre b
+  one_more pre None = offsets_null packed p pre
+  one_more pre (Some b) = offsets_next packed p pre b
 
   -- with those of the blocks before them
   pub offsets_after : (pre bs : List (Option (List ℕ))) → offsets_in packed p (pre ++ bs) ≡ offsets_in packed p pre ++ offsets_behind packed p pre bs
@@ -66,8 +65,8 @@ module _ (packed : Bool) (p : ℕ) where
 
 module _ (packed : Bool) where
   one_added : (pre : List (Option (List ℕ))) (b : Option (List ℕ)) → blocks_in packed (pre ++ (b ∷ [])) ≡ blocks_in packed pre ++ added_by packed pre b
-  one_added pre none = blocks_null packed 0 pre ∙ sym (append-nil (blocks_in packed pre))
-  one_added pre (some b) = blocks_next packed 0 pre b
+  one_added pre None = blocks_null packed 0 pre ∙ sym (append-nil (blocks_in packed pre))
+  one_added pre (Some b) = blocks_next packed 0 pre b
 
   pub blocks_after : (pre bs : List (Option (List ℕ))) → blocks_in packed (pre ++ bs) ≡ blocks_in packed pre ++ blocks_behind packed pre bs
   unfolding blocks_behind
@@ -114,8 +113,8 @@ has_first b (d ∷ ds) h = step (eq_list d b) h (has_first b ds)
 offset_known : (p : ℕ) (ds : List (List ℕ)) (bs : List (Option (List ℕ))) (b : List ℕ) → All Word (map (shared_offset p ds) bs) → has b (drop_null bs) ≡ true → Word (offset_in p ds b)
 unfolding shared_offset drop_null has
 offset_known p ds [] b h k = absurd (true≢false (sym k))
-offset_known p ds (none ∷ bs) b h k = offset_known p ds bs b h.1 k
-offset_known p ds (some d ∷ bs) b h k = step (eq_list d b) refl k (offset_known p ds bs b h.1)
+offset_known p ds (None ∷ bs) b h k = offset_known p ds bs b h.1 k
+offset_known p ds (Some d ∷ bs) b h k = step (eq_list d b) refl k (offset_known p ds bs b h.1)
   where
     step : (t : Bool) → eq_list d b ≡ t → t || has b (drop_null bs) ≡ true → (has b (drop_null bs) ≡ true → Word (offset_in p ds b)) → Word (offset_in p ds b)
     step true e q i = subst (λ (x : List ℕ). Word (offset_in p ds x)) (list_same d b e) h.0

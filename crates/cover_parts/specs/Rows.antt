@@ -1,6 +1,5 @@
 -- Rows of offsets that reach coverages: what is left of the coverages, and how it is laid into the area, in the layout that the book is for.
-use Rattle.std.specs.Prelude.{ℕ, ◌+◌, ◌*◌, ◌≤◌, ◌<◌, ◌≡◌, Bool, true, List, [], ◌∷◌, ◌++◌, length, get_or}
-use Rattle.std.proofs.Math.Option.{Option, none, some}
+use Rattle.std.specs.Prelude.{ℕ, ◌+◌, ◌*◌, ◌≤◌, ◌<◌, ◌≡◌, Bool, true, List, [], ◌∷◌, ◌++◌, length, get_or, Option, None, Some}
 use Rattle.std.proofs.lemmas.List.Edits.{sets}
 use Rattle.meaning.specs.Words.{word, bytes2, flat, bind, map_all}
 use Rattle.meaning.specs.Maps.{glyph_entries}
@@ -27,7 +26,7 @@ use Rattle.cover_parts.specs.declared.Held.{Held}
 
 -- the words of what is left of a coverage, if it keeps a glyph
 unfoldable pub words_left : List (ℕ × ℕ) → List ℕ → Option (List ℕ)
-words_left g cov = bind (unless_empty (new_coverage g cov)) (λ k. some (coverage_words k))
+words_left g cov = bind (unless_empty (new_coverage g cov)) (λ k. Some (coverage_words k))
 
 -- of the coverage at a place
 abbrev pub left_at : List (ℕ × ℕ) → List ℕ → ℕ → Option (List ℕ)
@@ -35,7 +34,7 @@ left_at g s p = words_left g (coverage s p)
 
 -- the block of a coverage that is not null and keeps a glyph
 unfoldable pub block_left : List (ℕ × ℕ) → Option (List ℕ) → Option (Option (List ℕ))
-block_left g c = bind c (λ cov. bind (words_left g cov) (λ b. some (some b)))
+block_left g c = bind c (λ cov. bind (words_left g cov) (λ b. Some (Some b)))
 
 -- the blocks of coverages, if none is null or left with no glyph
 unfoldable pub blocks_left : List (ℕ × ℕ) → List (Option (List ℕ)) → Option (List (Option (List ℕ)))
@@ -43,7 +42,7 @@ blocks_left g cs = map_all (block_left g) cs
 
 -- of the coverage at a place
 abbrev pub slot_left : List (ℕ × ℕ) → List ℕ → ℕ → Option (List (Option (List ℕ)))
-slot_left g s p = blocks_left g (some (coverage s p) ∷ [])
+slot_left g s p = blocks_left g (Some (coverage s p) ∷ [])
 
 -- of those that a row reaches
 abbrev pub row_left : List (ℕ × ℕ) → List ℕ → Row → Option (List (Option (List ℕ)))
@@ -76,8 +75,8 @@ pub record LaysLeft (source : ℕ → Option (List ℕ)) (left : Option (List (O
   pub cells : Kept (m.at + m.mask + 1) t₀ t
   pub same : length after ≡ length before
   pub pages : length book ≡ length book₀
-  pub gone : left ≡ none → r ≡ 0
-  pub stays : {bs : List (Option (List ℕ))} → left ≡ some bs → (pre : List (Option (List ℕ))) → (at.pos ≤ length before → Stood (packs book₀) source at.first pre before at.pos book₀)
+  pub gone : left ≡ None → r ≡ 0
+  pub stays : {bs : List (Option (List ℕ))} → left ≡ Some bs → (pre : List (Option (List ℕ))) → (at.pos ≤ length before → Stood (packs book₀) source at.first pre before at.pos book₀)
       → Lays (packs book₀) source at.first pre before slot at.pos bs after r book
 
 -- the block b, which was written behind the blocks `pre`, has its place, and the offset at `slot` says it, unless it fits no word
@@ -85,8 +84,8 @@ pub record Pointed (packed : Bool) (left : ℕ → Option (List ℕ)) (first : �
   pub far : length area < r → 65535 < place_in packed first pre b
   pub near : r ≤ length area → place_in packed first pre b ≤ 65535
   pub put : r ≤ length area → after ≡ sets area slot (bytes2 (place_in packed first pre b))
-  pub end : r ≤ length area → r ≡ first + 2 * length (blocks_in packed (pre ++ (some b ∷ [])))
-  pub booked : r ≤ length area → Booked left (in_book packed (pre ++ (some b ∷ []))) book
+  pub end : r ≤ length area → r ≡ first + 2 * length (blocks_in packed (pre ++ (Some b ∷ [])))
+  pub booked : r ≤ length area → Booked left (in_book packed (pre ++ (Some b ∷ []))) book
 
 -- what is asked of it: it lies in the area, behind the first, its offset's place lies there too, and the blocks of the book are few
 pub record Placing (area : List ℕ) (slot : Slot) (at : Places) (q : ℕ) (book : List ℕ) : Type 0 where
@@ -106,8 +105,8 @@ pub record Points (area : List ℕ) (slot : Slot) (at : Places) (q : ℕ) (after
 
 -- r is the place p if blocks are left, and 0 if none are
 pub record Passes (left : Option (List (Option (List ℕ)))) (p r : ℕ) : Type 0 where
-  pub gone : left ≡ none → r ≡ 0
-  pub stays : {bs : List (Option (List ℕ))} → left ≡ some bs → r ≡ p
+  pub gone : left ≡ None → r ≡ 0
+  pub stays : {bs : List (Option (List ℕ))} → left ≡ Some bs → r ≡ p
 
 -- what the cutting of a coverage asks of the scratch: the map holds the good glyph map
 pub record Ready (glyphs : List ℕ) (h : Held) (t : List ℕ) : Type 0 where
@@ -136,7 +135,7 @@ pub record WritesSlot (s : List ℕ) (slot : Slot) (glyphs : List ℕ) (h : Held
 -- a row lies inside, and each coverage that it reaches is sound
 pub record SoundRow (s : List ℕ) (r : Row) : Type 0 where
   pub inside : r.at + 2 * r.len ≤ length s
-  pub sound : fault_through (coverage_fault s) s 0 r.at r.len ≡ none
+  pub sound : fault_through (coverage_fault s) s 0 r.at r.len ≡ None
 
 -- n is a bound for the glyphs that can be noted of any coverage that the row reaches
 abbrev pub Bounds : ℕ → List ℕ → List ℕ → Row → ℕ → Type 0

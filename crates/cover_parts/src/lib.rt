@@ -1,8 +1,7 @@
 // Where the parts of a context by coverages stand, and how many glyphs can be noted of one of its coverages.
 #![tactic(auto)]
 
-ghost use Rattle.std.specs.Prelude.{◌≡◌, true, false, ◌-◌};
-ghost use Rattle.std.proofs.Math.Option.{none};
+ghost use Rattle.std.specs.Prelude.{◌≡◌, true, false, ◌-◌, None};
 ghost use Rattle.meaning.specs.Parts.{coverage_sound};
 ghost use Rattle.meaning.specs.Fault.{covers_fault};
 ghost use Rattle.cover_parts.specs.Parts.{IsContext};
@@ -52,7 +51,7 @@ pub struct CoverParts {
 
 // Where the parts of a plain context stand; it has neither backtrack nor lookahead.
 fn plain_parts(src: &[u8]) -> CoverParts
-    requires { covers_fault false src.now ≡ none }
+    requires { covers_fault false src.now ≡ None }
     ensures { IsContext false src.now result }
 {
     let n = word_at(src, 2);
@@ -69,7 +68,7 @@ fn plain_parts(src: &[u8]) -> CoverParts
 
 // Where the parts of a chained context stand.
 fn chained_parts(src: &[u8]) -> CoverParts
-    requires { covers_fault true src.now ≡ none }
+    requires { covers_fault true src.now ≡ None }
     ensures { IsContext true src.now result }
 {
     let backs = word_at(src, 2);
@@ -97,7 +96,7 @@ fn chained_parts(src: &[u8]) -> CoverParts
 
 // Where the parts of the context stand.
 pub fn cover_parts(chained: bool, src: &[u8]) -> CoverParts
-    requires { covers_fault chained src.now ≡ none }
+    requires { covers_fault chained src.now ≡ None }
     ensures { IsContext chained src.now result }
 {
     if chained {
@@ -127,10 +126,8 @@ pub fn most_row(src: &[u8], row: Row, glyphs: &[u8], form: usize, least: usize) 
     ensures { MostRow form glyphs.now src.now row least result }
 {
     let mut r = least;
-    let mut i = 0;
-    while i < row.len {
+    for i in 0..row.len {
         r = more_notes(src, word_inside(src, row.at + 2 * i), glyphs, form, r);
-        i += 1;
     }
     r
 }

@@ -27,8 +27,7 @@ pub fn write_row(
     ensures { LaysLeft (left_at (glyph_entries held.form glyphs.now) src.now) (row_left (glyph_entries held.form glyphs.now) src.now row) held.map t.old t.new area.old row.at places area.new result book.old book.new }
 {
     let mut p = places.pos;
-    let mut i = 0;
-    while i < row.len {
+    for i in 0..row.len {
         let at = row.at + 2 * i;
         let cover = word_inside(src, at);
         if cover == 0 {
@@ -42,7 +41,6 @@ pub fn write_row(
         if p == 0 {
             return 0;
         }
-        i += 1;
     }
     p
 }

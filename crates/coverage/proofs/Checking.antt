@@ -9,9 +9,6 @@ use lib.Dec.{leb, eqb}
 use borrow.Author.Tests.{leb-true, ne_eqb}
 use Rattle.meaning.specs.Words.{word, triples, inside, ascends}
 use Rattle.meaning.specs.Parts.{ranges_ascend, ranges_count, coverage_sound}
-use Rattle.meaning.specs.Fault.{part_fault, coverage_fault}
-use Rattle.faults.specs.Fault.{fault_of}
-use Rattle.faults.specs.declared.Fault.TheVariants.{At, Sound}
 use Rattle.laws.specs.Runs.{both}
 use Rattle.laws.specs.Left.{column, triples_left, triples_all, triples_none, words_column}
 
@@ -98,12 +95,3 @@ module _ (s : List ℕ) (at : ℕ) where
     pub sound_other : (word s at ≡ 1 → ⊥) → (word s at ≡ 2 → ⊥) → false ≡ coverage_sound s at
     unfolding coverage_sound
     sound_other f g = rw (h, ne_eqb _ _ f, ne_eqb _ _ g)
-
-  -- the answer of a check
-  pub fault_none : coverage_sound s at ≡ true → Sound ≡ fault_of (coverage_fault s at)
-  unfolding coverage_fault part_fault
-  fault_none h = rw h
-
-  pub fault_here : coverage_sound s at ≡ false → At at ≡ fault_of (coverage_fault s at)
-  unfolding coverage_fault part_fault
-  fault_here h = rw h

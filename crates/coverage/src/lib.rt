@@ -5,9 +5,7 @@ ghost use Rattle.std.specs.Prelude.{◌≡◌, true, ◌&&◌, ◌+◌, ◌*◌,
 ghost use Rattle.meaning.specs.Words.{triples};
 ghost use Rattle.meaning.specs.Parts.{ranges_ascend, ranges_count, coverage_sound};
 ghost use Rattle.meaning.specs.Fault.{coverage_fault};
-ghost use Rattle.faults.specs.Fault.{fault_of};
 
-use faults::Fault;
 use wire::{ascending, inside, word_at};
 
 // Whether the range from `first` to `last` may stand where `low` is the lowest glyph that is left, and its index is the number of glyphs before it.
@@ -30,8 +28,7 @@ fn ranges_sound(src: &[u8], at: usize, n: usize) -> bool
 {
     let mut low = 0;
     let mut before = 0;
-    let mut i = 0;
-    while i < n {
+    for i in 0..n {
         let first = word_at(src, at + 6 * i);
         let last = word_at(src, at + 6 * i + 2);
         if !range_fits(low, before, first, last, word_at(src, at + 6 * i + 4)) {
@@ -39,7 +36,6 @@ fn ranges_sound(src: &[u8], at: usize, n: usize) -> bool
         }
         low = last + 1;
         before += last + 1 - first;
-        i += 1;
     }
     true
 }
@@ -62,12 +58,13 @@ fn sound(src: &[u8], at: usize) -> bool
 }
 
 // Where the coverage at `at` is faulty: at its start, or nowhere.
-pub fn check(src: &[u8], at: usize) -> Fault
+#[tactic(auto, unfolding(meaning::specs::Fault::coverage_fault, meaning::specs::Fault::part_fault))]
+pub fn check(src: &[u8], at: usize) -> Option<usize>
     requires { at < 0x1_0000_0000_0000 }
-    ensures { result ≡ fault_of (coverage_fault src.now at) }
+    ensures { result ≡ coverage_fault src.now at }
 {
     if sound(src, at) {
-        return Fault::Sound;
+        return None;
     }
-    Fault::At(at)
+    Some(at)
 }

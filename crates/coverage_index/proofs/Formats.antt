@@ -9,8 +9,8 @@ use borrow.Author.Tests.{leb-true, eq-eqb, ne_eqb}
 use Rattle.meaning.specs.Words.{word, words, triples, inside, ascends}
 use Rattle.meaning.specs.Parts.{range_glyphs, ranges_ascend, ranges_count, coverage, coverage_sound}
 use Rattle.laws.specs.Runs.{both}
-use Rattle.coverage_index.specs.Index.{index_of, covered_of, SoundList, SoundRanges}
-use Rattle.coverage_index.specs.declared.Covered.{Covered}
+use Rattle.coverage_index.specs.Index.{index_of, SoundList, SoundRanges}
+use Rattle.std.specs.Prelude.{Option}
 
 -- what lies inside
 inside_fits : (s : List ℕ) (at n : ℕ) → inside s at n ≡ true → at + n ≤ length s
@@ -31,7 +31,7 @@ module _ (s : List ℕ) (at : ℕ) (h : coverage_sound s at ≡ true) where
         let p = both (inside s (at + 4) (2 * n)) (ascends (words s (at + 4) n)) (rw (← ef, ← en, eq-eqb f 1 e) at (both (inside s at 4) _ h).1) in
         record { fits = inside_fits s (at + 4) (2 * n) p.0; ascend = p.1 }
 
-    pub by_list : f ≡ 1 → (g : ℕ) {r : Covered} → r ≡ covered_of (index_of (words s (at + 4) n) g) → r ≡ covered_of (index_of (coverage s at) g)
+    pub by_list : f ≡ 1 → (g : ℕ) {r : Option ℕ} → r ≡ index_of (words s (at + 4) n) g → r ≡ index_of (coverage s at) g
     unfolding coverage
     by_list e g k = rw (← ef, ← en, eq-eqb f 1 e) k
 
@@ -44,6 +44,6 @@ module _ (s : List ℕ) (at : ℕ) (h : coverage_sound s at ≡ true) where
         let r = both (ranges_ascend 0 (triples s (at + 4) n)) (ranges_count 0 (triples s (at + 4) n)) q.1 in
         record { fits = inside_fits s (at + 4) (6 * n) q.0; ascend = r.0; count = r.1 }
 
-    pub by_ranges : (f ≡ 1 → ⊥) → (g : ℕ) {r : Covered} → r ≡ covered_of (index_of (range_glyphs (triples s (at + 4) n)) g) → r ≡ covered_of (index_of (coverage s at) g)
+    pub by_ranges : (f ≡ 1 → ⊥) → (g : ℕ) {r : Option ℕ} → r ≡ index_of (range_glyphs (triples s (at + 4) n)) g → r ≡ index_of (coverage s at) g
     unfolding coverage
     by_ranges e g k = rw (← ef, ← en, ne_eqb f 1 e) k

@@ -2,7 +2,7 @@
 use Prim.Native.Nat.{ℕ, zero, suc, ◌+◌, ◌*◌, ◌≤◌, ◌<◌}
 use mathlib.Core.Path.{◌≡◌, refl}
 use mathlib.Core.Bool.{true}
-use mathlib.Core.Option.{none, some}
+use Rattle.std.specs.Prelude.{None, Some}
 use mathlib.Core.List.{List, [], ◌∷◌}
 use native.Mathlib.Decide.{dec_lt}
 use native.Mathlib.Omega.{arith}
@@ -13,11 +13,10 @@ use Rattle.laws.specs.Left.{words_length, words_at}
 use Rattle.laws.specs.Ascends.{ascends_rest, ascends_rise}
 use Rattle.halving.specs.Rising.{Reached}
 use Rattle.halving.specs.Columns.{list_rising}
-use Rattle.coverage_index.specs.Index.{index_of, covered_of, SoundList}
-use Rattle.coverage_index.specs.declared.Covered.TheVariants.{At, Not}
+use Rattle.coverage_index.specs.Index.{index_of, SoundList}
 
 -- the k-th of what ascends has the index k
-index_hit : (l : List ℕ) (g k : ℕ) → ascends l ≡ true → k < length l → get_or l k 0 ≡ g → index_of l g ≡ some k
+index_hit : (l : List ℕ) (g k : ℕ) → ascends l ≡ true → k < length l → get_or l k 0 ≡ g → index_of l g ≡ Some k
 unfolding index_of bind
 index_hit [] g k h l e = absurd (omega arith)
 index_hit (a ∷ r) g zero h l e = rw (eq-eqb a g e)
@@ -26,7 +25,7 @@ index_hit (a ∷ r) g (suc k) h l e =
     rw (ne_eqb a g (omega arith), index_hit r g k (ascends_rest a r h) (omega arith) e)
 
 -- what is not among them has none
-index_miss : (l : List ℕ) (g : ℕ) → ((k : ℕ) → k < length l → get_or l k 0 ≡ g → ⊥) → index_of l g ≡ none
+index_miss : (l : List ℕ) (g : ℕ) → ((k : ℕ) → k < length l → get_or l k 0 ≡ g → ⊥) → index_of l g ≡ None
 unfolding index_of bind
 index_miss [] g h = refl
 index_miss (a ∷ r) g h = rw (ne_eqb a g (h 0 (omega arith)), index_miss r g (λ k l. h (suc k) (omega arith)))
@@ -48,14 +47,14 @@ module _ {s : List ℕ} {at n g i : ℕ} (h : SoundList s at n) (k : Reached s a
           omega (arith, w, up (omega (arith, l, words_length s at n)))
 
   -- the answer: no glyph is left, the i-th is above the glyph, or it is the glyph
-  pub list_none : n ≤ i → Not ≡ covered_of (index_of (words s at n) g)
+  pub list_none : n ≤ i → None ≡ index_of (words s at n) g
   list_none l = rw (index_miss (words s at n) g (gap (λ a. absurd (omega arith))))
 
   module _ {here : ℕ} (l : i < n) (e : here ≡ word s (at + 2 * i)) where
-    pub list_gap : g < here → Not ≡ covered_of (index_of (words s at n) g)
+    pub list_gap : g < here → None ≡ index_of (words s at n) g
     list_gap a = rw (index_miss (words s at n) g (gap (λ b. omega arith)))
 
-    pub list_at : here ≤ g → At i ≡ covered_of (index_of (words s at n) g)
+    pub list_at : here ≤ g → Some i ≡ index_of (words s at n) g
     list_at a =
         let f : get_or (words s at n) i 0 ≡ g = omega (arith, words_at s at n i l, k.above l) in
         rw (index_hit (words s at n) g i h.ascend (omega (arith, words_length s at n)) f)

@@ -2,7 +2,7 @@
 use Prim.Native.Nat.{ℕ, zero, suc, ◌+◌, ◌-◌, ◌*◌, ◌≤◌, ◌<◌}
 use mathlib.Core.Path.{◌≡◌, refl, ap, ◌∙◌}
 use mathlib.Core.Bool.{true}
-use mathlib.Core.Option.{Option, none, some}
+use Rattle.std.specs.Prelude.{Option, None, Some}
 use mathlib.Core.List.{List, ◌++◌}
 use native.Mathlib.Decide.{dec_lt}
 use native.Mathlib.Omega.{arith}
@@ -13,28 +13,27 @@ use Rattle.meaning.specs.Parts.{span, range_glyphs, ranges_ascend, ranges_count}
 use Rattle.laws.specs.Runs.{both}
 use Rattle.halving.specs.Rising.{Reached}
 use Rattle.halving.specs.Columns.{first_range, ranges_least, ranges_apart, end_place}
-use Rattle.coverage_index.specs.Index.{index_of, covered_of, SoundRanges}
-use Rattle.coverage_index.specs.declared.Covered.TheVariants.{At, Not}
+use Rattle.coverage_index.specs.Index.{index_of, SoundRanges}
 
 -- an index among the others, after n that are not the glyph
 unfoldable past : ℕ → Option ℕ → Option ℕ
-past n o = bind o (λ i. some (n + i))
+past n o = bind o (λ i. Some (n + i))
 
 past_none : (o : Option ℕ) → o ≡ past 0 o
 unfolding bind past
-past_none none = refl
-past_none (some i) = ap some (omega arith)
+past_none None = refl
+past_none (Some i) = ap Some (omega arith)
 
-past_more : (n : ℕ) (o : Option ℕ) → bind (past n o) (λ i. some (suc i)) ≡ past (suc n) o
+past_more : (n : ℕ) (o : Option ℕ) → bind (past n o) (λ i. Some (suc i)) ≡ past (suc n) o
 unfolding bind past
-past_more n none = refl
-past_more n (some i) = ap some (omega arith)
+past_more n None = refl
+past_more n (Some i) = ap Some (omega arith)
 
-past_some : (n i j : ℕ) → n + i ≡ j → past n (some i) ≡ some j
+past_some : (n i j : ℕ) → n + i ≡ j → past n (Some i) ≡ Some j
 unfolding bind past
-past_some n i j e = ap some e
+past_some n i j e = ap Some e
 
-past_not : (n : ℕ) → past n none ≡ none
+past_not : (n : ℕ) → past n None ≡ None
 unfolding bind past
 past_not n = refl
 
@@ -46,7 +45,7 @@ run_apart a (suc n) rest g h =
     rw (ne_eqb a g (λ e. h 0 (omega arith) (omega arith)), run_apart (a + 1) n rest g (λ k l e. h (suc k) (omega arith) (omega arith))) (past_more n (index_of rest g))
 
 -- a run that has it
-run_holds : (a n : ℕ) (rest : List ℕ) (g d : ℕ) → d < n → g ≡ a + d → index_of (up_from a n ++ rest) g ≡ some d
+run_holds : (a n : ℕ) (rest : List ℕ) (g d : ℕ) → d < n → g ≡ a + d → index_of (up_from a n ++ rest) g ≡ Some d
 unfolding index_of up_from bind
 run_holds a zero rest g d h e = absurd (omega arith)
 run_holds a (suc n) rest g zero h e =
@@ -82,18 +81,18 @@ module _ (s : List ℕ) where
     unfolding triples range_glyphs span
     first_apart at n h = run_apart (word s at) (word s (at + 2) + 1 - word s at) (range_glyphs (triples s (at + 6) n)) g h
 
-    first_has : (at n : ℕ) → word s at ≤ g → g ≤ word s (at + 2) → index_of (range_glyphs (triples s at (suc n))) g ≡ some (g - word s at)
+    first_has : (at n : ℕ) → word s at ≤ g → g ≤ word s (at + 2) → index_of (range_glyphs (triples s at (suc n))) g ≡ Some (g - word s at)
     unfolding triples range_glyphs span
     first_has at n h l = run_holds (word s at) (word s (at + 2) + 1 - word s at) (range_glyphs (triples s (at + 6) n)) g (g - word s at) (omega arith) (omega arith)
 
-    nothing_there : (at : ℕ) → index_of (range_glyphs (triples s at 0)) g ≡ none
+    nothing_there : (at : ℕ) → index_of (range_glyphs (triples s at 0)) g ≡ None
     unfolding triples range_glyphs index_of
     nothing_there at = refl
 
     -- the glyph stands in the k-th range
     in_range : (k n at low before : ℕ) → k < n → ranges_ascend low (triples s at n) ≡ true → ranges_count before (triples s at n) ≡ true
         → word s (at + 6 * k) ≤ g → g ≤ word s (at + 6 * k + 2)
-        → (i : ℕ) → before + i ≡ word s (at + 6 * k + 4) + (g - word s (at + 6 * k)) → index_of (range_glyphs (triples s at n)) g ≡ some i
+        → (i : ℕ) → before + i ≡ word s (at + 6 * k + 4) + (g - word s (at + 6 * k)) → index_of (range_glyphs (triples s at n)) g ≡ Some i
     in_range k zero at low before d h c l m i q = absurd (omega arith)
     in_range zero (suc n) at low before d h c l m i q =
         let e : at + 6 * 0 ≡ at = omega arith in
@@ -115,7 +114,7 @@ module _ (s : List ℕ) where
 
     -- no range has it
     in_gap : (n at low : ℕ) → ranges_ascend low (triples s at n) ≡ true → ((k : ℕ) → k < n → word s (at + 6 * k) ≤ g → g ≤ word s (at + 6 * k + 2) → ⊥)
-        → index_of (range_glyphs (triples s at n)) g ≡ none
+        → index_of (range_glyphs (triples s at n)) g ≡ None
     in_gap zero at low h m = nothing_there at
     in_gap (suc n) at low h m =
         let w = word s (at + 2) + 1 - word s at in
@@ -139,12 +138,12 @@ module _ {s : List ℕ} {at n g i : ℕ} (h : SoundRanges s at n) (k : Reached s
           omega (arith, w, up (omega arith))
 
   -- the answer: no range is left, the i-th begins after the glyph, or it holds it
-  pub range_none : n ≤ i → Not ≡ covered_of (index_of (range_glyphs (triples s at n)) g)
+  pub range_none : n ≤ i → None ≡ index_of (range_glyphs (triples s at n)) g
   range_none l = rw (in_gap s g n at 0 h.ascend (gap (λ a. absurd (omega arith))))
 
   module _ {first : ℕ} (l : i < n) (e : first ≡ word s (at + 6 * i)) where
-    pub range_gap : g < first → Not ≡ covered_of (index_of (range_glyphs (triples s at n)) g)
+    pub range_gap : g < first → None ≡ index_of (range_glyphs (triples s at n)) g
     range_gap a = rw (in_gap s g n at 0 h.ascend (gap (λ b. omega arith)))
 
-    pub range_in : {x : ℕ} → first ≤ g → x ≡ word s (at + 6 * i + 4) → At (x + (g - first)) ≡ covered_of (index_of (range_glyphs (triples s at n)) g)
+    pub range_in : {x : ℕ} → first ≤ g → x ≡ word s (at + 6 * i + 4) → Some (x + (g - first)) ≡ index_of (range_glyphs (triples s at n)) g
     range_in {x} a f = rw (in_range s g i n at 0 0 l h.ascend h.count (omega arith) (omega (arith, end_place s at i, k.above l)) (x + (g - first)) (omega arith))

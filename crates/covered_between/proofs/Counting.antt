@@ -2,7 +2,7 @@
 use Prim.Native.Nat.{ℕ, ◌+◌, ◌-◌, ◌*◌, ◌/◌, ◌≤◌, ◌<◌}
 use mathlib.Core.Path.{◌≡◌, refl, sym, ap, ◌∙◌}
 use mathlib.Core.Bool.{Bool, true, false, ◌&&◌, ◌||◌, not}
-use mathlib.Core.Option.{none, some}
+use Rattle.std.specs.Prelude.{None, Some}
 use mathlib.Core.List.{List, [], ◌∷◌}
 use native.Mathlib.Nat.{mul-le-mul_right, mul-le-mul_left}
 use native.Mathlib.Omega.{arith}
@@ -13,9 +13,6 @@ use Rattle.meaning.specs.Words.{word, inside, every}
 use Rattle.meaning.specs.Tables.{field_count}
 use Rattle.meaning.specs.Parts.{coverage, coverage_sound, classes, classes_sound, class_of}
 use Rattle.meaning.specs.Fault.{part_fault, coverage_fault, classes_fault, first_below, second_below, classes_below, good_formats}
-use Rattle.faults.specs.declared.Fault.{Fault}
-use Rattle.faults.specs.declared.Fault.TheVariants.{At, Sound}
-use Rattle.faults.specs.Fault.{fault_of, is_at, is_sound}
 use Rattle.covered_between.specs.Stretches.{stretches, any_between}
 use Rattle.covered_between.specs.Header.{good_header}
 use Rattle.covered_between.proofs.Stretching.{Left, is_below, clear, left_next, left_fails, left_end, stretches_say, stretches_ascend, stretch_order, listed_are, covered_are}
@@ -83,97 +80,11 @@ module _ (s : List ℕ) (at n : ℕ) (c : classes_sound s at ≡ true) (z : 0 < 
   covered_end cov k =
       left_end (0, 0, 0) k (omega arith) ∙ sym (covered_are n z cov 0 (stretches s at) (stretches_ascend s at c)) ∙ ap (λ (cs : List (ℕ × ℕ)). every (λ g. ltb (class_of cs g) n) cov) (sym (stretches_say s at))
 
--- what the checks of coverage and class tables answer
-part_good : (at : ℕ) (b : Bool) {r : Fault} → r ≡ fault_of (part_fault at b none) → r ≡ Sound → b ≡ true
-unfolding part_fault
-part_good at true e f = refl
-part_good at false e f = let z : some at ≡ none = is_sound (some at) f e in let y : ◌≡◌ {A = ℕ} 0 1 = cc in absurd (omega arith)
-
-part_bad : (at : ℕ) (b : Bool) {r : Fault} {p : ℕ} → r ≡ fault_of (part_fault at b none) → r ≡ At p → b ≡ false
-unfolding part_fault
-part_bad at true {p = p} e f = let z : none ≡ some p = is_at none f e in let y : ◌≡◌ {A = ℕ} 0 1 = cc in absurd (omega arith)
-part_bad at false e f = refl
-
-module _ (s : List ℕ) (at : ℕ) {r : Fault} where
-  pub cover_sound : r ≡ fault_of (coverage_fault s at) → r ≡ Sound → coverage_sound s at ≡ true
-  unfolding coverage_fault
-  cover_sound e f = part_good at (coverage_sound s at) e f
-
-  pub cover_faulty : r ≡ fault_of (coverage_fault s at) → {p : ℕ} → r ≡ At p → coverage_sound s at ≡ false
-  unfolding coverage_fault
-  cover_faulty e f = part_bad at (coverage_sound s at) e f
-
-  pub table_sound : r ≡ fault_of (classes_fault s at) → r ≡ Sound → classes_sound s at ≡ true
-  unfolding classes_fault
-  table_sound e f = part_good at (classes_sound s at) e f
-
-  pub table_faulty : r ≡ fault_of (classes_fault s at) → {p : ℕ} → r ≡ At p → classes_sound s at ≡ false
-  unfolding classes_fault
-  table_faulty e f = part_bad at (classes_sound s at) e f
-
 -- nothing is below 0
-empty_only : (f : ℕ → ℕ) (cov : List ℕ) → eqb (length cov) 0 ≡ every (λ g. ltb (f g) 0) cov
+pub empty_only : (f : ℕ → ℕ) (cov : List ℕ) → eqb (length cov) 0 ≡ every (λ g. ltb (f g) 0) cov
 unfolding every
 empty_only f [] = refl
 empty_only f (g ∷ gs) = rw (le-ltb (f g) 0 (omega arith), ne_eqb (length (g ∷ gs)) 0 (λ e. omega arith))
-
--- first classes
-module _ (s : List ℕ) (n : ℕ) {cover : ℕ} (e : cover ≡ word s 2) where
-  pub first_null : cover ≡ 0 → true ≡ first_below s n
-  unfolding first_below
-  first_null h = rw (← e, h)
-
-  module _ (u : cover ≡ 0 → ⊥) where
-    pub first_faulty_cover : coverage_sound s cover ≡ false → true ≡ first_below s n
-    unfolding first_below
-    first_faulty_cover h = rw (← e, ne_eqb cover 0 u, h)
-
-    module _ (c : coverage_sound s cover ≡ true) {at : ℕ} (f : at ≡ word s 8) where
-      pub first_faulty_table : classes_sound s at ≡ false → true ≡ first_below s n
-      unfolding first_below
-      first_faulty_table h = rw (← e, ne_eqb cover 0 u, c, ← f, h)
-
-      module _ (t : classes_sound s at ≡ true) where
-        pub first_judged : {r : Bool} → r ≡ every (λ g. ltb (class_of (classes s at) g) n) (coverage s cover) → r ≡ first_below s n
-        unfolding first_below
-        first_judged h = rw (← e, ne_eqb cover 0 u, c, ← f, t) h
-
-        -- with a count of 0 no glyph may be covered
-        pub first_none : n ≡ 0 → {m : ℕ} → m ≡ length (coverage s cover) → eqb m 0 ≡ first_below s n
-        first_none h {m} g = rw (g, h) (none_below (coverage s cover)) ∙ first_judged refl
-          where
-            none_below : (cov : List ℕ) → eqb (length cov) 0 ≡ every (λ g. ltb (class_of (classes s at) g) 0) cov
-            none_below = empty_only (λ g. class_of (classes s at) g)
-
--- second classes
-module _ (s : List ℕ) (n : ℕ) {at : ℕ} (e : at ≡ word s 10) where
-  pub second_faulty : classes_sound s at ≡ false → true ≡ second_below s n
-  unfolding second_below
-  second_faulty h = rw (← e, h)
-
-  module _ (t : classes_sound s at ≡ true) where
-    pub second_none : n ≡ 0 → false ≡ second_below s n
-    unfolding second_below
-    second_none h = rw (← e, t, h)
-
-    pub second_judged : 0 < n → {r : Bool} → r ≡ every (λ (e : ℕ × ℕ). ltb e.1 n) (classes s at) → r ≡ second_below s n
-    unfolding second_below
-    second_judged z h = rw (← e, t, lt-ltb 0 n z) h
-
--- both
-module _ (s : List ℕ) {a : ℕ} (e : a ≡ word s 8) where
-  pub no_first : a ≡ 0 → true ≡ classes_below s
-  unfolding classes_below
-  no_first h = rw (← e, h)
-
-  module _ (u : a ≡ 0 → ⊥) {b : ℕ} (f : b ≡ word s 10) where
-    pub no_second : b ≡ 0 → true ≡ classes_below s
-    unfolding classes_below
-    no_second h = rw (← e, ne_eqb a 0 u, ← f, h)
-
-    pub both_judged : (b ≡ 0 → ⊥) → {n m : ℕ} → n ≡ word s 12 → m ≡ word s 14 → first_below s n && second_below s m ≡ classes_below s
-    unfolding classes_below
-    both_judged v p q = rw (← e, ne_eqb a 0 u, ← f, ne_eqb b 0 v, p, q)
 
 -- how many bytes the cells take, at most
 pub few_cells : (n m : ℕ) → n < 65536 → m < 65536 → n * m ≤ 65536 * 65536

@@ -2,7 +2,7 @@
 use Prim.Native.Nat.{ℕ, ◌+◌, ◌-◌, ◌/◌, ◌%◌, ◌≤◌, ◌<◌}
 use mathlib.Core.Path.{◌≡◌, refl, sym, ap, subst, ◌∙◌}
 use mathlib.Core.Bool.{Bool, true, false, cond, ◌||◌}
-use mathlib.Core.Option.{Option, none, some}
+use Rattle.std.specs.Prelude.{Option, None, Some}
 use mathlib.Core.List.{List, [], ◌∷◌, map}
 use mathlib.Core.Logic.{inl}
 use native.Mathlib.Decide.{dec_lt}
@@ -239,21 +239,21 @@ unfolding classed map_some push keys values
 classed_up cs low high [] h u = tt
 classed_up cs low high (e ∷ g) h u = step (eqb (class_of cs e.0) 0) (λ k l. classed_up cs k (e.1 + 1) g l u.1)
   where
-    step : (b : Bool) → ((k : ℕ) → k ≤ e.1 + 1 → Up k (keys (classed cs g))) → Up low (keys (push (cond b none (some (e.1, class_of cs e.0))) (classed cs g)))
+    step : (b : Bool) → ((k : ℕ) → k ≤ e.1 + 1 → Up k (keys (classed cs g))) → Up low (keys (push (cond b None (Some (e.1, class_of cs e.0))) (classed cs g)))
     step true k = k low (omega (arith, u.0))
     step false k = (omega (arith, u.0), k (e.1 + 1) (omega arith))
 
-same_some : {x y : ℕ} → some x ≡ some y → x ≡ y
+same_some : {x y : ℕ} → Some x ≡ Some y → x ≡ y
 same_some e = cc
 
-class_new : (cs : List (ℕ × ℕ)) (a b : ℕ) (g : List (ℕ × ℕ)) (c y : ℕ) → Up a (keys g) → Up b (values g) → find g c ≡ some y → (b ≤ y) × (class_of (classed cs g) y ≡ class_of cs c)
+class_new : (cs : List (ℕ × ℕ)) (a b : ℕ) (g : List (ℕ × ℕ)) (c y : ℕ) → Up a (keys g) → Up b (values g) → find g c ≡ Some y → (b ≤ y) × (class_of (classed cs g) y ≡ class_of cs c)
 unfolding classed map_some push keys values find
 class_new cs a b [] c y u v f = absurd (let z : ◌≡◌ {A = ℕ} 0 1 = cc in omega arith)
 class_new cs a b (e ∷ g) c y u v f = step (eqb e.0 c) refl f (eqb (class_of cs e.0) 0) refl (λ k. class_new cs (e.0 + 1) (e.1 + 1) g c y u.1 v.1 k)
   where
-    step : (s : Bool) → eqb e.0 c ≡ s → cond s (some e.1) (find g c) ≡ some y → (z : Bool) → eqb (class_of cs e.0) 0 ≡ z
-        → (find g c ≡ some y → (e.1 + 1 ≤ y) × (class_of (classed cs g) y ≡ class_of cs c))
-        → (b ≤ y) × (class_of (push (cond z none (some (e.1, class_of cs e.0))) (classed cs g)) y ≡ class_of cs c)
+    step : (s : Bool) → eqb e.0 c ≡ s → cond s (Some e.1) (find g c) ≡ Some y → (z : Bool) → eqb (class_of cs e.0) 0 ≡ z
+        → (find g c ≡ Some y → (e.1 + 1 ≤ y) × (class_of (classed cs g) y ≡ class_of cs c))
+        → (b ≤ y) × (class_of (push (cond z None (Some (e.1, class_of cs e.0))) (classed cs g)) y ≡ class_of cs c)
     step true p q true z k =
         let d : e.1 ≡ y = same_some q in
         let o : class_of cs c ≡ 0 = rw (eqb-true e.0 c p) at (eqb-true (class_of cs e.0) 0 z) in
@@ -270,9 +270,9 @@ held_retained cs g good [] = refl
 held_retained cs g good (c ∷ cov) = step (find g c) refl (held_retained cs g good cov)
   where
     step : (o : Option ℕ) → find g c ≡ o → held_by (classed cs g) (new_coverage g cov) ≡ held_by cs (retained g cov)
-        → held_by (classed cs g) (push o (new_coverage g cov)) ≡ held_by cs (push (cond (is_some o) (some c) none) (retained g cov))
-    step none e k = k
-    step (some y) e k = rw ((class_new cs 0 0 g c y good.old good.new e).1, k)
+        → held_by (classed cs g) (push o (new_coverage g cov)) ≡ held_by cs (push (cond (is_some o) (Some c) None) (retained g cov))
+    step None e k = k
+    step (Some y) e k = rw ((class_new cs 0 0 g c y good.old good.new e).1, k)
 
 -- the new numbers of what ascends ascend
 new_up : (g : List (ℕ × ℕ)) → GoodMap g → (cov : List ℕ) → Up 0 cov → Up 0 (new_coverage g cov)

@@ -13,14 +13,12 @@ fn pass_below(t: &[u32], list: usize, n: usize, from: usize, new: usize) -> usiz
     requires { (list + n ≤ length t.now) × (from ≤ n) }
     ensures { Passes t.now list n from new result }
 {
-    let mut k = from;
-    while k < n {
+    for k in from..n {
         if new <= t[list + k] as usize / 65536 {
             return k;
         }
-        k += 1;
     }
-    k
+    n
 }
 
 // The class of the k-th of the `n` listed cells from `list` on, if that is of the new number `new`; else class 0, which is not listed.
@@ -44,13 +42,11 @@ fn mark_met(t: &mut [u32], noted: usize, n: usize, list: usize, len: usize, mark
     ensures { Met t.old t.new noted n list len marks }
 {
     let mut k = 0;
-    let mut j = 0;
-    while j < n {
+    for j in 0..n {
         let new = t[noted + j] as usize % 65536;
         k = pass_below(t, list, len, k, new);
         let class = class_at(t, list, len, k, new);
         put_bit(t, marks, class);
-        j += 1;
     }
 }
 

@@ -1,7 +1,6 @@
 -- Notes of covered glyphs as entries of a glyph map: those of the map are the entries of its covered glyphs.
-use Rattle.std.specs.Prelude.{ℕ, zero, suc, ◌+◌, ◌*◌, ◌/◌, ◌≤◌, ◌<◌, ◌≡◌, refl, true, List, [], ◌∷◌, ◌++◌, length, get_or}
+use Rattle.std.specs.Prelude.{ℕ, zero, suc, ◌+◌, ◌*◌, ◌/◌, ◌≤◌, ◌<◌, ◌≡◌, refl, true, List, [], ◌∷◌, ◌++◌, length, get_or, Option, None, Some}
 use Rattle.std.proofs.Common.{sym, ap, ◌∙◌, subst, append_assoc, arith, length-append, get_or-append-add}
-use Rattle.std.proofs.Math.Option.{Option, none, some}
 use Rattle.meaning.specs.Words.{find, bind, push, map_some}
 use Rattle.meaning.specs.Parts.{coverage, coverage_sound}
 use Rattle.meaning.specs.Cut.{covered_map}
@@ -33,9 +32,9 @@ named_from g before (c ∷ cov) i e = step (find g c) (ap (λ (l : List ℕ). na
         rw z (get_or-append-add before (c ∷ cov) 0 0)
 
     step : (o : Option ℕ) → named (before ++ (c ∷ cov)) (met (find g) (i + 1) cov) ≡ covered_map g cov
-        → named (before ++ (c ∷ cov)) (push (bind o (λ n. some (i, n))) (met (find g) (i + 1) cov)) ≡ push (bind o (λ n. some (c, n))) (covered_map g cov)
-    step none k = k
-    step (some n) k = rw (here, k) refl
+        → named (before ++ (c ∷ cov)) (push (bind o (λ n. Some (i, n))) (met (find g) (i + 1) cov)) ≡ push (bind o (λ n. Some (c, n))) (covered_map g cov)
+    step None k = k
+    step (Some n) k = rw (here, k) refl
 
 pub named_met : (g : List (ℕ × ℕ)) (cov : List ℕ) → named cov (met (find g) 0 cov) ≡ covered_map g cov
 named_met g cov = named_from g [] cov 0 refl
@@ -46,9 +45,9 @@ unfolding met push bind
 met_below f i n [] h = tt
 met_below f i n (c ∷ cov) h = step (f c) (met_below f (i + 1) n cov (omega arith))
   where
-    step : (o : Option ℕ) → All (λ e. e.0 < n) (met f (i + 1) cov) → All (λ e. e.0 < n) (push (bind o (λ x. some (i, x))) (met f (i + 1) cov))
-    step none k = k
-    step (some x) k = (omega arith, k)
+    step : (o : Option ℕ) → All (λ e. e.0 < n) (met f (i + 1) cov) → All (λ e. e.0 < n) (push (bind o (λ x. Some (i, x))) (met f (i + 1) cov))
+    step None k = k
+    step (Some x) k = (omega arith, k)
 
 notes_each : (n : ℕ) (t : List ℕ) (at m : ℕ) → All (λ e. e.0 < n) (notes t at m) → (j : ℕ) → j < m → get_or t (at + j) 0 / 65536 < n
 unfolding part

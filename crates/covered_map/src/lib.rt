@@ -23,12 +23,10 @@ pub fn put_covered(
     ensures { Wrote area.old 0 (twos (named (coverage src.now cover) (notes t.now at n))) area.new result }
 {
     let mut p = 0;
-    let mut i = 0;
-    while i < n {
+    for i in 0..n {
         let note = t[at + i] as usize;
         let old = glyph_at(src, cover, note / 65536);
         p = put_two(area, p, old, note % 65536);
-        i += 1;
     }
     p
 }

@@ -1,4 +1,5 @@
 -- Both maps in the cells of lent scratch, and how many cells are enough.
+use Rattle.std.specs.Prelude.{Result}
 use Prim.Native.Nat.{ℕ, ◌+◌, ◌≤◌, ◌<◌}
 use mathlib.Core.Path.{◌≡◌}
 use mathlib.Core.Bool.{Bool}
@@ -18,7 +19,7 @@ use Rattle.cell_maps.specs.Laid.{Laid}
 use Rattle.cell_maps.specs.Runs.{LaidGlyphs}
 use Rattle.cell_maps.specs.declared.Map.{Map}
 use Rattle.tried.specs.Tries.{Tries, tries_less}
-use Rattle.tried.specs.declared.Tried.{Tried}
+use Rattle.tried.specs.declared.NotCut.{NotCut}
 use Rattle.cover_layouts.specs.Cutting.{Cuts, CutsInto, Sound, enough_cells}
 
 module _ {chained : Bool} {form : ℕ} {s glyphs lookups : List ℕ} (o : Sound chained form s glyphs lookups) {t₀ t₁ : List ℕ} {l : Map} (a : Laid lookups t₀ t₁ 0 l) where
@@ -63,7 +64,7 @@ module _ {chained : Bool} {form : ℕ} {s glyphs lookups : List ℕ} (o : Sound 
         cells = omega (arith, a.kept.size, b.kept.size);
       }
 
-      pub maps_cut : {packing : ℕ} {area : List ℕ} {r : Tried} {out after : List ℕ} → Bytes lookups → CutsInto packing chained s glyphs (record { form = form; map = m }) l t₂ area r out after
+      pub maps_cut : {packing : ℕ} {area : List ℕ} {r : Result ℕ NotCut} {out after : List ℕ} → Bytes lookups → CutsInto packing chained s glyphs (record { form = form; map = m }) l t₂ area r out after
           → Tries (length t₀ < enough_cells) (length area < enough_area) r out after (written_in packing out (cut (glyph_entries form glyphs) (map_entries lookups) (cover_context chained s)))
       maps_cut {packing} {area} {r} {out} {after} bl c =
           tries_less (length t₂ ≤ m.at + m.mask + 1 + 65536) (length area < enough_area) (length t₀ < enough_cells) (length area < enough_area) r out after (written_in packing out (cut (glyph_entries form glyphs) (map_entries lookups) (cover_context chained s)))

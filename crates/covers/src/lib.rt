@@ -20,26 +20,26 @@ use fold_glyphs::lay_glyphs;
 use fold_pairs::lay;
 use handing::hand_over;
 use marks::Marks;
-use room::{AREA, Laid};
-use tried::{Tried, least};
+use room::{AREA, NotLaid};
+use tried::{NotCut, least};
 
 // The number of cells that is enough for any source: two maps of 65,536 cells each, and a note for each glyph and one more.
 pub const CELLS: usize = 196609;
 
 // What was written into the area up to `end`, handed over: nothing if `end` is 0; where it is past the area, the layout is too big if the area has enough bytes.
-fn settle(end: usize, area: &[u8], out: &mut [u8]) -> Tried
+fn settle(end: usize, area: &[u8], out: &mut [u8]) -> Result<usize, NotCut>
     ensures { HandsOver end area.now result out.old out.new }
 {
     if end == 0 {
-        return Tried::Became(Laid::Nothing);
+        return Err(NotCut::Refused(NotLaid::Nothing));
     }
     if area.len() < end {
         if area.len() < AREA {
-            return Tried::Short;
+            return Err(NotCut::Short);
         }
-        return Tried::Became(Laid::TooBig);
+        return Err(NotCut::Refused(NotLaid::TooBig));
     }
-    Tried::Became(hand_over(area, 0, 0, end, true, out))
+    Ok(hand_over(area, 0, 0, end, true, out)?)
 }
 
 // A bound for how many glyphs are noted of any coverage of the context.
@@ -62,17 +62,17 @@ fn cut_context(
     t: &mut [u32],
     area: &mut [u8],
     out: &mut [u8],
-) -> Tried
+) -> Result<usize, NotCut>
     requires { Cuts chained src.now glyphs.now cells.glyphs cells.lookups t.old area.old }
     ensures { CutsInto packing chained src.now glyphs.now cells.glyphs cells.lookups t.old area.old result out.old out.new }
 {
     let parts = cover_parts(chained, src);
     let notes = cells.glyphs.map.at + cells.glyphs.map.mask + 1;
     if t.len() <= notes + most_notes(src, parts, glyphs, cells.glyphs.form) {
-        return Tried::FewCells;
+        return Err(NotCut::FewCells);
     }
     if area.len() < parts.records.at + 4 * parts.records.len {
-        return Tried::Short;
+        return Err(NotCut::Short);
     }
     let end = write_in(packing, chained, src, parts, glyphs, cells, t, area);
     settle(end, area, out)
@@ -88,17 +88,17 @@ fn cut_in(
     t: &mut [u32],
     area: &mut [u8],
     out: &mut [u8],
-) -> Tried
+) -> Result<usize, NotCut>
     requires { Sound chained marks.form src.now glyphs.now lookups.now × (length t.old ≤ 0x1_0000_0000) × (length area.old ≤ 0x1_0000_0000) }
     ensures { Tries (length t.old < enough_cells) (length area.old < enough_area) result out.old out.new (written_in marks.layout out.old (cut (glyph_entries marks.form glyphs.now) (map_entries lookups.now) (cover_context chained src.now))) }
 {
     let l = lay(lookups, t, 0);
     if l.mask == 0 {
-        return Tried::FewCells;
+        return Err(NotCut::FewCells);
     }
     let g = lay_glyphs(glyphs, marks.form, t, l.mask + 1);
     if g.mask == 0 {
-        return Tried::FewCells;
+        return Err(NotCut::FewCells);
     }
     let held = Held {
         form: marks.form,
@@ -121,7 +121,7 @@ pub fn by_cover(
     t: &mut [u32],
     area: &mut [u8],
     out: &mut [u8],
-) -> Tried
+) -> Result<usize, NotCut>
     requires { Sound chained marks.form src.now glyphs.now lookups.now }
     ensures { Tries (length t.old < enough_cells) (length area.old < enough_area) result out.old out.new (written_in marks.layout out.old (cut (glyph_entries marks.form glyphs.now) (map_entries lookups.now) (cover_context chained src.now))) }
 {

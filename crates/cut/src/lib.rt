@@ -7,7 +7,8 @@ ghost use Rattle.meaning.specs.Tables.{table};
 ghost use Rattle.meaning.specs.Cut.{cut};
 ghost use Rattle.meaning.specs.Subset.{written_in};
 ghost use Rattle.room.specs.Laid.{outcome_of};
-ghost use Rattle.cut_sizes.specs.Cutting.{Sound, pairs_by_class, UnlessShort, NeverShort};
+ghost use Rattle.tried.specs.Tries.{Tries};
+ghost use Rattle.cut_sizes.specs.Cutting.{Sound, cells_for, bytes_for, UnlessShort, NeverShort};
 
 use cut_kinds::cut_in;
 use cut_sizes::{
@@ -15,149 +16,41 @@ use cut_sizes::{
     OTHER_CELLS, SOME_BYTES, SOME_CELLS, likely_size, pairs_by_class,
 };
 use marks::Marks;
-use room::{LIMIT, Laid};
-use tried::Tried;
+use room::{LIMIT, NotLaid};
+use tried::{NotCut, answered};
 
-// Cells that are enough for any source but a pair table by classes. The type says how many they are, and nothing says what is in them.
-fn other_cells() -> [u32; OTHER_CELLS] {
-    [0u32; OTHER_CELLS]
-}
-
-// Bytes of area that are enough for such a source.
-fn other_bytes() -> [u8; BYTES] {
-    [0u8; BYTES]
-}
-
-// Cells that are enough for any pair table by classes.
-fn pair_cells() -> [u32; CELLS] {
-    [0u32; CELLS]
-}
-
-// Bytes of area that are enough for such a table.
-fn pair_bytes() -> [u8; LIMIT] {
-    [0u8; LIMIT]
-}
-
-// With little scratch, which is enough for most tables of a small font.
-fn in_little(marks: Marks, src: &[u8], glyphs: &[u8], lookups: &[u8], out: &mut [u8]) -> Tried
-    requires { Sound marks.kind marks.form src.now glyphs.now lookups.now }
-    ensures { UnlessShort result out.old out.new (written_in marks.layout out.old (cut (glyph_entries marks.form glyphs.now) (map_entries lookups.now) (table marks.kind src.now))) }
-{
-    let mut t = [0u32; LITTLE_CELLS];
-    let mut area = [0u8; LITTLE_BYTES];
-    cut_in(marks, src, glyphs, lookups, &mut t, &mut area, out)
-}
-
-// The same with some scratch.
-// It calls itself, so that the compiler keeps its arrays out of its caller's frame: a small job would pay for them, and docs/SPEED.md says how much. How often it does, `rounds`, is 0 for a map of whole entries. The sizes after it do the same.
-fn in_some(
+// With so many cells and bytes of our own. It stands alone, so that its arrays stay out of its caller's frame: a small job would pay for them, and docs/SPEED.md says how much.
+#[inline(never)]
+fn in_own<const CELLS: usize, const BYTES: usize>(
     marks: Marks,
     src: &[u8],
     glyphs: &[u8],
     lookups: &[u8],
-    rounds: usize,
     out: &mut [u8],
-) -> Tried
-    requires { Sound marks.kind marks.form src.now glyphs.now lookups.now }
-    ensures { UnlessShort result out.old out.new (written_in marks.layout out.old (cut (glyph_entries marks.form glyphs.now) (map_entries lookups.now) (table marks.kind src.now))) }
+) -> Result<usize, NotCut>
+    requires { Sound marks.kind marks.form src.now glyphs.now lookups.now × (CELLS < 0x1000_0000) × (BYTES < 0x1000_0000) }
+    ensures { Tries (CELLS < cells_for marks.kind src.now) (BYTES < bytes_for marks.kind src.now) result out.old out.new (written_in marks.layout out.old (cut (glyph_entries marks.form glyphs.now) (map_entries lookups.now) (table marks.kind src.now))) }
 {
-    if rounds != 0 {
-        return in_some(marks, src, glyphs, lookups, rounds - 1, out);
-    }
-    let mut t = [0u32; SOME_CELLS];
-    let mut area = [0u8; SOME_BYTES];
-    cut_in(marks, src, glyphs, lookups, &mut t, &mut area, out)
-}
-
-// The same with more scratch.
-fn in_more(
-    marks: Marks,
-    src: &[u8],
-    glyphs: &[u8],
-    lookups: &[u8],
-    rounds: usize,
-    out: &mut [u8],
-) -> Tried
-    requires { Sound marks.kind marks.form src.now glyphs.now lookups.now }
-    ensures { UnlessShort result out.old out.new (written_in marks.layout out.old (cut (glyph_entries marks.form glyphs.now) (map_entries lookups.now) (table marks.kind src.now))) }
-{
-    if rounds != 0 {
-        return in_more(marks, src, glyphs, lookups, rounds - 1, out);
-    }
-    let mut t = [0u32; MORE_CELLS];
-    let mut area = [0u8; MORE_BYTES];
-    cut_in(marks, src, glyphs, lookups, &mut t, &mut area, out)
-}
-
-// The same with much scratch.
-fn in_much(
-    marks: Marks,
-    src: &[u8],
-    glyphs: &[u8],
-    lookups: &[u8],
-    rounds: usize,
-    out: &mut [u8],
-) -> Tried
-    requires { Sound marks.kind marks.form src.now glyphs.now lookups.now }
-    ensures { UnlessShort result out.old out.new (written_in marks.layout out.old (cut (glyph_entries marks.form glyphs.now) (map_entries lookups.now) (table marks.kind src.now))) }
-{
-    if rounds != 0 {
-        return in_much(marks, src, glyphs, lookups, rounds - 1, out);
-    }
-    let mut t = [0u32; MUCH_CELLS];
-    let mut area = [0u8; MUCH_BYTES];
-    cut_in(marks, src, glyphs, lookups, &mut t, &mut area, out)
-}
-
-// The same with scratch that is enough for any source but a pair table by classes.
-fn in_all_but_class_pairs(
-    marks: Marks,
-    src: &[u8],
-    glyphs: &[u8],
-    lookups: &[u8],
-    rounds: usize,
-    out: &mut [u8],
-) -> Tried
-    requires { Sound marks.kind marks.form src.now glyphs.now lookups.now × (pairs_by_class marks.kind src.now ≡ false) }
-    ensures { NeverShort result out.old out.new (written_in marks.layout out.old (cut (glyph_entries marks.form glyphs.now) (map_entries lookups.now) (table marks.kind src.now))) }
-{
-    if rounds != 0 {
-        return in_all_but_class_pairs(marks, src, glyphs, lookups, rounds - 1, out);
-    }
-    let mut t = other_cells();
-    let mut area = other_bytes();
-    cut_in(marks, src, glyphs, lookups, &mut t, &mut area, out)
-}
-
-// The same with scratch that is enough for any pair table by classes.
-fn in_class_pairs(
-    marks: Marks,
-    src: &[u8],
-    glyphs: &[u8],
-    lookups: &[u8],
-    rounds: usize,
-    out: &mut [u8],
-) -> Tried
-    requires { Sound marks.kind marks.form src.now glyphs.now lookups.now × (pairs_by_class marks.kind src.now ≡ true) }
-    ensures { NeverShort result out.old out.new (written_in marks.layout out.old (cut (glyph_entries marks.form glyphs.now) (map_entries lookups.now) (table marks.kind src.now))) }
-{
-    if rounds != 0 {
-        return in_class_pairs(marks, src, glyphs, lookups, rounds - 1, out);
-    }
-    let mut t = pair_cells();
-    let mut area = pair_bytes();
+    let mut t = [0u32; CELLS];
+    let mut area = [0u8; BYTES];
     cut_in(marks, src, glyphs, lookups, &mut t, &mut area, out)
 }
 
 // With scratch that is enough for any source of this kind and format.
-fn in_most(marks: Marks, src: &[u8], glyphs: &[u8], lookups: &[u8], out: &mut [u8]) -> Tried
+fn in_most(
+    marks: Marks,
+    src: &[u8],
+    glyphs: &[u8],
+    lookups: &[u8],
+    out: &mut [u8],
+) -> Result<usize, NotCut>
     requires { Sound marks.kind marks.form src.now glyphs.now lookups.now }
     ensures { NeverShort result out.old out.new (written_in marks.layout out.old (cut (glyph_entries marks.form glyphs.now) (map_entries lookups.now) (table marks.kind src.now))) }
 {
     if pairs_by_class(marks.kind, src) {
-        return in_class_pairs(marks, src, glyphs, lookups, glyphs.len() % 2, out);
+        return in_own::<CELLS, LIMIT>(marks, src, glyphs, lookups, out);
     }
-    in_all_but_class_pairs(marks, src, glyphs, lookups, glyphs.len() % 2, out)
+    in_own::<OTHER_CELLS, BYTES>(marks, src, glyphs, lookups, out)
 }
 
 // With one of the sizes that are not enough for any source: 0 is little scratch, 1 some, 2 more, and any other much.
@@ -168,34 +61,35 @@ fn in_size(
     glyphs: &[u8],
     lookups: &[u8],
     out: &mut [u8],
-) -> Tried
+) -> Result<usize, NotCut>
     requires { Sound marks.kind marks.form src.now glyphs.now lookups.now }
     ensures { UnlessShort result out.old out.new (written_in marks.layout out.old (cut (glyph_entries marks.form glyphs.now) (map_entries lookups.now) (table marks.kind src.now))) }
 {
     match size {
-        0 => in_little(marks, src, glyphs, lookups, out),
-        1 => in_some(marks, src, glyphs, lookups, glyphs.len() % 2, out),
-        2 => in_more(marks, src, glyphs, lookups, glyphs.len() % 2, out),
-        _ => in_much(marks, src, glyphs, lookups, glyphs.len() % 2, out),
+        0 => in_own::<LITTLE_CELLS, LITTLE_BYTES>(marks, src, glyphs, lookups, out),
+        1 => in_own::<SOME_CELLS, SOME_BYTES>(marks, src, glyphs, lookups, out),
+        2 => in_own::<MORE_CELLS, MORE_BYTES>(marks, src, glyphs, lookups, out),
+        _ => in_own::<MUCH_CELLS, MUCH_BYTES>(marks, src, glyphs, lookups, out),
     }
 }
 
 // What is left of a sound source of this kind, handed over if there is room, with scratch of our own: of the size that is likely to do, and the next one where that is too short.
-pub fn cut_own(marks: Marks, src: &[u8], glyphs: &[u8], lookups: &[u8], out: &mut [u8]) -> Laid
+pub fn cut_own(
+    marks: Marks,
+    src: &[u8],
+    glyphs: &[u8],
+    lookups: &[u8],
+    out: &mut [u8],
+) -> Result<usize, NotLaid>
     requires { Sound marks.kind marks.form src.now glyphs.now lookups.now }
     ensures { outcome_of result out.new ≡ written_in marks.layout out.old (cut (glyph_entries marks.form glyphs.now) (map_entries lookups.now) (table marks.kind src.now)) }
 {
-    let mut size = likely_size(marks.kind, src, glyphs, marks.form, lookups);
-    while size < 4 {
-        if let Tried::Became(laid) = in_size(size, marks, src, glyphs, lookups, out) {
+    for size in likely_size(marks.kind, src, glyphs, marks.form, lookups)..4 {
+        if let Some(laid) = answered(in_size(size, marks, src, glyphs, lookups, out)) {
             return laid;
         }
-        size += 1;
     }
-    let Tried::Became(laid) = in_most(marks, src, glyphs, lookups, out) else {
-        return Laid::Nothing;
-    };
-    laid
+    answered(in_most(marks, src, glyphs, lookups, out)).unwrap()
 }
 
 // The same with lent scratch whose content is arbitrary, and with our own where that is too short.
@@ -207,12 +101,12 @@ pub fn cut_lent(
     t: &mut [u32],
     area: &mut [u8],
     out: &mut [u8],
-) -> Laid
+) -> Result<usize, NotLaid>
     requires { Sound marks.kind marks.form src.now glyphs.now lookups.now }
     ensures { outcome_of result out.new ≡ written_in marks.layout out.old (cut (glyph_entries marks.form glyphs.now) (map_entries lookups.now) (table marks.kind src.now)) }
 {
-    let Tried::Became(laid) = cut_in(marks, src, glyphs, lookups, t, area, out) else {
-        return cut_own(marks, src, glyphs, lookups, out);
-    };
-    laid
+    if let Some(laid) = answered(cut_in(marks, src, glyphs, lookups, t, area, out)) {
+        return laid;
+    }
+    cut_own(marks, src, glyphs, lookups, out)
 }

@@ -2,7 +2,7 @@
 use Prim.Native.Nat.{ℕ, ◌≤◌, ◌<◌}
 use mathlib.Core.Path.{◌≡◌, refl, sym, ap, ◌∙◌, subst}
 use mathlib.Core.Bool.{Bool, true, false, cond, true≢false}
-use mathlib.Core.Option.{Option, none}
+use Rattle.std.specs.Prelude.{Option, None, Result}
 use mathlib.Core.List.{List, []}
 use native.Mathlib.Omega.{arith}
 use lib.ListN.{length}
@@ -22,7 +22,7 @@ use Rattle.check_parts.proofs.Laws.{context_1, context_3, pairs_1, source_short,
 use Rattle.placed_sets.specs.Sorts.{set_fault_of}
 use Rattle.placed_sets.specs.declared.Sort.TheVariants.{Rules, Ligatures}
 use Rattle.tried.specs.Tries.{Tries, tries_less}
-use Rattle.tried.specs.declared.Tried.{Tried}
+use Rattle.tried.specs.declared.NotCut.{NotCut}
 use Rattle.cut_sets.specs.Whole.{glyph_context, ligature_table}
 use Rattle.cut_sets.specs.PairTables as glyphPairs
 use Rattle.pair_classes.specs.Cutting as classPairs
@@ -53,7 +53,7 @@ module _ (kind : ℕ) (s : List ℕ) where
 -- A context by its format.
 module _ (chained : Bool) (s : List ℕ) {format : ℕ} (e : format ≡ word s 0) where
   module _ {form : ℕ} {g l : List ℕ} (a : SoundContext chained form s g l) where
-    pub asks_1 : format ≡ 1 → (header_fault (enough s (word s 4)) 0 4 (set_fault_of (Rules chained) s) s ≡ none) × (length s ≤ limit) × GlyphMap form g × (ascends (keys (map_entries l)) ≡ true)
+    pub asks_1 : format ≡ 1 → (header_fault (enough s (word s 4)) 0 4 (set_fault_of (Rules chained) s) s ≡ None) × (length s ≤ limit) × GlyphMap form g × (ascends (keys (map_entries l)) ≡ true)
     unfolding set_fault_of
     asks_1 f = (sym (context_1 chained s e f) ∙ a.sound, a.source, a.map, lookups_ascend l a.lookups_good)
 
@@ -76,7 +76,7 @@ module _ (chained : Bool) (s : List ℕ) {format : ℕ} (e : format ≡ word s 0
   says_3 f h = rw (← e, ne_eqb format 1 f, ne_eqb format 2 h)
 
   -- what each format's cut answers is what a context's cut answers
-  module _ (packing : ℕ) (g l : List (ℕ × ℕ)) (n b : ℕ) (r : Tried) (out after : List ℕ) where
+  module _ (packing : ℕ) (g l : List (ℕ × ℕ)) (n b : ℕ) (r : Result ℕ NotCut) (out after : List ℕ) where
     pub tries_1 : format ≡ 1 → Tries (n < other_cells) (b < enough_area) r out after (written_in packing out (cut g l (glyph_context chained s))) → Tries (n < other_cells) (b < enough_area) r out after (written_in packing out (cut g l (context chained s)))
     tries_1 f h = (rw (says_1 f) at h)
 
@@ -87,7 +87,7 @@ module _ (chained : Bool) (s : List ℕ) {format : ℕ} (e : format ≡ word s 0
     tries_3 f k h = (rw (says_3 f k) at h)
 
 -- a source without a fault has its first two bytes
-sound_inside : (kind : ℕ) (s : List ℕ) → fault kind s ≡ none → inside s 0 2 ≡ true
+sound_inside : (kind : ℕ) (s : List ℕ) → fault kind s ≡ None → inside s 0 2 ≡ true
 unfolding is_some
 sound_inside kind s h = step (inside s 0 2) refl
   where
@@ -98,7 +98,7 @@ sound_inside kind s h = step (inside s 0 2) refl
 -- A pair table by its format.
 module _ (s : List ℕ) {format : ℕ} (e : format ≡ word s 0) where
   module _ {form : ℕ} {g : List ℕ} (a : SoundPairs form s g) where
-    pub asks_glyph_pairs : format ≡ 1 → (glyphPairs.pair_fault s ≡ none) × (length s ≤ limit) × GlyphMap form g
+    pub asks_glyph_pairs : format ≡ 1 → (glyphPairs.pair_fault s ≡ None) × (length s ≤ limit) × GlyphMap form g
     asks_glyph_pairs f = (sym (pairs_1 s e f) ∙ sym (source_pairs 4 s (sound_inside 4 s a.sound) refl) ∙ a.sound, a.source, a.map)
 
     pub asks_class_pairs : (format ≡ 1 → ⊥) → classPairs.Sound s form g
@@ -125,7 +125,7 @@ module _ (s : List ℕ) {format : ℕ} (e : format ≡ word s 0) where
   class_pairs_short f b h = rw (by_class f) h
 
   -- what each format's cut answers is what a pair table's cut answers
-  module _ (packing : ℕ) (g : List (ℕ × ℕ)) (n b : ℕ) (r : Tried) (out after : List ℕ) where
+  module _ (packing : ℕ) (g : List (ℕ × ℕ)) (n b : ℕ) (r : Result ℕ NotCut) (out after : List ℕ) where
     pub tries_glyph_pairs : format ≡ 1 → Tries (n < other_cells) (b < enough_area) r out after (written_in packing out (cut g [] (glyphPairs.pair_table s))) → Tries (n < cells_for 4 s) (b < bytes_for 4 s) r out after (written_in packing out (cut g [] (pair_table s)))
     tries_glyph_pairs f h = tries_less (n < other_cells) (b < enough_area) (n < cells_for 4 s) (b < bytes_for 4 s) r out after (written_in packing out (cut g [] (pair_table s))) (source_few 4 s n) (source_short_area 4 s (by_glyph f) b) (rw (says_glyph_pairs f) at h)
 
@@ -159,12 +159,12 @@ module _ (kind : ℕ) (s : List ℕ) where
     pub asks_chained : kind ≡ 2 → SoundContext true form s g l
     asks_chained e = record { sound = sym (source_chained kind s starts e) ∙ a.sound; source = a.source; map = a.map; lookups_good = a.lookups_good }
 
-    pub asks_ligatures : kind ≡ 3 → (header_fault (enough s (word s 4)) 0 4 (set_fault_of Ligatures s) s ≡ none) × (length s ≤ limit) × GlyphMap form g
+    pub asks_ligatures : kind ≡ 3 → (header_fault (enough s (word s 4)) 0 4 (set_fault_of Ligatures s) s ≡ None) × (length s ≤ limit) × GlyphMap form g
     unfolding set_fault_of
     asks_ligatures e = (sym (source_ligatures kind s starts e) ∙ a.sound, a.source, a.map)
 
     pub asks_pairs : kind ≡ 4 → SoundPairs form s g
-    asks_pairs e = record { sound = subst (λ (k : ℕ). fault k s ≡ none) e a.sound; source = a.source; map = a.map }
+    asks_pairs e = record { sound = subst (λ (k : ℕ). fault k s ≡ None) e a.sound; source = a.source; map = a.map }
 
     pub asks_singles : (kind ≡ 1 → ⊥) → (kind ≡ 2 → ⊥) → (kind ≡ 3 → ⊥) → (kind ≡ 4 → ⊥) → singles.Sound form s g
     asks_singles x y z w = record { sound = sym (source_singles kind s starts x y z w) ∙ a.sound; source = a.source; map = a.map }
@@ -197,7 +197,7 @@ module _ (kind : ℕ) (s : List ℕ) where
   says_singles g l x y z w = sym (singles.any_lookups g l s) ∙ ap (cut g l) (single_is x y z w)
 
   -- what each kind's cut answers is what a source's cut answers
-  module _ (packing : ℕ) (g l : List (ℕ × ℕ)) (n b : ℕ) (r : Tried) (out after : List ℕ) where
+  module _ (packing : ℕ) (g l : List (ℕ × ℕ)) (n b : ℕ) (r : Result ℕ NotCut) (out after : List ℕ) where
     abbrev Cut : Type 0
     Cut = Tries (n < cells_for kind s) (b < bytes_for kind s) r out after (written_in packing out (cut g l (table kind s)))
 

@@ -2,7 +2,7 @@
 use Prim.Native.Nat.{ℕ}
 use mathlib.Core.Path.{◌≡◌, refl, sym, ap}
 use mathlib.Core.Bool.{Bool, true, false, cond}
-use mathlib.Core.Option.{Option, none, some}
+use Rattle.std.specs.Prelude.{Option, None, Some}
 use mathlib.Core.List.{List, [], ◌∷◌}
 use lib.ListN.{length}
 use lib.Dec.{eqb}
@@ -40,13 +40,13 @@ singles_written packing out g l s = by_format (eqb (word s 0) 1)
     agreed [] = refl
     agreed (e ∷ es) = step (agree (e ∷ es))
       where
-        step : (t : Bool) → written out (some (cond t (Table.single_delta (some (keys (e ∷ es))) (delta_of e)) (Table.single_list (some (keys (e ∷ es))) (values (e ∷ es))))) ≡ written_in packing out (some (cond t (Table.single_delta (some (keys (e ∷ es))) (delta_of e)) (Table.single_list (some (keys (e ∷ es))) (values (e ∷ es)))))
-        step true = ap (laid_into out) (sym (delta_words packing (some (keys (e ∷ es))) (delta_of e)))
-        step false = ap (laid_into out) (sym (list_words packing (some (keys (e ∷ es))) (values (e ∷ es))))
+        step : (t : Bool) → written out (Some (cond t (Table.single_delta (Some (keys (e ∷ es))) (delta_of e)) (Table.single_list (Some (keys (e ∷ es))) (values (e ∷ es))))) ≡ written_in packing out (Some (cond t (Table.single_delta (Some (keys (e ∷ es))) (delta_of e)) (Table.single_list (Some (keys (e ∷ es))) (values (e ∷ es)))))
+        step true = ap (laid_into out) (sym (delta_words packing (Some (keys (e ∷ es))) (delta_of e)))
+        step false = ap (laid_into out) (sym (list_words packing (Some (keys (e ∷ es))) (values (e ∷ es))))
 
     by_cover : (c : Option (List ℕ)) (f : List ℕ → List (ℕ × ℕ)) → written out (bind c (λ cov. kept_singles (f cov))) ≡ written_in packing out (bind c (λ cov. kept_singles (f cov)))
-    by_cover none f = refl
-    by_cover (some cov) f = agreed (f cov)
+    by_cover None f = refl
+    by_cover (Some cov) f = agreed (f cov)
 
     by_format : (t : Bool) → written out (cut g l (cond t (Table.single_delta (reach (coverage s) s 0 2) (word s 4)) (Table.single_list (reach (coverage s) s 0 2) (words s 6 (word s 4)))))
         ≡ written_in packing out (cut g l (cond t (Table.single_delta (reach (coverage s) s 0 2) (word s 4)) (Table.single_list (reach (coverage s) s 0 2) (words s 6 (word s 4)))))

@@ -17,7 +17,7 @@ use marks::Marks;
 use pair_classes::class_pairs;
 use pairs_by_glyph::pairs;
 use single_subst::singles;
-use tried::Tried;
+use tried::NotCut;
 use wire::word_at;
 
 // What is left of a sound context, plain or chained, by its format.
@@ -30,7 +30,7 @@ fn context_in(
     t: &mut [u32],
     area: &mut [u8],
     out: &mut [u8],
-) -> Tried
+) -> Result<usize, NotCut>
     requires { SoundContext chained marks.form src.now glyphs.now lookups.now }
     ensures { Tries (length t.old < other_cells) (length area.old < enough_area) result out.old out.new (written_in marks.layout out.old (cut (glyph_entries marks.form glyphs.now) (map_entries lookups.now) (context chained src.now))) }
 {
@@ -50,7 +50,7 @@ fn pairs_in(
     t: &mut [u32],
     area: &mut [u8],
     out: &mut [u8],
-) -> Tried
+) -> Result<usize, NotCut>
     requires { SoundPairs marks.form src.now glyphs.now }
     ensures { Tries (length t.old < cells_for 4 src.now) (length area.old < bytes_for 4 src.now) result out.old out.new (written_in marks.layout out.old (cut (glyph_entries marks.form glyphs.now) [] (pair_table src.now))) }
 {
@@ -71,7 +71,7 @@ pub fn cut_in(
     t: &mut [u32],
     area: &mut [u8],
     out: &mut [u8],
-) -> Tried
+) -> Result<usize, NotCut>
     requires { Sound marks.kind marks.form src.now glyphs.now lookups.now }
     ensures { Tries (length t.old < cells_for marks.kind src.now) (length area.old < bytes_for marks.kind src.now) result out.old out.new (written_in marks.layout out.old (cut (glyph_entries marks.form glyphs.now) (map_entries lookups.now) (table marks.kind src.now))) }
 {

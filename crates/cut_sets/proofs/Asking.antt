@@ -2,7 +2,7 @@
 use Prim.Native.Nat.{ℕ, zero, suc, ◌+◌, ◌-◌, ◌*◌, ◌/◌, ◌%◌, ◌≤◌, ◌<◌}
 use mathlib.Core.Path.{◌≡◌, refl, sym, ap, ap₂, ◌∙◌}
 use mathlib.Core.Bool.{Bool, true, cond, ◌&&◌}
-use mathlib.Core.Option.{Option, none, some}
+use Rattle.std.specs.Prelude.{Option, None, Some, Result}
 use mathlib.Core.List.{List, [], ◌∷◌, ◌++◌}
 use mathlib.Core.Logic.{◌⊎◌, inl, inr}
 use native.Mathlib.Decide.{dec_lt}
@@ -27,7 +27,7 @@ use Rattle.pair_places.specs.Puts.{Puts}
 use Rattle.pair_sets.specs.declared.Formats.{Formats}
 use Rattle.field_uses.specs.New.{format_in, AsksFormats, NewFormats, format_alike}
 use Rattle.tried.specs.Tries.{Tries}
-use Rattle.tried.specs.declared.Tried.{Tried}
+use Rattle.tried.specs.declared.NotCut.{NotCut}
 use Rattle.member_sets.specs.Sound.{inside_is, through_sound}
 use Rattle.area.specs.Part.{part, notes, old_at}
 use Rattle.meaning.specs.Maps.{map_entries, glyph_entries}
@@ -64,9 +64,9 @@ module _ (f : ℕ → Option ℕ) where
       later [] h = tt
       later (e ∷ l) h = (omega (arith, h.0), later l h.1)
 
-      step : (o : Option ℕ) → All (λ e. e.0 < i + length (c ∷ cov)) (met f (i + 1) cov) → All (λ e. e.0 < i + length (c ∷ cov)) (push (bind o (λ n. some (i, n))) (met f (i + 1) cov))
-      step none h = h
-      step (some n) h = (omega arith, h)
+      step : (o : Option ℕ) → All (λ e. e.0 < i + length (c ∷ cov)) (met f (i + 1) cov) → All (λ e. e.0 < i + length (c ∷ cov)) (push (bind o (λ n. Some (i, n))) (met f (i + 1) cov))
+      step None h = h
+      step (Some n) h = (omega arith, h)
 
 all_notes : (P : ℕ × ℕ → Type 0) (t : List ℕ) (at m : ℕ) → All P (notes t at m) → (i : ℕ) → i < m → P (get_or t (at + i) 0 / 65536, get_or t (at + i) 0 % 65536)
 unfolding part
@@ -90,7 +90,7 @@ module _ {f : ℕ → Option ℕ} {cov t₀ : List ℕ} {to : ℕ} {t : List ℕ
       omega (arith, all_notes (λ n. n.0 < 0 + length cov) t to m e i l)
 
 -- A header without a fault.
-module _ (good : Bool) (slot : ℕ) (fault_at : ℕ → Option ℕ) (s : List ℕ) (h : header_fault good 0 slot fault_at s ≡ none) where
+module _ (good : Bool) (slot : ℕ) (fault_at : ℕ → Option ℕ) (s : List ℕ) (h : header_fault good 0 slot fault_at s ≡ None) where
   -- its count and its offsets lie inside
   pub header_inside : slot + 2 + 2 * word s slot ≤ length s
   unfolding header_fault
@@ -100,11 +100,11 @@ module _ (good : Bool) (slot : ℕ) (fault_at : ℕ → Option ℕ) (s : List �
   pub cover_sound : {at : ℕ} → at ≡ word s 2 → (at ≡ 0 → ⊥) → coverage_sound s at ≡ true
   unfolding fault_through coverage_fault
   cover_sound {at} e z =
-      let q = (lowest_none (cond (eqb (word s 2) 0) none (coverage_fault s (0 + word s 2))) _ (header_good s good 0 slot fault_at h).1).0 in
-      rw e (part_sound (word s 2) (coverage_sound s (word s 2)) none (rw (ne_eqb (word s 2) 0 (λ w. z (e ∙ w)), zero-add) at q)).0
+      let q = (lowest_none (cond (eqb (word s 2) 0) None (coverage_fault s (0 + word s 2))) _ (header_good s good 0 slot fault_at h).1).0 in
+      rw e (part_sound (word s 2) (coverage_sound s (word s 2)) None (rw (ne_eqb (word s 2) 0 (λ w. z (e ∙ w)), zero-add) at q)).0
 
   -- the sets that it reaches are sound
-  pub reached_sound : (i : ℕ) → i < word s slot → (word s (slot + 2 + 2 * i) ≡ 0 → ⊥) → fault_at (word s (slot + 2 + 2 * i)) ≡ none
+  pub reached_sound : (i : ℕ) → i < word s slot → (word s (slot + 2 + 2 * i) ≡ 0 → ⊥) → fault_at (word s (slot + 2 + 2 * i)) ≡ None
   reached_sound i l z = rw zero-add at (through_sound fault_at s 0 (slot + 2) (word s slot) i (header_good s good 0 slot fault_at h).3 l z)
 
   -- there is a set for each covered glyph, if it judges so
@@ -121,7 +121,7 @@ word_small m h at = omega (arith, h at, h (at + 1))
 
 -- so the source is sound
 module _ (s : List ℕ) (bytes : (i : ℕ) → get_or s i 0 < 256) (l : length s ≤ limit) where
-  pub rules_asked : (chained : Bool) → header_fault (enough s (word s 4)) 0 4 (set_fault_of (Rules chained) s) s ≡ none → SoundSets (Rules chained) s
+  pub rules_asked : (chained : Bool) → header_fault (enough s (word s 4)) 0 4 (set_fault_of (Rules chained) s) s ≡ None → SoundSets (Rules chained) s
   rules_asked chained h = record {
     short = l;
     counted = word_small s bytes 4;
@@ -131,7 +131,7 @@ module _ (s : List ℕ) (bytes : (i : ℕ) → get_or s i 0 < 256) (l : length s
     sets = reached_sound (enough s (word s 4)) 4 (set_fault_of (Rules chained) s) s h;
   }
 
-  pub ligatures_asked : header_fault (enough s (word s 4)) 0 4 (set_fault_of Ligatures s) s ≡ none → SoundSets Ligatures s
+  pub ligatures_asked : header_fault (enough s (word s 4)) 0 4 (set_fault_of Ligatures s) s ≡ None → SoundSets Ligatures s
   ligatures_asked h = record {
     short = l;
     counted = word_small s bytes 4;
@@ -141,7 +141,7 @@ module _ (s : List ℕ) (bytes : (i : ℕ) → get_or s i 0 < 256) (l : length s
     sets = reached_sound (enough s (word s 4)) 4 (set_fault_of Ligatures s) s h;
   }
 
-  pub pairs_asked : pair_fault s ≡ none → SoundSets (pair_sort s) s
+  pub pairs_asked : pair_fault s ≡ None → SoundSets (pair_sort s) s
   unfolding set_fault_of
   pairs_asked h =
       let good = good_formats s && enough s (word s 8) in
@@ -245,7 +245,7 @@ formats_same {g} {h} {s} {ns} {ms} {f} e n w = record {
 -- what is answered of a table of pairs is answered of what is left of it
 module _ {s : List ℕ} {form : ℕ} {glyphs t₀ : List ℕ} {g : Map} (a : SoundSets (pair_sort s) s) (l : MapsLaid form glyphs t₀ (one_map g)) (z : word s 2 ≡ 0 → ⊥) {cover : ℕ} (e : cover ≡ word s 2)
     {t : List ℕ} {m : ℕ} (h : Met (find (glyph_entries form glyphs)) (coverage s cover) t₀ (behind (one_map g)) t m) where
-  pub pairs_answered : {few : Type 0} {packing : ℕ} {out₀ : List ℕ} {n : ℕ} {r : Tried} {out : List ℕ} → AnsweredPairs packing s t g (behind (one_map g)) m out₀ n r out
+  pub pairs_answered : {few : Type 0} {packing : ℕ} {out₀ : List ℕ} {n : ℕ} {r : Result ℕ NotCut} {out : List ℕ} → AnsweredPairs packing s t g (behind (one_map g)) m out₀ n r out
       → Answered few out₀ (block (words_in packing) (cut (glyph_entries form glyphs) [] (pair_table s))) n r out
   pairs_answered {packing = packing} w =
       let f = w.formats in
@@ -300,7 +300,7 @@ module _ {form : ℕ} {g t₀ t : List ℕ} {m : Map} (a : LaidGlyphs form g t�
 
 -- With few cells behind the maps, the lent ones were few; so what is answered behind the maps is answered of all.
 module _ {form : ℕ} {g t₀ t : List ℕ} {m : Map} (a : LaidGlyphs form g t₀ t 0 m)
-    {out₀ : List ℕ} {words : Option (List ℕ)} {n : ℕ} {r : Tried} {out : List ℕ} (packing : ℕ) (left : Option Table) (fit : Opt (ByCover packing) left) (e : words ≡ block (words_in packing) left) where
+    {out₀ : List ℕ} {words : Option (List ℕ)} {n : ℕ} {r : Result ℕ NotCut} {out : List ℕ} (packing : ℕ) (left : Option Table) (fit : Opt (ByCover packing) left) (e : words ≡ block (words_in packing) left) where
   pub one_answered : Answered (length t ≤ behind (one_map m) + 65536) out₀ words n r out → Tries (length t₀ < cells_most) (n < enough_area) r out₀ out (written_in packing out₀ left)
   one_answered = answered_as (λ h. omega (arith, h, a.kept.size, a.place, a.few)) packing left fit e
 

@@ -2,7 +2,7 @@
 use Prim.Native.Nat.{ℕ, zero, suc, ◌+◌, ◌*◌, ◌≤◌, ◌<◌}
 use mathlib.Core.Path.{◌≡◌, refl, ap}
 use mathlib.Core.Bool.{Bool, true, false, cond}
-use mathlib.Core.Option.{Option, none, some}
+use Rattle.std.specs.Prelude.{Option, None, Some}
 use mathlib.Core.List.{List, [], ◌∷◌, map}
 use native.Mathlib.Omega.{arith}
 use lib.ListN.{length, length-append}
@@ -30,17 +30,17 @@ use Rattle.placed_sets.specs.declared.Sort.{Sort}
 use Rattle.placed_sets.specs.declared.Sort.TheVariants.{Rules, Ligatures, Pairs}
 
 -- no words, and words
-small_none : Small none
+small_none : Small None
 small_none = record { two = λ e. absurd (none_some refl e); fit = λ e. absurd (none_some refl e) }
 
-small_some : (ws : List ℕ) → 2 ≤ length ws → (2 * length ws ≤ 65535 → All Word ws) → Small (some ws)
+small_some : (ws : List ℕ) → 2 ≤ length ws → (2 * length ws ≤ 65535 → All Word ws) → Small (Some ws)
 unfolding left_words
 small_some ws t f = record { two = λ e. long e; fit = λ e. words e }
   where
-    long : {vs : List ℕ} → some ws ≡ some vs → 2 ≤ length vs
+    long : {vs : List ℕ} → Some ws ≡ Some vs → 2 ≤ length vs
     long e = omega (arith, ap (λ (o : Option (List ℕ)). length (left_words o)) e)
 
-    words : {vs : List ℕ} → some ws ≡ some vs → 2 * length vs ≤ 65535 → All Word vs
+    words : {vs : List ℕ} → Some ws ≡ Some vs → 2 * length vs ≤ 65535 → All Word vs
     words {vs} e =
         let s : ws ≡ vs = ap left_words e in
         rw s at f
@@ -75,9 +75,9 @@ module _ (s : List ℕ) (b : Bytes s) (g : List (ℕ × ℕ)) (v : Values g) whe
   pairs_words size places p (suc n) = step (find g (word s p)) (find_word g (word s p) v) (pairs_words size places (p + size) n)
     where
       step : (o : Option ℕ) → Opt Word o → All (λ w. All Word w × (0 < length w)) (pairs_in g s size places (p + size) n)
-          → All (λ w. All Word w × (0 < length w)) (push (bind o (λ y. some (y ∷ map (value_at s p) places))) (pairs_in g s size places (p + size) n))
-      step none w r = r
-      step (some y) w r = (((w, values_words p places), omega arith), r)
+          → All (λ w. All Word w × (0 < length w)) (push (bind o (λ y. Some (y ∷ map (value_at s p) places))) (pairs_in g s size places (p + size) n))
+      step None w r = r
+      step (Some y) w r = (((w, values_words p places), omega arith), r)
 
 rows_words : (ps : List (List ℕ)) → All (λ w. All Word w × (0 < length w)) ps → All Word (rows ps)
 unfolding rows

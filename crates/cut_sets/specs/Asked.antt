@@ -1,8 +1,7 @@
 -- What is asked of a source and of maps in cells, and which sets are kept then.
-use Rattle.std.specs.Prelude.{ℕ, ◌+◌, ◌-◌, ◌*◌, ◌≤◌, ◌<◌, ◌≡◌, Bool, true, List, [], length, eqb}
+use Rattle.std.specs.Prelude.{ℕ, ◌+◌, ◌-◌, ◌*◌, ◌≤◌, ◌<◌, ◌≡◌, Bool, true, List, [], length, eqb, None}
 use Rattle.std.proofs.Common.{sym, ◌∙◌, zero-add, ne_eqb, eq-eqb}
 use Rattle.std.proofs.Math.Path.{ap}
-use Rattle.std.proofs.Math.Option.{none}
 use Rattle.meaning.specs.Words.{word, find, bind}
 use Rattle.meaning.specs.Maps.{glyph_entries}
 use Rattle.meaning.specs.Parts.{coverage, coverage_sound}
@@ -35,7 +34,7 @@ pub record SoundSets (sort : Sort) (s : List ℕ) : Type 0 where
   pub header : header_size sort + 2 * count_of sort s ≤ length s
   pub cover : (word s 2 ≡ 0 → ⊥) → coverage_sound s (word s 2) ≡ true
   pub enough : (word s 2 ≡ 0 → ⊥) → length (coverage s (word s 2)) ≤ count_of sort s
-  pub sets : (i : ℕ) → i < count_of sort s → (word s (header_size sort + 2 * i) ≡ 0 → ⊥) → set_fault_of sort s (word s (header_size sort + 2 * i)) ≡ none
+  pub sets : (i : ℕ) → i < count_of sort s → (word s (header_size sort + 2 * i) ≡ 0 → ⊥) → set_fault_of sort s (word s (header_size sort + 2 * i)) ≡ None
 
 -- the cell behind the maps, which are laid into cells one after the other
 abbrev pub behind : Maps → ℕ
@@ -55,11 +54,11 @@ kept_from sort s g t maps = kept_of (left_in sort t maps s) s (header_size sort)
 
 -- what is left of a null coverage's table
 module _ (g l : List (ℕ × ℕ)) (s : List ℕ) where
-  pub rules_null : (chained : Bool) → word s 2 ≡ 0 → cut g l (glyph_context chained s) ≡ none
+  pub rules_null : (chained : Bool) → word s 2 ≡ 0 → cut g l (glyph_context chained s) ≡ None
   unfolding cut reach bind
   rules_null chained z = rw (eq-eqb (word s 2) 0 z)
 
-  pub ligatures_null : word s 2 ≡ 0 → cut g l (ligature_table s) ≡ none
+  pub ligatures_null : word s 2 ≡ 0 → cut g l (ligature_table s) ≡ None
   unfolding cut reach bind
   ligatures_null z = rw (eq-eqb (word s 2) 0 z)
 

@@ -1,8 +1,7 @@
 -- Tables of pairs: what is asked of a source, and what is left of it.
-use Rattle.std.specs.Prelude.{ℕ, ◌≡◌, ◌&&◌, eqb}
+use Rattle.std.specs.Prelude.{ℕ, ◌≡◌, ◌&&◌, eqb, Option, None, Some, Result}
 use Rattle.std.proofs.Math.Path.{refl, ap}
 use Rattle.std.proofs.Common.{sym, ◌∙◌, zero-add, ne_eqb, eq-eqb}
-use Rattle.std.proofs.Math.Option.{Option, none, some}
 use mathlib.Core.List.{List, [], ◌∷◌, map}
 use Rattle.meaning.specs.Words.{word, find, bind}
 use Rattle.meaning.specs.Parts.{coverage}
@@ -27,7 +26,7 @@ use Rattle.placed_sets.specs.Sorts.{set_fault_of, set_left, left_in}
 use Rattle.placed_sets.specs.Kept.{words_of, Small, Ready, kept_in}
 use Rattle.placed_sets.specs.declared.Sort.{Sort}
 use Rattle.placed_sets.specs.declared.Sort.TheVariants.{Pairs}
-use Rattle.tried.specs.declared.Tried.{Tried}
+use Rattle.tried.specs.declared.NotCut.{NotCut}
 use Rattle.kept_header.specs.Table.{sets_in, table_of}
 use Rattle.kept_header.specs.Answers.{Answered}
 use Rattle.cut_sets.specs.KeptIs.{as_words, kept_met, glyphs_as, sets_in_lem}
@@ -49,14 +48,14 @@ abbrev pub one_map : Map → Maps
 one_map g = record { back = g; input = g; ahead = g; lookups = g }
 
 -- What is answered of a table of pairs: the table of the kept sets, with the new formats that they ask for.
-pub record AnsweredPairs (packing : ℕ) (s t : List ℕ) (g : Map) (at m : ℕ) (out₀ : List ℕ) (a : ℕ) (r : Tried) (out : List ℕ) : Type 0 where
+pub record AnsweredPairs (packing : ℕ) (s t : List ℕ) (g : Map) (at m : ℕ) (out₀ : List ℕ) (a : ℕ) (r : Result ℕ NotCut) (out : List ℕ) : Type 0 where
   pub formats : Formats
   pub new : NewFormats (entries_in t g) s (notes t at m) formats
   pub answered : Answered (⊥) out₀ (table_of (eqb packing 1) (Pairs formats) (kept_in (Pairs formats) s t (one_map g) at m)) a r out
 
 -- What the source's formats say is said of any with the same: the sets are sound.
 module _ (s : List ℕ) (f : Formats) (e : f.f1 ≡ word s 4) (h : f.f2 ≡ word s 6) where
-  same_fault : (at : ℕ) → set_fault_of (pair_sort s) s at ≡ none → set_fault_of (Pairs f) s at ≡ none
+  same_fault : (at : ℕ) → set_fault_of (pair_sort s) s at ≡ None → set_fault_of (Pairs f) s at ≡ None
   unfolding set_fault_of
   same_fault at q = rw (e, h) q
 
@@ -84,22 +83,22 @@ module _ (f : Formats) where
   sets_thin : (ks : List (ℕ × List Pair)) → members (words_of (as_words thinned ks)) ≡ map (block pair_set_words) (sets_of (thin f.f1 f.f2 f.n1 f.n2 ks))
   unfolding sets_of block thin
   sets_thin [] = refl
-  sets_thin (k ∷ ks) = ap (λ (l : List (Option (List ℕ))). some (thinned k.1) ∷ l) (sets_thin ks)
+  sets_thin (k ∷ ks) = ap (λ (l : List (Option (List ℕ))). Some (thinned k.1) ∷ l) (sets_thin ks)
 
   pairs_in : (packing : ℕ) (cov : List ℕ) (sets : List (Option (List Pair)))
-      → sets_in (eqb packing 1) (coverage_words cov) (f.n1 ∷ f.n2 ∷ []) (map (block pair_set_words) sets) ≡ words_in packing (Table.pairs_of (some cov) f.n1 f.n2 sets)
+      → sets_in (eqb packing 1) (coverage_words cov) (f.n1 ∷ f.n2 ∷ []) (map (block pair_set_words) sets) ≡ words_in packing (Table.pairs_of (Some cov) f.n1 f.n2 sets)
   unfolding table_words header block
-  pairs_in packing cov sets = sets_in_lem packing (coverage_words cov) (f.n1 ∷ f.n2 ∷ []) (map (block pair_set_words) sets) (Table.pairs_of (some cov) f.n1 f.n2 sets) refl refl
+  pairs_in packing cov sets = sets_in_lem packing (coverage_words cov) (f.n1 ∷ f.n2 ∷ []) (map (block pair_set_words) sets) (Table.pairs_of (Some cov) f.n1 f.n2 sets) refl refl
 
   pairs_as : (packing : ℕ) (ks : List (ℕ × List Pair)) → f.n1 ≡ new_format (λ p. p.first_values) f.f1 ks → f.n2 ≡ new_second f.f2 ks
       → table_of (eqb packing 1) (Pairs f) (as_words thinned ks) ≡ block (words_in packing) (kept_pairs f.f1 f.f2 ks)
   unfolding table_of block kept_pairs
   pairs_as packing [] a b = refl
-  pairs_as packing (k ∷ ks) a b = rw (← a, ← b, glyphs_as thinned (k ∷ ks), sets_thin (k ∷ ks)) (ap (λ (l : List ℕ). some l) (pairs_in packing (glyphs_of (k ∷ ks)) (sets_of (thin f.f1 f.f2 f.n1 f.n2 (k ∷ ks)))))
+  pairs_as packing (k ∷ ks) a b = rw (← a, ← b, glyphs_as thinned (k ∷ ks), sets_thin (k ∷ ks)) (ap (λ (l : List ℕ). Some l) (pairs_in packing (glyphs_of (k ∷ ks)) (sets_of (thin f.f1 f.f2 f.n1 f.n2 (k ∷ ks)))))
 
 -- what is left of a null coverage's table, and of one that is not null
 module _ (g l : List (ℕ × ℕ)) (s : List ℕ) where
-  pub pairs_null : word s 2 ≡ 0 → cut g l (pair_table s) ≡ none
+  pub pairs_null : word s 2 ≡ 0 → cut g l (pair_table s) ≡ None
   unfolding cut reach bind
   pairs_null z = rw (eq-eqb (word s 2) 0 z)
 

@@ -1,6 +1,5 @@
 -- What a cut with lent cells and a lent area answers.
-use Rattle.std.specs.Prelude.{ℕ, ◌≡◌, refl, Bool, List}
-use Rattle.std.proofs.Math.Option.{Option, none}
+use Rattle.std.specs.Prelude.{ℕ, ◌≡◌, refl, Bool, List, Option, None}
 use Rattle.meaning.specs.Words.{word}
 use Rattle.meaning.specs.Parts.{coverage}
 use Rattle.meaning.specs.Tables.{Table, reach, reaches, rule_set, ligature_set}
@@ -11,7 +10,7 @@ abbrev pub cells_most : ℕ
 cells_most = 196609
 
 -- nothing is left
-pub written_none : (packing : ℕ) (out : List ℕ) {o : Option Table} → o ≡ none → refused out 8 ≡ written_in packing out o
+pub written_none : (packing : ℕ) (out : List ℕ) {o : Option Table} → o ≡ None → refused out 8 ≡ written_in packing out o
 unfolding written_in
 written_none packing out e = rw e refl
 

@@ -20,7 +20,7 @@ use meets::most;
 use member_sets::crowded;
 use placed_sets::Sort;
 use places::MEMBER_MARKS;
-use tried::Tried;
+use tried::NotCut;
 use wire::word_inside;
 
 // What is left of a table whose sets share members and whose retained covered glyphs are noted, for sets that have no value formats. It is remembered which members go, so that each of these is walked once.
@@ -34,7 +34,7 @@ fn write_shared(
     rounds: usize,
     area: &mut [u8],
     out: &mut [u8],
-) -> Tried
+) -> Result<usize, NotCut>
     requires { Ready sort src.now t.old maps notes.at notes.count × (length area.old ≤ enough_area) × (is_pairs sort ≡ false) }
     ensures { Answered ⊥ out.old (table_of (eqb notes.packing 1) sort (kept_in sort src.now t.old maps notes.at notes.count)) (length area.old) result out.new }
 {
@@ -55,14 +55,14 @@ pub fn cut_sets(
     t: &mut [u32],
     area: &mut [u8],
     out: &mut [u8],
-) -> Tried
+) -> Result<usize, NotCut>
     requires { SoundSets sort src.now × MapsLaid marks.form glyphs.now t.old maps × (length area.old ≤ enough_area) × (word src.now 2 ≡ 0 → ⊥) × (is_pairs sort ≡ false) }
     ensures { Answered (length t.old ≤ behind maps + 65536) out.old (table_of (eqb marks.layout 1) sort (kept_from sort src.now (glyph_entries marks.form glyphs.now) t.old maps)) (length area.old) result out.new }
 {
     let cover = word_inside(src, 2);
     let notes = maps.lookups.at + maps.lookups.mask + 1;
     if t.len() <= notes + most(src, cover, glyphs, marks.form) {
-        return Tried::FewCells;
+        return Err(NotCut::FewCells);
     }
     let m = meet(src, cover, glyphs, marks.form, maps.input, t, notes);
     let found = Notes {

@@ -1,34 +1,33 @@
 -- What a cut asks and answers, by the kind and the format of its source.
-use Rattle.std.specs.Prelude.{ℕ, ◌≤◌, ◌<◌, ◌≡◌, Bool, true, cond, ◌&&◌, not, List, length, eqb}
-use Rattle.std.proofs.Math.Option.{none}
+use Rattle.std.specs.Prelude.{ℕ, ◌≤◌, ◌<◌, ◌≡◌, Bool, true, cond, ◌&&◌, not, List, length, eqb, None, Result}
 use Rattle.meaning.specs.Words.{word}
 use Rattle.meaning.specs.Maps.{good_lookups}
 use Rattle.glyph_runs.specs.Runs.{GlyphMap}
 use Rattle.meaning.specs.Fault.{context_fault, fault}
 use Rattle.meaning.specs.Subset.{Outcome, limit}
 use Rattle.tried.specs.Tries.{Tries}
-use Rattle.tried.specs.declared.Tried.{Tried}
+use Rattle.tried.specs.declared.NotCut.{NotCut}
 use Rattle.room.specs.Laid.{enough_area}
 use Rattle.cover_layouts.specs.Cutting as covers
 use Rattle.pair_classes.specs.Cutting as classPairs
 
 -- what a cut asks: the source has no fault and is not over the limit, and both maps are good
 pub record Sound (kind form : ℕ) (s glyphs lookups : List ℕ) : Type 0 where
-  pub sound : fault kind s ≡ none
+  pub sound : fault kind s ≡ None
   pub source : length s ≤ limit
   pub map : GlyphMap form glyphs
   pub lookups_good : good_lookups lookups ≡ true
 
 -- the same of a context
 pub record SoundContext (chained : Bool) (form : ℕ) (s glyphs lookups : List ℕ) : Type 0 where
-  pub sound : context_fault chained s ≡ none
+  pub sound : context_fault chained s ≡ None
   pub source : length s ≤ limit
   pub map : GlyphMap form glyphs
   pub lookups_good : good_lookups lookups ≡ true
 
 -- and of a pair table
 pub record SoundPairs (form : ℕ) (s glyphs : List ℕ) : Type 0 where
-  pub sound : fault 4 s ≡ none
+  pub sound : fault 4 s ≡ None
   pub source : length s ≤ limit
   pub map : GlyphMap form glyphs
 
@@ -55,9 +54,9 @@ unfoldable pub bytes_for : ℕ → List ℕ → ℕ
 bytes_for kind s = cond (pairs_by_class kind s) class_pair_bytes enough_area
 
 -- the answer's outcome is `made`; or the scratch was too short, and the buffer is untouched
-pub record UnlessShort (r : Tried) (before after : List ℕ) (made : Outcome) : Type 0 where
+pub record UnlessShort (r : Result ℕ NotCut) (before after : List ℕ) (made : Outcome) : Type 0 where
   pub tried : Tries (Unit {0}) (Unit {0}) r before after made
 
 -- the answer's outcome is `made`, since the scratch is never too short
-pub record NeverShort (r : Tried) (before after : List ℕ) (made : Outcome) : Type 0 where
+pub record NeverShort (r : Result ℕ NotCut) (before after : List ℕ) (made : Outcome) : Type 0 where
   pub tried : Tries (⊥) (⊥) r before after made

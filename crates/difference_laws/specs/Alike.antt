@@ -1,9 +1,8 @@
 -- What a content answers in use: contexts match, ligatures form and pairs move as their contents do. Strings are of ids, below 65,536.
-use Rattle.std.specs.Prelude.{ℕ, zero, suc, ◌-◌, ◌<◌, ◌≡◌, Bool, ◌&&◌, ◌||◌, get_or, length, drop, ltb, leb}
+use Rattle.std.specs.Prelude.{ℕ, zero, suc, ◌-◌, ◌<◌, ◌≡◌, Bool, ◌&&◌, ◌||◌, get_or, length, drop, ltb, leb, Option, None, Some}
 use Rattle.std.proofs.Math.Path.{refl, sym}
 use Rattle.std.proofs.Common.{◌∙◌, eqb-true}
 use Rattle.std.proofs.Math.Bool.{true, false, cond}
-use Rattle.std.proofs.Math.Option.{Option, none, some}
 use mathlib.Core.List.{List, [], ◌∷◌, ◌++◌, map}
 use Rattle.std.proofs.Math.Dec.{eqb}
 use Rattle.meaning.specs.Words.{bind, member}
@@ -30,15 +29,15 @@ says_fits x before after =
 
 -- the first that fits
 unfoldable pub first_says : List Says → List ℕ → List ℕ → Option (ℕ × List (ℕ × ℕ))
-first_says [] before after = none
-first_says (x ∷ xs) before after = cond (says_fits x before after) (some (x.count, x.records)) (first_says xs before after)
+first_says [] before after = None
+first_says (x ∷ xs) before after = cond (says_fits x before after) (Some (x.count, x.records)) (first_says xs before after)
 
 -- whether a content of rules matches at a place
 unfoldable pub match_content : Content → List ℕ → ℕ → List ℕ → Option (ℕ × List (ℕ × ℕ))
 match_content (Content.rules f l) before g after = bind (beside l g) (λ xs. first_says xs before after)
 match_content (Content.whole x) before g after =
-    cond (ltb 0 x.count && (fits in_runs x.input (g ∷ after) && (fits in_runs x.ahead (drop x.count (g ∷ after)) && fits in_runs x.back before))) (some (x.count, x.records)) none
-match_content (Content.pairs l) before g after = none
+    cond (ltb 0 x.count && (fits in_runs x.input (g ∷ after) && (fits in_runs x.ahead (drop x.count (g ∷ after)) && fits in_runs x.back before))) (Some (x.count, x.records)) None
+match_content (Content.pairs l) before g after = None
 
 -- Sequences.
 
@@ -78,50 +77,50 @@ module _ (h : Holds) (b i a : ℕ → List (ℕ × ℕ)) (back : (c g : ℕ) →
 
   set_fits : (s : Option (List Rule)) → bind s (λ rs. first_fit h rs before after) ≡ first_says (map (rule_says b i a) (set_holds s)) before after
   unfolding bind set_holds first_says
-  set_fits none = refl
-  set_fits (some rs) = first_fits rs
+  set_fits None = refl
+  set_fits (Some rs) = first_fits rs
 
 -- Contexts by index and by class.
 
 module _ {A B C : Type 0} (say : A → B) (ask : List A → Option C) (answer : List B → Option C) (same : (s : Option (List A)) → bind s ask ≡ answer (map say (set_holds s))) where
   -- nothing answers where nothing is held
-  nothing : answer [] ≡ none
+  nothing : answer [] ≡ None
   unfolding bind set_holds
-  nothing = sym (same none)
+  nothing = sym (same None)
 
   index_asks : (cov : List ℕ) (sets : List (Option (List A))) (g : ℕ) → bind (set_at cov sets g) ask ≡ bind (beside (by_index say cov sets) g) answer
   unfolding set_at by_index beside bind
   index_asks [] sets g = refl
   index_asks (c ∷ cov) [] g = go (eqb c g) (index_asks cov [] g)
     where
-      go : (t : Bool) → bind (set_at cov [] g) ask ≡ bind (beside (by_index say cov []) g) answer → none ≡ bind (cond t (some []) (beside (by_index say cov []) g)) answer
+      go : (t : Bool) → bind (set_at cov [] g) ask ≡ bind (beside (by_index say cov []) g) answer → None ≡ bind (cond t (Some []) (beside (by_index say cov []) g)) answer
       go true k = sym nothing
       go false k = beyond cov ∙ k
         where
-          beyond : (l : List ℕ) → none ≡ bind (set_at l [] g) ask
+          beyond : (l : List ℕ) → None ≡ bind (set_at l [] g) ask
           beyond [] = refl
           beyond (x ∷ l) = refl
   index_asks (c ∷ cov) (s ∷ sets) g = go (eqb c g) (index_asks cov sets g)
     where
-      go : (t : Bool) → bind (set_at cov sets g) ask ≡ bind (beside (by_index say cov sets) g) answer → bind (cond t s (set_at cov sets g)) ask ≡ bind (cond t (some (map say (set_holds s))) (beside (by_index say cov sets) g)) answer
+      go : (t : Bool) → bind (set_at cov sets g) ask ≡ bind (beside (by_index say cov sets) g) answer → bind (cond t s (set_at cov sets g)) ask ≡ bind (cond t (Some (map say (set_holds s))) (beside (by_index say cov sets) g)) answer
       go true k = same s
       go false k = k
 
   class_asks : (cs : Option (List (ℕ × ℕ))) (cov : List ℕ) (sets : List (Option (List A))) (g : ℕ)
-      → bind cs (λ t. cond (member g cov) (bind (get_or sets (class_of t g) none) ask) none) ≡ bind (beside (by_each_class say cs cov sets) g) answer
+      → bind cs (λ t. cond (member g cov) (bind (get_or sets (class_of t g) None) ask) None) ≡ bind (beside (by_each_class say cs cov sets) g) answer
   unfolding member by_each_class beside bind set_holds
-  class_asks none [] sets g = refl
-  class_asks (some t) [] sets g = refl
-  class_asks none (c ∷ cov) sets g = go (eqb c g) (class_asks none cov sets g)
+  class_asks None [] sets g = refl
+  class_asks (Some t) [] sets g = refl
+  class_asks None (c ∷ cov) sets g = go (eqb c g) (class_asks None cov sets g)
     where
-      go : (t : Bool) → none ≡ bind (beside (by_each_class say none cov sets) g) answer → none ≡ bind (cond t (some (map say (set_holds none))) (beside (by_each_class say none cov sets) g)) answer
+      go : (t : Bool) → None ≡ bind (beside (by_each_class say None cov sets) g) answer → None ≡ bind (cond t (Some (map say (set_holds None))) (beside (by_each_class say None cov sets) g)) answer
       go true k = sym nothing
       go false k = k
-  class_asks (some t) (c ∷ cov) sets g = go (eqb c g) refl (class_asks (some t) cov sets g)
+  class_asks (Some t) (c ∷ cov) sets g = go (eqb c g) refl (class_asks (Some t) cov sets g)
     where
-      go : (b : Bool) → eqb c g ≡ b → cond (member g cov) (bind (get_or sets (class_of t g) none) ask) none ≡ bind (beside (by_each_class say (some t) cov sets) g) answer
-          → cond (b || member g cov) (bind (get_or sets (class_of t g) none) ask) none ≡ bind (cond b (some (map say (set_holds (get_or sets (class_of t c) none)))) (beside (by_each_class say (some t) cov sets) g)) answer
-      go true e k = rw (eqb-true c g e) (same (get_or sets (class_of t g) none))
+      go : (b : Bool) → eqb c g ≡ b → cond (member g cov) (bind (get_or sets (class_of t g) None) ask) None ≡ bind (beside (by_each_class say (Some t) cov sets) g) answer
+          → cond (b || member g cov) (bind (get_or sets (class_of t g) None) ask) None ≡ bind (cond b (Some (map say (set_holds (get_or sets (class_of t c) None)))) (beside (by_each_class say (Some t) cov sets) g)) answer
+      go true e k = rw (eqb-true c g e) (same (get_or sets (class_of t g) None))
       go false e k = k
 
 -- the class tables and coverages are good: they ascend, and a listed class is not 0
@@ -160,16 +159,16 @@ unfolding match content match_content same_glyph same_class beside
 match_content_lem (Table.by_glyph chained cover sets) u s before g after bs k fs = go cover
   where
     go : (o : Option (List ℕ)) → bind o (λ cov. bind (set_at cov sets g) (λ rs. first_fit same_glyph rs before after)) ≡ bind (beside (by_index (rule_says one_glyph one_glyph one_glyph) (covered o) sets) g) (λ xs. first_says xs before after)
-    go none = refl
-    go (some cov) =
+    go None = refl
+    go (Some cov) =
         index_asks (rule_says one_glyph one_glyph one_glyph) (λ rs. first_fit same_glyph rs before after) (λ xs. first_says xs before after)
         (set_fits same_glyph one_glyph one_glyph one_glyph (λ c g k. glyph_held c g) (λ c g k. glyph_held c g) (λ c g k. glyph_held c g) before after bs fs) cov sets g
 match_content_lem (Table.by_class chained cover b i a sets) u s before g after bs k fs = go cover
   where
-    go : (o : Option (List ℕ)) → bind o (λ cov. bind i (λ cs. cond (member g cov) (bind (get_or sets (class_of cs g) none) (λ rs. first_fit (same_class b i a) rs before after)) none))
+    go : (o : Option (List ℕ)) → bind o (λ cov. bind i (λ cs. cond (member g cov) (bind (get_or sets (class_of cs g) None) (λ rs. first_fit (same_class b i a) rs before after)) None))
         ≡ bind (beside (by_each_class (rule_says (class_runs? b) (class_runs? i) (class_runs? a)) i (covered o) sets) g) (λ xs. first_says xs before after)
-    go none = refl
-    go (some cov) =
+    go None = refl
+    go (Some cov) =
         class_asks (rule_says (class_runs? b) (class_runs? i) (class_runs? a)) (λ rs. first_fit (same_class b i a) rs before after) (λ xs. first_says xs before after)
         (set_fits (same_class b i a) (class_runs? b) (class_runs? i) (class_runs? a) (λ c g k. sym (class_in? b s.0 c g k)) (λ c g k. sym (class_in? i s.1 c g k)) (λ c g k. sym (class_in? a s.2 c g k)) before after bs fs) i cov sets g
 match_content_lem (Table.by_cover chained b i a rs) u s before g after bs k fs =
@@ -188,14 +187,14 @@ match_content_lem (Table.single_list cover subs) u s before g after bs k fs = ab
 
 -- the first that fits: the glyph that it forms and its count
 unfoldable pub first_forms : List Says → List ℕ → Option (ℕ × ℕ)
-first_forms [] after = none
-first_forms (x ∷ xs) after = cond (ltb 0 x.count && fits in_runs x.input after) (some (x.forms, x.count)) (first_forms xs after)
+first_forms [] after = None
+first_forms (x ∷ xs) after = cond (ltb 0 x.count && fits in_runs x.input after) (Some (x.forms, x.count)) (first_forms xs after)
 
 -- the ligature that a content forms at a place
 unfoldable pub ligate_content : Content → ℕ → List ℕ → Option (ℕ × ℕ)
 ligate_content (Content.rules f l) g after = bind (beside l g) (λ xs. first_forms xs after)
-ligate_content (Content.whole x) g after = none
-ligate_content (Content.pairs l) g after = none
+ligate_content (Content.whole x) g after = None
+ligate_content (Content.pairs l) g after = None
 
 first_forms_lem : (after : List ℕ) → Ids after → (xs : List Ligature) → first_ligature xs after ≡ first_forms (map ligature_says xs) after
 unfolding first_ligature first_forms ligature_says
@@ -204,14 +203,14 @@ first_forms_lem after fs (x ∷ xs) = rw (fits_told eqb one_glyph (λ c. Unit {0
 
 ligatures_fit : (after : List ℕ) → Ids after → (s : Option (List Ligature)) → bind s (λ xs. first_ligature xs after) ≡ first_forms (map ligature_says (set_holds s)) after
 unfolding bind set_holds first_forms
-ligatures_fit after fs none = refl
-ligatures_fit after fs (some xs) = first_forms_lem after fs xs
+ligatures_fit after fs None = refl
+ligatures_fit after fs (Some xs) = first_forms_lem after fs xs
 
 -- a ligature table forms what its content does
 pub ligate_content_lem : (cover : Option (List ℕ)) (sets : List (Option (List Ligature))) (g : ℕ) (after : List ℕ) → Ids after → ligate (Table.ligatures cover sets) g after ≡ ligate_content (content (Table.ligatures cover sets)) g after
 unfolding ligate content ligate_content beside
-ligate_content_lem none sets g after fs = refl
-ligate_content_lem (some cov) sets g after fs = index_asks ligature_says (λ xs. first_ligature xs after) (λ xs. first_forms xs after) (ligatures_fit after fs) cov sets g
+ligate_content_lem None sets g after fs = refl
+ligate_content_lem (Some cov) sets g after fs = index_asks ligature_says (λ xs. first_ligature xs after) (λ xs. first_forms xs after) (ligatures_fit after fs) cov sets g
 
 -- Pairs.
 
@@ -224,35 +223,35 @@ moves_of vs = (
 
 -- how a content moves two neighbours
 unfoldable pub adjust_content : Content → ℕ → ℕ → Option (Move × Move)
-adjust_content (Content.rules f l) g h = none
-adjust_content (Content.whole x) g h = none
-adjust_content (Content.pairs l) g h = bind (beside l g) (λ ps. bind (beside ps h) (λ vs. some (moves_of vs)))
+adjust_content (Content.rules f l) g h = None
+adjust_content (Content.whole x) g h = None
+adjust_content (Content.pairs l) g h = bind (beside l g) (λ ps. bind (beside ps h) (λ vs. Some (moves_of vs)))
 
 module _ (f1 f2 h : ℕ) where
   abbrev moved : Pair → Option (Move × Move)
-  moved p = some (move_of f1 p.first_values, move_of f2 p.second_values)
+  moved p = Some (move_of f1 p.first_values, move_of f2 p.second_values)
 
-  eight : (p : Pair) → moved p ≡ some (moves_of (four_values f1 p.first_values ++ four_values f2 p.second_values))
+  eight : (p : Pair) → moved p ≡ Some (moves_of (four_values f1 p.first_values ++ four_values f2 p.second_values))
   unfolding move_of moves_of four_values
   eight p = refl
 
-  pair_moves : (ps : List Pair) → bind (pair_with ps h) moved ≡ bind (beside (map (pair_says f1 f2) ps) h) (λ vs. some (moves_of vs))
+  pair_moves : (ps : List Pair) → bind (pair_with ps h) moved ≡ bind (beside (map (pair_says f1 f2) ps) h) (λ vs. Some (moves_of vs))
   unfolding bind pair_with beside pair_says
   pair_moves [] = refl
   pair_moves (p ∷ ps) = go (eqb p.second h) (pair_moves ps)
     where
-      go : (b : Bool) → bind (pair_with ps h) moved ≡ bind (beside (map (pair_says f1 f2) ps) h) (λ vs. some (moves_of vs))
-          → bind (cond b (some p) (pair_with ps h)) moved ≡ bind (cond b (some (four_values f1 p.first_values ++ four_values f2 p.second_values)) (beside (map (pair_says f1 f2) ps) h)) (λ vs. some (moves_of vs))
+      go : (b : Bool) → bind (pair_with ps h) moved ≡ bind (beside (map (pair_says f1 f2) ps) h) (λ vs. Some (moves_of vs))
+          → bind (cond b (Some p) (pair_with ps h)) moved ≡ bind (cond b (Some (four_values f1 p.first_values ++ four_values f2 p.second_values)) (beside (map (pair_says f1 f2) ps) h)) (λ vs. Some (moves_of vs))
       go true k = eight p
       go false k = k
 
-  set_moves : (s : Option (List Pair)) → bind s (λ ps. bind (pair_with ps h) moved) ≡ bind (beside (map (pair_says f1 f2) (set_holds s)) h) (λ vs. some (moves_of vs))
+  set_moves : (s : Option (List Pair)) → bind s (λ ps. bind (pair_with ps h) moved) ≡ bind (beside (map (pair_says f1 f2) (set_holds s)) h) (λ vs. Some (moves_of vs))
   unfolding bind set_holds beside
-  set_moves none = refl
-  set_moves (some ps) = pair_moves ps
+  set_moves None = refl
+  set_moves (Some ps) = pair_moves ps
 
 -- a pair table moves as its content does
 pub adjust_content_lem : (cover : Option (List ℕ)) (f1 f2 : ℕ) (sets : List (Option (List Pair))) (g h : ℕ) → adjust (Table.pairs_of cover f1 f2 sets) g h ≡ adjust_content (content (Table.pairs_of cover f1 f2 sets)) g h
 unfolding adjust content adjust_content beside
-adjust_content_lem none f1 f2 sets g h = refl
-adjust_content_lem (some cov) f1 f2 sets g h = index_asks (pair_says f1 f2) (λ ps. bind (pair_with ps h) (moved f1 f2 h)) (λ ps. bind (beside ps h) (λ vs. some (moves_of vs))) (set_moves f1 f2 h) cov sets g
+adjust_content_lem None f1 f2 sets g h = refl
+adjust_content_lem (Some cov) f1 f2 sets g h = index_asks (pair_says f1 f2) (λ ps. bind (pair_with ps h) (moved f1 f2 h)) (λ ps. bind (beside ps h) (λ vs. Some (moves_of vs))) (set_moves f1 f2 h) cov sets g

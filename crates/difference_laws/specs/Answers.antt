@@ -1,7 +1,6 @@
 -- What a call answers: which refusal, what length, what stands in the buffer.
-use Rattle.std.specs.Prelude.{ℕ, ◌*◌, ◌<◌, ◌≡◌, refl, Bool, true, false, cond, ◌&&◌, ◌||◌, not, List, [], ◌∷◌, ◌++◌, length, drop, ltb, eqb}
+use Rattle.std.specs.Prelude.{ℕ, ◌*◌, ◌<◌, ◌≡◌, refl, Bool, true, false, cond, ◌&&◌, ◌||◌, not, List, [], ◌∷◌, ◌++◌, length, drop, ltb, eqb, Option, None, Some, unwrap_or}
 use Rattle.std.proofs.Common.{sym, ap, ◌∙◌, true≢false, arith, ltb-true, ne_eqb}
-use Rattle.std.proofs.Math.Option.{Option, none, some, get_or}
 use Rattle.std.proofs.lemmas.Bool.{not-false}
 use Rattle.meaning.specs.Words.{word, inside, is_some, flat}
 use Rattle.meaning.specs.Fault.{fault}
@@ -37,7 +36,7 @@ of_table kind s =
     -- the first two bytes stand and hold a format that isn't compared
     ∷ (5, 0, inside s 0 2 && not (compared_format kind (word s 0)))
     -- malformed: the lowest start among the faulty parts
-    ∷ (6, get_or (fault kind s) 0, is_some (fault kind s))
+    ∷ (6, unwrap_or (fault kind s) 0, is_some (fault kind s))
     -- pair value format has a bit of 0x00F0
     ∷ (7, 0, eqb kind 4 && (has_device (word s 4) || has_device (word s 6)))
     ∷ []
@@ -70,15 +69,15 @@ unfolding answer_to or_else table_refusal malformed of_table first is_some by_fi
 table_first c s q rs e = go (ltb limit (length s)) (inside s 0 2 && not (compared_format c.kind (word s 0))) (fault c.kind s) (eqb c.kind 4 && (has_device (word s 4) || has_device (word s 6)))
   where
     go : (four five : Bool) (six : Option ℕ) (seven : Bool)
-        → answer_to c.buffer (or_else (cond four (some (record { number = 4; len = 0 })) (cond five (some (record { number = 5; len = 0 })) (malformed six (cond seven (some (record { number = 7; len = 0 })) none)))) q) (list c)
-        ≡ by_first c (cond four (4, 0) (cond five (5, 0) (cond (is_some six) (6, get_or six 0) (cond seven (7, 0) (first (length (list c)) rs)))))
+        → answer_to c.buffer (or_else (cond four (Some (record { number = 4; len = 0 })) (cond five (Some (record { number = 5; len = 0 })) (malformed six (cond seven (Some (record { number = 7; len = 0 })) None)))) q) (list c)
+        ≡ by_first c (cond four (4, 0) (cond five (5, 0) (cond (is_some six) (6, unwrap_or six 0) (cond seven (7, 0) (first (length (list c)) rs)))))
     go true five six seven = refl
     go false true six seven = refl
-    go false false (some place) seven = refl
-    go false false none true = refl
-    go false false none false = e
+    go false false (Some place) seven = refl
+    go false false None true = refl
+    go false false None false = e
 
-room_first : (c : Call) → answer_to c.buffer none (list c) ≡ by_first c (first (length (list c)) ((10, length (list c), ltb (length c.buffer) (length (list c))) ∷ []))
+room_first : (c : Call) → answer_to c.buffer None (list c) ≡ by_first c (first (length (list c)) ((10, length (list c), ltb (length c.buffer) (length (list c))) ∷ []))
 unfolding answer_to list_into first by_first
 room_first c = go (ltb (length c.buffer) (length (list c)))
   where
@@ -88,10 +87,10 @@ room_first c = go (ltb (length c.buffer) (length (list c)))
     go false = refl
 
 -- nothing after the last
-or_none : (p : Option Refusal) → or_else p none ≡ p
+or_none : (p : Option Refusal) → or_else p None ≡ p
 unfolding or_else
-or_none none = refl
-or_none (some x) = refl
+or_none None = refl
+or_none (Some x) = refl
 
 -- the refusals after the kind's
 after_kind : Call → List (ℕ × ℕ × Bool)
@@ -102,7 +101,7 @@ unfolding after_kind
 tables_first c =
     let room : List (ℕ × ℕ × Bool) = (10, length (list c), ltb (length c.buffer) (length (list c))) ∷ [] in
     table_first c c.left (table_refusal c.kind c.right) (of_table c.kind c.right ++ room)
-    (ap (λ (q : Option Refusal). answer_to c.buffer q (list c)) (sym (or_none (table_refusal c.kind c.right))) ∙ table_first c c.right none room (room_first c))
+    (ap (λ (q : Option Refusal). answer_to c.buffer q (list c)) (sym (or_none (table_refusal c.kind c.right))) ∙ table_first c c.right None room (room_first c))
 
 -- the call's outcome, by its first refusal
 answer_is : (c : Call) → answer c ≡ by_first c (first (length (list c)) (refusals c))
@@ -110,7 +109,7 @@ unfolding compare refusal answer_to refusals first by_first after_kind
 answer_is c = go (not (compared_kind c.kind)) (tables_first c)
   where
     go : (b : Bool) → answer_to c.buffer (or_else (table_refusal c.kind c.left) (table_refusal c.kind c.right)) (list c) ≡ by_first c (first (length (list c)) (after_kind c))
-        → answer_to c.buffer (cond b (some (record { number = 1; len = 0 })) (or_else (table_refusal c.kind c.left) (table_refusal c.kind c.right))) (list c)
+        → answer_to c.buffer (cond b (Some (record { number = 1; len = 0 })) (or_else (table_refusal c.kind c.left) (table_refusal c.kind c.right))) (list c)
         ≡ by_first c (cond b (1, 0) (first (length (list c)) (after_kind c)))
     go true e = refl
     go false e = e
@@ -256,16 +255,16 @@ unfolding list_bytes
 list_length c = entry_bytes (differences (content (table c.kind c.left)) (content (table c.kind c.right)))
 
 -- a call that is kept has two tables without a fault
-no_fault : (o : Option ℕ) → is_some o ≡ false → o ≡ none
+no_fault : (o : Option ℕ) → is_some o ≡ false → o ≡ None
 unfolding is_some
-no_fault none h = refl
-no_fault (some x) h = absurd (true≢false h)
+no_fault None h = refl
+no_fault (Some x) h = absurd (true≢false h)
 
-pub left_sound : (c : Call) → (answer c).number ≡ 0 → fault c.kind c.left ≡ none
+pub left_sound : (c : Call) → (answer c).number ≡ 0 → fault c.kind c.left ≡ None
 unfolding refusals of_table
 left_sound c h = no_fault (fault c.kind c.left) ((kept_exactly c).0 h).1.1.1.0
 
-pub right_sound : (c : Call) → (answer c).number ≡ 0 → fault c.kind c.right ≡ none
+pub right_sound : (c : Call) → (answer c).number ≡ 0 → fault c.kind c.right ≡ None
 unfolding refusals of_table
 right_sound c h = no_fault (fault c.kind c.right) ((kept_exactly c).0 h).1.1.1.1.1.1.1.0
 
@@ -274,7 +273,7 @@ pub kept_kind : (c : Call) → (answer c).number ≡ 0 → compared_kind c.kind 
 unfolding refusals
 kept_kind c h = not-false (compared_kind c.kind) ((kept_exactly c).0 h).0
 
-has_format_lem : (kind : ℕ) (s : List ℕ) → fault kind s ≡ none → inside s 0 2 && not (compared_format kind (word s 0)) ≡ false → compared_format kind (word s 0) ≡ true
+has_format_lem : (kind : ℕ) (s : List ℕ) → fault kind s ≡ None → inside s 0 2 && not (compared_format kind (word s 0)) ≡ false → compared_format kind (word s 0) ≡ true
 has_format_lem kind s f h = not-false (compared_format kind (word s 0)) (rw (part_sound 0 (inside s 0 2) _ (sym (fault_is kind s) ∙ f)).0 at h)
 
 pub left_format : (c : Call) → (answer c).number ≡ 0 → compared_format c.kind (word c.left 0) ≡ true

@@ -1,7 +1,6 @@
 -- A class is its glyphs among all 65,536 ids, and a coverage its glyphs: their runs are equal exactly if the same glyphs are held.
-use Rattle.std.specs.Prelude.{ℕ, ◌+◌, ◌-◌, ◌≤◌, ◌<◌, ◌≡◌, refl, Bool, true, false, cond, ◌&&◌, ◌||◌, not, List, [], ◌∷◌, leb, ltb, eqb}
+use Rattle.std.specs.Prelude.{ℕ, ◌+◌, ◌-◌, ◌≤◌, ◌<◌, ◌≡◌, refl, Bool, true, false, cond, ◌&&◌, ◌||◌, not, List, [], ◌∷◌, leb, ltb, eqb, Option, None, Some, unwrap_or}
 use Rattle.std.proofs.Common.{sym, ap, ap₂, ◌∙◌, true≢false, arith, eqb-true, eq-eqb, ne_eqb, ltb-true, ltb-false, le-leb}
-use Rattle.std.proofs.Math.Option.{Option, none, some, get_or}
 use Rattle.std.proofs.lemmas.Bool.{eqb-false, lt-leb}
 use Rattle.meaning.specs.Words.{member, keys, find, push, map_some}
 use Rattle.meaning.specs.Parts.{class_of, listed, class_in}
@@ -223,7 +222,7 @@ unfolding class_of find keys member
 keys_in low [] w g = refl
 keys_in low (e ∷ cs) w g = go (eqb e.0 g) (keys_in low cs w.1 g)
   where
-    go : (b : Bool) → member g (keys cs) ≡ not (eqb (get_or (find cs g) 0) 0) → b || member g (keys cs) ≡ not (eqb (get_or (cond b (some e.1) (find cs g)) 0) 0)
+    go : (b : Bool) → member g (keys cs) ≡ not (eqb (unwrap_or (find cs g) 0) 0) → b || member g (keys cs) ≡ not (eqb (unwrap_or (cond b (Some e.1) (find cs g)) 0) 0)
     go true k = rw (ne_eqb e.1 0 (λ q. omega (arith, w.0.2)))
     go false k = k
 
@@ -242,7 +241,7 @@ listed_up c low (e ∷ cs) u = go (eqb e.1 c) (listed_up c (e.0 + 1) cs u.1)
     lower [] k = tt
     lower (x ∷ l) k = (omega (arith, u.0, k.0), k.1)
 
-    go : (b : Bool) → Up (e.0 + 1) (listed_with c cs) → Up low (push (cond b (some e.0) none) (listed_with c cs))
+    go : (b : Bool) → Up (e.0 + 1) (listed_with c cs) → Up low (push (cond b (Some e.0) None) (listed_with c cs))
     go true k = (u.0, k)
     go false k = lower (listed_with c cs) k
 
@@ -251,7 +250,7 @@ unfolding listed_with map_some push
 listed_words c [] w = tt
 listed_words c (e ∷ cs) w = go (eqb e.1 c) (listed_words c cs w.1)
   where
-    go : (b : Bool) → All Word (listed_with c cs) → All Word (push (cond b (some e.0) none) (listed_with c cs))
+    go : (b : Bool) → All Word (listed_with c cs) → All Word (push (cond b (Some e.0) None) (listed_with c cs))
     go true k = (w.0.0, k)
     go false k = k
 
@@ -261,7 +260,7 @@ listed_in c low [] z u g = sym (ne_eqb 0 c (λ q. z (sym q)))
 listed_in c low (e ∷ cs) z u g = go (eqb e.0 g) (eqb e.1 c) refl refl (listed_in c (e.0 + 1) cs z u.1 g)
   where
     go : (b t : Bool) → eqb e.0 g ≡ b → eqb e.1 c ≡ t → member g (listed_with c cs) ≡ eqb (class_of cs g) c
-        → member g (push (cond t (some e.0) none) (listed_with c cs)) ≡ eqb (get_or (cond b (some e.1) (find cs g)) 0) c
+        → member g (push (cond t (Some e.0) None) (listed_with c cs)) ≡ eqb (unwrap_or (cond b (Some e.1) (find cs g)) 0) c
     go true true p q k = rw (p, q)
     go true false p q k = let s = eqb-true e.0 g p in k ∙ rw (q, class_low (e.0 + 1) cs g u.1 (omega arith)) (ne_eqb 0 c (λ w. z (sym w)))
     go false true p q k = rw p k
@@ -296,8 +295,8 @@ class_longest cs k c = go (eqb c 0)
 -- what a class table that may be null lists
 listed_good : (t : Option (List (ℕ × ℕ))) → Opt Classes t → Classes (listed t)
 unfolding listed keys
-listed_good none k = (tt, tt)
-listed_good (some cs) k = k
+listed_good None k = (tt, tt)
+listed_good (Some cs) k = k
 
 pub class_in? : (t : Option (List (ℕ × ℕ))) → Opt Classes t → (c g : ℕ) → g < 65536 → in_runs (class_runs? t c) g ≡ in_class t c g
 unfolding class_runs? in_class class_in
@@ -319,13 +318,13 @@ same_class_lem t u k l c d = (
 
 pub cover_in : (t : Option (List ℕ)) → Opt Glyphs t → (g : ℕ) → in_runs (cover_runs t) g ≡ covers? t g
 unfolding cover_runs covers? in_runs
-cover_in none k g = refl
-cover_in (some cov) k g = runs_in 0 cov k.0 k.1 g
+cover_in None k g = refl
+cover_in (Some cov) k g = runs_in 0 cov k.0 k.1 g
 
 cover_longest : (t : Option (List ℕ)) → Opt Glyphs t → Longest 0 (cover_runs t)
 unfolding cover_runs
-cover_longest none k = tt
-cover_longest (some cov) k = runs_longest 0 cov k.0 k.1
+cover_longest None k = tt
+cover_longest (Some cov) k = runs_longest 0 cov k.0 k.1
 
 -- Two coverages have equal runs exactly if each glyph that the one covers is covered by the other.
 pub same_cover : (t u : Option (List ℕ)) → Opt Glyphs t → Opt Glyphs u

@@ -1,10 +1,10 @@
 -- Two contents give an empty list exactly if they are equal.
 use Prim.Native.Nat.{ℕ, ◌<◌}
-use Rattle.std.specs.Prelude.{◌≡◌, Bool, length}
+use Rattle.std.specs.Prelude.{◌≡◌, Bool, length, Option, None, Some}
 use Rattle.std.proofs.Math.Path.{refl, sym, ap}
 use Rattle.std.proofs.Common.{ap₂, ◌∙◌, arith}
 use Rattle.std.proofs.Math.Bool.{true, false, cond}
-use Rattle.std.proofs.Math.Option.{Option, none, some, some-injective}
+use Rattle.std.proofs.lemmas.Option.{same_Some}
 use mathlib.Core.List.{List, [], ◌∷◌, ◌++◌}
 use Rattle.std.proofs.Math.ListN.{get_or}
 use Rattle.std.proofs.Math.Seq.{ext_get_or}
@@ -23,7 +23,7 @@ use Rattle.difference_laws.specs.Walks.{keys_left, keys_right, beside_tells, con
 
 -- what stands beside a key is good
 abbrev pub Beside : {A : Type 0} → (A → Type 0) → List (ℕ × A) → Type 0
-Beside {A} P l = (k : ℕ) (a : A) → beside l k ≡ some a → P a
+Beside {A} P l = (k : ℕ) (a : A) → beside l k ≡ Some a → P a
 
 module _ {A : Type 0} (P : A → Type 0) (only : ℕ → ℕ → Entry) (both : ℕ → A → A → List Entry) where
   -- an empty list says that the lists are equal, where it says so of what stands beside a key
@@ -36,10 +36,10 @@ module _ {A : Type 0} (P : A → Type 0) (only : ℕ → ℕ → Entry) (both : 
       here k m = each_nil (λ k. at_key (only k) (both k) (beside l k) (beside r k)) (keys_of l r) h k m
 
       step : (k : ℕ) (x y : Option A) → beside l k ≡ x → beside r k ≡ y → x ≡ y
-      step k none none a b = refl
-      step k (some x) none a b = absurd (cons_nil (rw (a, b) at (here k (keys_left l r k x a))))
-      step k none (some y) a b = absurd (cons_nil (rw (a, b) at (here k (keys_right l r k y b))))
-      step k (some x) (some y) a b = ap {B = Option A} some (e k x y (p k x a) (q k y b) (rw (a, b) at (here k (keys_left l r k x a))))
+      step k None None a b = refl
+      step k (Some x) None a b = absurd (cons_nil (rw (a, b) at (here k (keys_left l r k x a))))
+      step k None (Some y) a b = absurd (cons_nil (rw (a, b) at (here k (keys_right l r k y b))))
+      step k (Some x) (Some y) a b = ap {B = Option A} Some (e k x y (p k x a) (q k y b) (rw (a, b) at (here k (keys_left l r k x a))))
 
   -- a list against itself gives nothing, where nothing is given for what stands beside a key
   pub key_itself : ((k : ℕ) (a : A) → both k a a ≡ []) → (l : List (ℕ × A)) → by_key only both l l ≡ []
@@ -47,25 +47,25 @@ module _ {A : Type 0} (P : A → Type 0) (only : ℕ → ℕ → Entry) (both : 
   key_itself e l = nil_each (λ k. at_key (only k) (both k) (beside l k) (beside l k)) (keys_of l l) (λ k. step k (beside l k))
     where
       step : (k : ℕ) (x : Option A) → at_key (only k) (both k) x x ≡ []
-      step k none = refl
-      step k (some x) = e k x
+      step k None = refl
+      step k (Some x) = e k x
 
 -- Rules.
 
 module _ {A : Type 0} {same : A → A → Bool} (t : Tells same) (g : ℕ) where
-  left_nil : (i : ℕ) (o : Option ℕ) → left_rule g i o ≡ [] → o ≡ some i
+  left_nil : (i : ℕ) (o : Option ℕ) → left_rule g i o ≡ [] → o ≡ Some i
   unfolding left_rule
-  left_nil i none h = absurd (cons_nil h)
-  left_nil i (some j) h = step (eqb i j) refl h
+  left_nil i None h = absurd (cons_nil h)
+  left_nil i (Some j) h = step (eqb i j) refl h
     where
-      step : (b : Bool) → eqb i j ≡ b → cond {A = List Entry} b [] (record { sort = 4; side = 0; first = g; rank = i; left = i; right = j } ∷ []) ≡ [] → some j ≡ some i
-      step true e q = ap {B = Option ℕ} some (sym (eqb-true i j e))
+      step : (b : Bool) → eqb i j ≡ b → cond {A = List Entry} b [] (record { sort = 4; side = 0; first = g; rank = i; left = i; right = j } ∷ []) ≡ [] → Some j ≡ Some i
+      step true e q = ap {B = Option ℕ} Some (sym (eqb-true i j e))
       step false e q = absurd (cons_nil q)
 
-  right_nil : (i : ℕ) (o : Option ℕ) → right_rule g i o ≡ [] → (j : ℕ) × (o ≡ some j)
+  right_nil : (i : ℕ) (o : Option ℕ) → right_rule g i o ≡ [] → (j : ℕ) × (o ≡ Some j)
   unfolding right_rule
-  right_nil i none h = absurd (cons_nil h)
-  right_nil i (some j) h = (j, refl)
+  right_nil i None h = absurd (cons_nil h)
+  right_nil i (Some j) h = (j, refl)
 
   pub rules_equal : (l r : List A) → rule_entries same g l r ≡ [] → l ≡ r
   unfolding rule_entries at_rank if_there
@@ -81,20 +81,20 @@ module _ {A : Type 0} {same : A → A → Bool} (t : Tells same) (g : ℕ) where
       here i k = each_nil (at_rank same g l r) (up_from 0 (longer (length l) (length r))) h i (member_up 0 (longer (length l) (length r)) i (omega arith) (omega arith))
 
       -- a left rule is paired with the right rule of its own rank
-      in_place : (i : ℕ) (x : A) → ranked l i ≡ some x → partner same l r i x ≡ some i
+      in_place : (i : ℕ) (x : A) → ranked l i ≡ Some x → partner same l r i x ≡ Some i
       in_place i x e = left_nil i (partner same l r i x) (rw e at (append_nil (left_part i) (right_part i) (here i (longer_left (length l) (length r) i (ranked_in l i x e)))).0)
 
       -- a right rule is paired with a left one
-      has_one : (i : ℕ) (y : A) → ranked r i ≡ some y → (j : ℕ) × (partner same r l i y ≡ some j)
+      has_one : (i : ℕ) (y : A) → ranked r i ≡ Some y → (j : ℕ) × (partner same r l i y ≡ Some j)
       has_one i y e = right_nil i (partner same r l i y) (rw e at (append_nil (left_part i) (right_part i) (here i (longer_right (length l) (length r) i (ranked_in r i y e)))).1)
 
       step : (i : ℕ) (x y : Option A) → ranked l i ≡ x → ranked r i ≡ y → x ≡ y
-      step i none none a b = refl
-      step i (some x) y a b = sym (partners t l r i i x a (in_place i x a)).0 ∙ b
-      step i none (some y) a b =
+      step i None None a b = refl
+      step i (Some x) y a b = sym (partners t l r i i x a (in_place i x a)).0 ∙ b
+      step i None (Some y) a b =
           let j = has_one i y b in
           let p = partners t r l i j.0 y b j.1 in
-          let same_rank : i ≡ j.0 = some-injective i j.0 (sym p.1 ∙ in_place j.0 y p.0) in
+          let same_rank : i ≡ j.0 = same_Some i j.0 (sym p.1 ∙ in_place j.0 y p.0) in
           sym a ∙ rw (← same_rank) at p.0
 
   pub rules_itself : (l : List A) → rule_entries same g l l ≡ []
@@ -102,8 +102,8 @@ module _ {A : Type 0} {same : A → A → Bool} (t : Tells same) (g : ℕ) where
   rules_itself l = nil_each (at_rank same g l l) _ (λ i. step i (ranked l i) refl)
     where
       step : (i : ℕ) (x : Option A) → ranked l i ≡ x → if_there (λ x. left_rule g i (partner same l l i x)) x ++ if_there (λ x. right_rule g i (partner same l l i x)) x ≡ []
-      step i none e = refl
-      step i (some x) e = rw (own_partner t l i x e, eq-eqb i i refl)
+      step i None e = refl
+      step i (Some x) e = rw (own_partner t l i x e, eq-eqb i i refl)
 
 -- Pairs.
 
@@ -146,7 +146,7 @@ any l k a h = tt
 
 whole_equal : (x y : Says) → whole_entries x y ≡ [] → x ≡ y
 unfolding whole_entries ranked
-whole_equal x y h = some-injective x y (ap (λ (l : List Says). ranked l 0) (rules_equal tells_says 0 (x ∷ []) (y ∷ []) h))
+whole_equal x y h = same_Some x y (ap (λ (l : List Says). ranked l 0) (rules_equal tells_says 0 (x ∷ []) (y ∷ []) h))
 
 -- the entry of a first glyph that one side has
 abbrev first_only : ℕ → ℕ → Entry

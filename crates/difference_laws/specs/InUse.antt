@@ -1,8 +1,7 @@
 -- What two sources without a fault say, in use: contexts match, ligatures form and pairs move as their contents do.
-use Rattle.std.specs.Prelude.{ℕ, ◌-◌, ◌<◌, ◌≡◌, Bool, true, false, cond, List, leb, ltb, eqb, ℤ, pos, negsuc}
+use Rattle.std.specs.Prelude.{ℕ, ◌-◌, ◌<◌, ◌≡◌, Bool, true, false, cond, List, leb, ltb, eqb, ℤ, pos, negsuc, None}
 use Rattle.std.proofs.Math.Path.{refl}
 use Rattle.std.proofs.Common.{sym, ap, arith, leb-true, le-leb}
-use Rattle.std.proofs.Math.Option.{none}
 use Rattle.std.proofs.Math.IntN.{pos-ne-negsuc}
 use Rattle.meaning.specs.Words.{word}
 use Rattle.meaning.specs.Tables.{Table, pair_table, table}
@@ -64,14 +63,14 @@ ligates (Table.single_list cover subs) e g after i = absurd (omega arith)
 
 module _ (s : List ℕ) (bytes : Bytes s) where
   -- A source of kind 1 or 2 without a fault matches as its content does.
-  pub source_matches : (kind : ℕ) → compared_kind kind ≡ true → kind < 3 → fault kind s ≡ none → (before : List ℕ) (g : ℕ) (after : List ℕ) → Ids before → g < 65536 → Ids after
+  pub source_matches : (kind : ℕ) → compared_kind kind ≡ true → kind < 3 → fault kind s ≡ None → (before : List ℕ) (g : ℕ) (after : List ℕ) → Ids before → g < 65536 → Ids after
       → match (table kind s) before g after ≡ match_content (content (table kind s)) before g after
   source_matches kind k l h =
       let good = sound_good s bytes kind (kind_good kind k) h in
       match_content_lem (table kind s) (is_context (table kind s) kind l good.1) (sets_good (table kind s) good.0)
 
   -- One of kind 3 forms the ligatures of its content.
-  pub source_ligates : fault 3 s ≡ none → (g : ℕ) (after : List ℕ) → Ids after → ligate (table 3 s) g after ≡ ligate_content (content (table 3 s)) g after
+  pub source_ligates : fault 3 s ≡ None → (g : ℕ) (after : List ℕ) → Ids after → ligate (table 3 s) g after ≡ ligate_content (content (table 3 s)) g after
   unfolding good_kind
   source_ligates h = ligates (table 3 s) (sound_good s bytes 3 refl h).1
 

@@ -1,10 +1,10 @@
 -- `differences` lists the exact differences, and no other list does.
 use Prim.Native.Nat.{ℕ, ◌+◌, ◌≤◌, ◌<◌}
-use Rattle.std.specs.Prelude.{◌≡◌, Bool, cond, ◌||◌, ◌⊎◌, length, take}
+use Rattle.std.specs.Prelude.{◌≡◌, Bool, cond, ◌||◌, ◌⊎◌, length, take, Option, None, Some}
 use Rattle.std.proofs.Math.Path.{refl, sym, ap}
 use Rattle.std.proofs.Common.{ap₂, ◌∙◌, true≢false, arith}
 use Rattle.std.proofs.Math.Bool.{true, false}
-use Rattle.std.proofs.Math.Option.{Option, none, some, some-injective, none-ne-some}
+use Rattle.std.proofs.lemmas.Option.{same_Some, none-some}
 use Rattle.std.proofs.Math.Logic.{inl, inr, ⊎_elim}
 use mathlib.Core.List.{List, [], ◌∷◌, ◌++◌}
 use Rattle.std.proofs.Math.ListN.{get_or}
@@ -137,20 +137,20 @@ module _ (R : ℕ → Entry → Type 0) (apart : (k n : ℕ) (e f : Entry) → k
 
 module _ (g : ℕ) (l r : List Says) where
   -- what is paired is found, from either side
-  paired_left : (i j : ℕ) (p : Paired l r i j) → partner same_says l r i p.rule ≡ some j
+  paired_left : (i j : ℕ) (p : Paired l r i j) → partner same_says l r i p.rule ≡ Some j
   unfolding partner
   paired_left i j p = rw p.before (finds tells_says p.rule r j p.on_right)
 
-  paired_right : (i j : ℕ) (p : Paired l r i j) → partner same_says r l j p.rule ≡ some i
+  paired_right : (i j : ℕ) (p : Paired l r i j) → partner same_says r l j p.rule ≡ Some i
   unfolding partner
   paired_right i j p = rw (← p.before) (finds tells_says p.rule l i p.on_left)
 
   -- what is found is paired
-  left_paired : (i j : ℕ) (x : Says) → ranked l i ≡ some x → partner same_says l r i x ≡ some j → Paired l r i j
+  left_paired : (i j : ℕ) (x : Says) → ranked l i ≡ Some x → partner same_says l r i x ≡ Some j → Paired l r i j
   unfolding partner
   left_paired i j x h e = let f = found tells_says x (count_same same_says x (take i l)) r j e in record { rule = x; on_left = h; on_right = f.0; before = sym f.1 }
 
-  right_paired : (i j : ℕ) (y : Says) → ranked r j ≡ some y → partner same_says r l j y ≡ some i → Paired l r i j
+  right_paired : (i j : ℕ) (y : Says) → ranked r j ≡ Some y → partner same_says r l j y ≡ Some i → Paired l r i j
   unfolding partner
   right_paired i j y h e = let f = found tells_says y (count_same same_says y (take j r)) l i e in record { rule = y; on_left = f.0; on_right = h; before = f.1 }
 
@@ -167,14 +167,14 @@ module _ (g : ℕ) (l r : List Says) where
       ⊎_elim (on_left p.0 (ranked l p.0) refl) (on_right p.0 (ranked r p.0) refl) (in_either e (left_part p.0) (right_part p.0) p.2)
     where
       on_left : (i : ℕ) (o : Option Says) → ranked l i ≡ o → In e (if_there (λ x. left_rule g i (partner same_says l r i x)) o) → RuleDiffers g l r e
-      on_left i none h k = absurd k
-      on_left i (some x) h k = go (partner same_says l r i x) refl k
+      on_left i None h k = absurd k
+      on_left i (Some x) h k = go (partner same_says l r i x) refl k
         where
           go : (o : Option ℕ) → partner same_says l r i x ≡ o → In e (left_rule g i o) → RuleDiffers g l r e
-          go none q (inl z) =
-              RuleDiffers.left_only i x h (λ j p. none-ne-some j (sym q ∙ ap (partner same_says l r i) (some-injective x p.rule (sym h ∙ p.on_left)) ∙ paired_left i j p)) (sym z)
-          go none q (inr z) = absurd z
-          go (some j) q z = moves (eqb i j) refl z
+          go None q (inl z) =
+              RuleDiffers.left_only i x h (λ j p. none-some j (sym q ∙ ap (partner same_says l r i) (same_Some x p.rule (sym h ∙ p.on_left)) ∙ paired_left i j p)) (sym z)
+          go None q (inr z) = absurd z
+          go (Some j) q z = moves (eqb i j) refl z
             where
               moves : (b : Bool) → eqb i j ≡ b → In e (cond {A = List Entry} b [] (record { sort = 4; side = 0; first = g; rank = i; left = i; right = j } ∷ [])) → RuleDiffers g l r e
               moves true w z = absurd z
@@ -182,14 +182,14 @@ module _ (g : ℕ) (l r : List Says) where
               moves false w (inr z) = absurd z
 
       on_right : (j : ℕ) (o : Option Says) → ranked r j ≡ o → In e (if_there (λ x. right_rule g j (partner same_says r l j x)) o) → RuleDiffers g l r e
-      on_right j none h k = absurd k
-      on_right j (some y) h k = go (partner same_says r l j y) refl k
+      on_right j None h k = absurd k
+      on_right j (Some y) h k = go (partner same_says r l j y) refl k
         where
           go : (o : Option ℕ) → partner same_says r l j y ≡ o → In e (right_rule g j o) → RuleDiffers g l r e
-          go none q (inl z) =
-              RuleDiffers.right_only j y h (λ i p. none-ne-some i (sym q ∙ ap (partner same_says r l j) (some-injective y p.rule (sym h ∙ p.on_right)) ∙ paired_right i j p)) (sym z)
-          go none q (inr z) = absurd z
-          go (some i) q z = absurd z
+          go None q (inl z) =
+              RuleDiffers.right_only j y h (λ i p. none-some i (sym q ∙ ap (partner same_says r l j) (same_Some y p.rule (sym h ∙ p.on_right)) ∙ paired_right i j p)) (sym z)
+          go None q (inr z) = absurd z
+          go (Some i) q z = absurd z
 
   rules_all : (e : Entry) → RuleDiffers g l r e → In e (rule_entries same_says g l r)
   unfolding rule_entries at_rank if_there left_rule right_rule left_part right_part
@@ -201,8 +201,8 @@ module _ (g : ℕ) (l r : List Says) where
       n = longer (length l) (length r)
 
       go : (o : Option ℕ) → partner same_says l r i x ≡ o → In e (left_rule g i o)
-      go none w = inl (sym q)
-      go (some j) w = absurd (alone j (left_paired i j x h w))
+      go None w = inl (sym q)
+      go (Some j) w = absurd (alone j (left_paired i j x h w))
   rules_all e (RuleDiffers.right_only j y h alone q) =
       in_each (at_rank same_says g l r) e (up_from 0 n) j (member_up 0 n j (omega arith) (omega (arith, longer_right (length l) (length r) j (ranked_in r j y h))))
       (in_back e (left_part j) (right_part j) (rw h (go (partner same_says r l j y) refl)))
@@ -211,8 +211,8 @@ module _ (g : ℕ) (l r : List Says) where
       n = longer (length l) (length r)
 
       go : (o : Option ℕ) → partner same_says r l j y ≡ o → In e (right_rule g j o)
-      go none w = inl (sym q)
-      go (some i) w = absurd (alone i (right_paired i j y h w))
+      go None w = inl (sym q)
+      go (Some i) w = absurd (alone i (right_paired i j y h w))
   rules_all e (RuleDiffers.moved i j p ne q) =
       in_each (at_rank same_says g l r) e (up_from 0 n) i (member_up 0 n i (omega arith) (omega (arith, longer_left (length l) (length r) i (ranked_in l i p.rule p.on_left))))
       (in_front e (left_part i) (right_part i) (rw (p.on_left, paired_left i j p, ne_eqb i j ne) (inl (sym q))))
@@ -229,46 +229,46 @@ module _ (g : ℕ) (l r : List Says) where
   rules_told i = all_append (OfRank i) (left_part i) (right_part i) (on_left (ranked l i)) (on_right (ranked r i))
     where
       on_left : (o : Option Says) → All (OfRank i) (if_there (λ x. left_rule g i (partner same_says l r i x)) o)
-      on_left none = tt
-      on_left (some x) = go (partner same_says l r i x)
+      on_left None = tt
+      on_left (Some x) = go (partner same_says l r i x)
         where
           go : (o : Option ℕ) → All (OfRank i) (left_rule g i o)
-          go none = ((refl, refl), tt)
-          go (some j) = moves (eqb i j)
+          go None = ((refl, refl), tt)
+          go (Some j) = moves (eqb i j)
             where
               moves : (b : Bool) → All (OfRank i) (cond {A = List Entry} b [] (record { sort = 4; side = 0; first = g; rank = i; left = i; right = j } ∷ []))
               moves true = tt
               moves false = ((refl, refl), tt)
 
       on_right : (o : Option Says) → All (OfRank i) (if_there (λ x. right_rule g i (partner same_says r l i x)) o)
-      on_right none = tt
-      on_right (some x) = go (partner same_says r l i x)
+      on_right None = tt
+      on_right (Some x) = go (partner same_says r l i x)
         where
           go : (o : Option ℕ) → All (OfRank i) (right_rule g i o)
-          go none = ((refl, refl), tt)
-          go (some j) = tt
+          go None = ((refl, refl), tt)
+          go (Some j) = tt
 
   rules_in_order : (i : ℕ) → InOrder (at_rank same_says g l r i)
   unfolding at_rank if_there left_rule right_rule left_part right_part
   rules_in_order i = go (ranked l i) (ranked r i)
     where
       alone : (o : Option ℕ) → InOrder (left_rule g i o)
-      alone none = (tt, tt)
-      alone (some j) = moves (eqb i j)
+      alone None = (tt, tt)
+      alone (Some j) = moves (eqb i j)
         where
           moves : (b : Bool) → InOrder (cond {A = List Entry} b [] (record { sort = 4; side = 0; first = g; rank = i; left = i; right = j } ∷ []))
           moves true = tt
           moves false = (tt, tt)
 
       two : (o p : Option ℕ) → InOrder (left_rule g i o ++ right_rule g i p)
-      two none none = ((inr (refl, inr (refl, omega arith)), tt), (tt, tt))
-      two none (some k) = (tt, tt)
-      two (some j) none = moves (eqb i j)
+      two None None = ((inr (refl, inr (refl, omega arith)), tt), (tt, tt))
+      two None (Some k) = (tt, tt)
+      two (Some j) None = moves (eqb i j)
         where
           moves : (b : Bool) → InOrder (cond {A = List Entry} b [] (record { sort = 4; side = 0; first = g; rank = i; left = i; right = j } ∷ []) ++ (record { sort = 3; side = 1; first = g; rank = i; left = 0; right = 0 } ∷ []))
           moves true = (tt, tt)
           moves false = ((inr (refl, inr (refl, omega arith)), tt), (tt, tt))
-      two (some j) (some k) = moves (eqb i j)
+      two (Some j) (Some k) = moves (eqb i j)
         where
           moves : (b : Bool) → InOrder (cond {A = List Entry} b [] (record { sort = 4; side = 0; first = g; rank = i; left = i; right = j } ∷ []) ++ [])
           moves true = tt
@@ -279,14 +279,14 @@ module _ (g : ℕ) (l r : List Says) where
       ends (e ∷ es) h = (all_append (Precedes e) es [] h.0 tt, ends es h.1)
 
       right : (p : Option ℕ) → InOrder (right_rule g i p)
-      right none = (tt, tt)
-      right (some j) = tt
+      right None = (tt, tt)
+      right (Some j) = tt
 
       go : (o p : Option Says) → InOrder (if_there (λ x. left_rule g i (partner same_says l r i x)) o ++ if_there (λ x. right_rule g i (partner same_says r l i x)) p)
-      go none none = tt
-      go none (some y) = right (partner same_says r l i y)
-      go (some x) none = ends (left_rule g i (partner same_says l r i x)) (alone (partner same_says l r i x))
-      go (some x) (some y) = two (partner same_says l r i x) (partner same_says r l i y)
+      go None None = tt
+      go None (Some y) = right (partner same_says r l i y)
+      go (Some x) None = ends (left_rule g i (partner same_says l r i x)) (alone (partner same_says l r i x))
+      go (Some x) (Some y) = two (partner same_says l r i x) (partner same_says r l i y)
 
   rules_order : InOrder (rule_entries same_says g l r)
   unfolding rule_entries OfRank
@@ -308,12 +308,12 @@ module _ {A : Type 0} (only : ℕ → ℕ → Entry) (both : ℕ → A → A →
   keys_only says e i = let p = each_in at e (keys_of l r) i in go p.0 (beside l p.0) (beside r p.0) refl refl p.2
     where
       go : (k : ℕ) (x y : Option A) → beside l k ≡ x → beside r k ≡ y → In e (at_key (only k) (both k) x y) → KeyDiffers only Both l r e
-      go k none none a b z = absurd z
-      go k (some x) none a b (inl z) = KeyDiffers.in_left k x a b (sym z)
-      go k (some x) none a b (inr z) = absurd z
-      go k none (some y) a b (inl z) = KeyDiffers.in_right k y a b (sym z)
-      go k none (some y) a b (inr z) = absurd z
-      go k (some x) (some y) a b z = KeyDiffers.in_both k x y a b (says k x y e z)
+      go k None None a b z = absurd z
+      go k (Some x) None a b (inl z) = KeyDiffers.in_left k x a b (sym z)
+      go k (Some x) None a b (inr z) = absurd z
+      go k None (Some y) a b (inl z) = KeyDiffers.in_right k y a b (sym z)
+      go k None (Some y) a b (inr z) = absurd z
+      go k (Some x) (Some y) a b z = KeyDiffers.in_both k x y a b (says k x y e z)
 
   keys_all : ((k : ℕ) (a b : A) (e : Entry) → Both k a b e → In e (both k a b)) → (e : Entry) → KeyDiffers only Both l r e → In e (by_key only both l r)
   unfolding by_key at_key at
@@ -329,20 +329,20 @@ module _ {A : Type 0} (only : ℕ → ℕ → Entry) (both : ℕ → A → A →
     keys_told k = go (beside l k) (beside r k)
       where
         go : (x y : Option A) → All (R k) (at_key (only k) (both k) x y)
-        go none none = tt
-        go (some x) none = (one k 0, tt)
-        go none (some y) = (one k 1, tt)
-        go (some x) (some y) = two k x y
+        go None None = tt
+        go (Some x) None = (one k 0, tt)
+        go None (Some y) = (one k 1, tt)
+        go (Some x) (Some y) = two k x y
 
     keys_in_order : (k : ℕ) → InOrder (at k)
     unfolding at_key at
     keys_in_order k = go (beside l k) (beside r k)
       where
         go : (x y : Option A) → InOrder (at_key (only k) (both k) x y)
-        go none none = tt
-        go (some x) none = (tt, tt)
-        go none (some y) = (tt, tt)
-        go (some x) (some y) = order k x y
+        go None None = tt
+        go (Some x) None = (tt, tt)
+        go None (Some y) = (tt, tt)
+        go (Some x) (Some y) = order k x y
 
     keys_order : InOrder (by_key only both l r)
     unfolding by_key at

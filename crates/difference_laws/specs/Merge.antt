@@ -1,9 +1,8 @@
 -- How code can walk the keys of two lists: both lists from the front, the lower key first; or all ids from 0 on, each asked in both.
-use Rattle.std.specs.Prelude.{ℕ, zero, suc, ◌+◌, ◌≤◌, ◌<◌, ◌≡◌, Bool, cond, ◌||◌, ltb, eqb}
+use Rattle.std.specs.Prelude.{ℕ, zero, suc, ◌+◌, ◌≤◌, ◌<◌, ◌≡◌, Bool, cond, ◌||◌, ltb, eqb, Option, None, Some}
 use Rattle.std.proofs.Math.Path.{refl, sym, ap}
 use Rattle.std.proofs.Common.{ap₂, ◌∙◌, true≢false, eqb-true, eq-eqb, ne_eqb, ltb-true, ltb-false, lt-ltb}
 use Rattle.std.proofs.Math.Bool.{true, false}
-use Rattle.std.proofs.Math.Option.{Option, none, some}
 use mathlib.Core.List.{List, [], ◌∷◌, ◌++◌}
 use native.Mathlib.Omega.{arith}
 use Rattle.std.proofs.lemmas.Bool.{eqb-false}
@@ -95,12 +94,12 @@ module _ {A : Type 0} where
   keys_are [] [] k = refl
   keys_are [] (e ∷ r) k = insert_member e.0 (keys_of [] r) k ∙ rw (keys_are [] r k) (step (eqb e.0 k))
     where
-      step : (b : Bool) → b || is_some (beside r k) ≡ is_some (cond b (some e.1) (beside r k))
+      step : (b : Bool) → b || is_some (beside r k) ≡ is_some (cond b (Some e.1) (beside r k))
       step true = refl
       step false = refl
   keys_are (e ∷ l) r k = insert_member e.0 (keys_of l r) k ∙ rw (keys_are l r k) (step (eqb e.0 k))
     where
-      step : (b : Bool) → b || (is_some (beside l k) || is_some (beside r k)) ≡ is_some (cond b (some e.1) (beside l k)) || is_some (beside r k)
+      step : (b : Bool) → b || (is_some (beside l k) || is_some (beside r k)) ≡ is_some (cond b (Some e.1) (beside l k)) || is_some (beside r k)
       step true = refl
       step false = refl
 
@@ -121,7 +120,7 @@ module _ {A : Type 0} where
   keys_right_first k b l r u v =
       up_tells 0 (keys_of l ((k, b) ∷ r)) (k ∷ keys_of l r) (keys_up l ((k, b) ∷ r)) (omega arith, keys_above (k + 1) l r u v) (λ j. keys_are l ((k, b) ∷ r) j ∙ rw (keys_are l r j) (step (eqb k j) (is_some (beside l j)) (beside r j)))
     where
-      step : (t x : Bool) (o : Option A) → x || is_some (cond t (some b) o) ≡ t || (x || is_some o)
+      step : (t x : Bool) (o : Option A) → x || is_some (cond t (Some b) o) ≡ t || (x || is_some o)
       step true true o = refl
       step true false o = refl
       step false x o = refl
@@ -132,7 +131,7 @@ module _ {A : Type 0} where
       up_tells 0 (keys_of ((k, a) ∷ l) ((k, b) ∷ r)) (k ∷ keys_of l r) (keys_up ((k, a) ∷ l) ((k, b) ∷ r)) (omega arith, keys_above (k + 1) l r u v)
       (λ j. keys_are ((k, a) ∷ l) ((k, b) ∷ r) j ∙ rw (keys_are l r j) (step (eqb k j) (beside l j) (beside r j)))
     where
-      step : (t : Bool) (x y : Option A) → is_some (cond t (some a) x) || is_some (cond t (some b) y) ≡ t || (is_some x || is_some y)
+      step : (t : Bool) (x y : Option A) → is_some (cond t (Some a) x) || is_some (cond t (Some b) y) ≡ t || (is_some x || is_some y)
       step true x y = refl
       step false x y = refl
 
@@ -146,16 +145,16 @@ module _ {A : Type 0} (only : ℕ → ℕ → Entry) (both : ℕ → A → A →
   all_ids l r n w = sym (each_ids (asks l r) 0 n (keys_of l r) (keys_up l r) w (λ j h m. step j (beside l j) (beside r j) (sym (keys_are l r j) ∙ m)))
     where
       step : (j : ℕ) (x y : Option A) → is_some x || is_some y ≡ false → at_key (only j) (both j) x y ≡ []
-      step j none none h = refl
-      step j (some a) y h = absurd (true≢false h)
-      step j none (some b) h = absurd (true≢false h)
+      step j None None h = refl
+      step j (Some a) y h = absurd (true≢false h)
+      step j None (Some b) h = absurd (true≢false h)
 
   -- past the first key of a list the others are asked
   beside_past : (k : ℕ) (a : A) (l : List (ℕ × A)) (j : ℕ) → k + 1 ≤ j → beside ((k, a) ∷ l) j ≡ beside l j
   unfolding beside
   beside_past k a l j h = rw (ne_eqb k j (λ q. omega arith))
 
-  beside_first : (k : ℕ) (a : A) (l : List (ℕ × A)) → beside ((k, a) ∷ l) k ≡ some a
+  beside_first : (k : ℕ) (a : A) (l : List (ℕ × A)) → beside ((k, a) ∷ l) k ≡ Some a
   unfolding beside
   beside_first k a l = rw (eq-eqb k k refl)
 

@@ -1,10 +1,9 @@
 -- Every promise of request 1 in one place, each with its words above it. They hold of every call: any kind, any two tables, any buffer.
 -- A reader who believes Content.antt, Entries.antt, Compare.antt and the definitions of `meaning` needs of the rest of this crate what stands here,
 -- Differs.antt, and `Call`, `answer`, `list`, `refusals`, `first` and `Meets` of Answers.antt.
-use Rattle.std.specs.Prelude.{ℕ, ◌*◌, ◌<◌, ◌≡◌, refl, true, length, drop}
+use Rattle.std.specs.Prelude.{ℕ, ◌*◌, ◌<◌, ◌≡◌, refl, true, length, drop, Option, None}
 use Rattle.std.proofs.Math.Path.{sym, ap}
 use Rattle.std.proofs.Common.{◌∙◌, arith}
-use Rattle.std.proofs.Math.Option.{Option, none}
 use mathlib.Core.List.{List, [], ◌∷◌, ◌++◌, map, append-nil}
 use Rattle.meaning.specs.Words.{words, flat}
 use Rattle.meaning.specs.Tables.{table}
@@ -83,7 +82,7 @@ module _ (c : Call) where
   on_right = content (table c.kind c.right)
 
   -- `empty_exactly`: where neither table is refused, the list is empty exactly if the decoded contents are equal.
-  pub empty_exactly : fault c.kind c.left ≡ none → fault c.kind c.right ≡ none → (length (list c) ≡ 0 → on_left ≡ on_right) × (on_left ≡ on_right → length (list c) ≡ 0)
+  pub empty_exactly : fault c.kind c.left ≡ None → fault c.kind c.right ≡ None → (length (list c) ≡ 0 → on_left ≡ on_right) × (on_left ≡ on_right → length (list c) ≡ 0)
   empty_exactly p q = (
     (λ e. empty_equal on_left on_right (sound_sorted c.kind c.left p) (sound_sorted c.kind c.right q) (none_long (differences on_left on_right) (sym (list_length c) ∙ e))),
     λ e. list_length c ∙ ap (λ (r : Content). 12 * length (differences on_left r)) (sym e) ∙ ap (λ (es : List Entry). 12 * length es) (itself_empty on_left),
@@ -147,7 +146,7 @@ module _ (c : Call) where
   kept_is_the_list h = (kept_length c h, kept_bytes c h)
 
   -- Its bytes read back as the words of the entries: no number of an entry is past 65,535.
-  pub reads_back : Bytes c.left → Bytes c.right → compared_kind c.kind ≡ true → fault c.kind c.left ≡ none → fault c.kind c.right ≡ none
+  pub reads_back : Bytes c.left → Bytes c.right → compared_kind c.kind ≡ true → fault c.kind c.left ≡ None → fault c.kind c.right ≡ None
       → words (list c) 0 (length (entry_words (differences on_left on_right))) ≡ entry_words (differences on_left on_right)
   unfolding list_bytes
   reads_back a b k p q =

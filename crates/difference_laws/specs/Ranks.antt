@@ -1,9 +1,9 @@
 -- How code can pair rules: over numbers that are equal exactly if the contents are, by the ranks that each number has left on the right.
 use Prim.Native.Nat.{ℕ, zero, suc, ◌+◌}
-use Rattle.std.specs.Prelude.{◌≡◌, Bool, true, false, cond, length, take, drop, eqb}
+use Rattle.std.specs.Prelude.{◌≡◌, Bool, true, false, cond, length, take, drop, eqb, Option, None, Some}
 use Rattle.std.proofs.Math.Path.{refl, ap, ap₂}
 use Rattle.std.proofs.Common.{sym, ◌∙◌, arith, eq-eqb, ne_eqb}
-use Rattle.std.proofs.Math.Option.{Option, none, some, some-injective, none-ne-some}
+use Rattle.std.proofs.lemmas.Option.{same_Some, none-some}
 use mathlib.Core.List.{List, [], ◌∷◌, ◌++◌, map}
 use Rattle.std.proofs.Math.ListN.{length-map}
 use Rattle.meaning.specs.Words.{up_from}
@@ -74,8 +74,8 @@ ranks_of x j (a ∷ r) = cond (eqb x a) (j ∷ ranks_of x (j + 1) r) (ranks_of x
 
 -- the first of a list
 unfoldable pub first : List ℕ → Option ℕ
-first [] = none
-first (j ∷ js) = some j
+first [] = None
+first (j ∷ js) = Some j
 
 -- the right ranks of x that are left once the left numbers before rank i have taken theirs
 unfoldable pub left_over : List ℕ → List ℕ → ℕ → ℕ → List ℕ
@@ -83,13 +83,13 @@ left_over l r i x = drop (count_same eqb x (take i l)) (ranks_of x 0 r)
 
 -- the rank k of x among the ranks from j on
 from : ℕ → Option ℕ → Option ℕ
-from j none = none
-from j (some i) = some (i + j)
+from j None = None
+from j (Some i) = Some (i + j)
 
 from_on : (j : ℕ) (o : Option ℕ) → from j (one_on o) ≡ from (j + 1) o
 unfolding from one_on
-from_on j none = refl
-from_on j (some i) = let e : suc i + j ≡ i + (j + 1) = omega arith in ap {B = Option ℕ} some e
+from_on j None = refl
+from_on j (Some i) = let e : suc i + j ≡ i + (j + 1) = omega arith in ap {B = Option ℕ} Some e
 
 rank_first : (x k j : ℕ) (r : List ℕ) → first (drop k (ranks_of x j r)) ≡ from j (rank_same eqb x k r)
 unfolding ranks_of first from rank_same
@@ -97,8 +97,8 @@ rank_first x zero j [] = refl
 rank_first x (suc k) j [] = refl
 rank_first x zero j (a ∷ r) = go (eqb x a) (rank_first x zero (j + 1) r)
   where
-    go : (b : Bool) → first (ranks_of x (j + 1) r) ≡ from (j + 1) (rank_same eqb x zero r) → first (cond b (j ∷ ranks_of x (j + 1) r) (ranks_of x (j + 1) r)) ≡ from j (cond b (some 0) (one_on (rank_same eqb x zero r)))
-    go true e = let z : j ≡ 0 + j = omega arith in ap {B = Option ℕ} some z
+    go : (b : Bool) → first (ranks_of x (j + 1) r) ≡ from (j + 1) (rank_same eqb x zero r) → first (cond b (j ∷ ranks_of x (j + 1) r) (ranks_of x (j + 1) r)) ≡ from j (cond b (Some 0) (one_on (rank_same eqb x zero r)))
+    go true e = let z : j ≡ 0 + j = omega arith in ap {B = Option ℕ} Some z
     go false e = e ∙ sym (from_on j (rank_same eqb x zero r))
 rank_first x (suc k) j (a ∷ r) = go (eqb x a) (λ n. rank_first x n (j + 1) r)
   where
@@ -109,8 +109,8 @@ rank_first x (suc k) j (a ∷ r) = go (eqb x a) (λ n. rank_first x n (j + 1) r)
 
 from_zero : (o : Option ℕ) → from 0 o ≡ o
 unfolding from
-from_zero none = refl
-from_zero (some i) = let z : i + 0 ≡ i = omega arith in ap {B = Option ℕ} some z
+from_zero None = refl
+from_zero (Some i) = let z : i + 0 ≡ i = omega arith in ap {B = Option ℕ} Some z
 
 -- `partner_is`: the partner is the first rank that is left
 pub partner_is : (l r : List ℕ) (i x : ℕ) → partner eqb l r i x ≡ first (left_over l r i x)
@@ -118,10 +118,10 @@ unfolding partner left_over
 partner_is l r i x = sym (rank_first x (count_same eqb x (take i l)) 0 r ∙ from_zero (rank_same eqb x (count_same eqb x (take i l)) r))
 
 -- one more left number: it takes the first that is left of its own, and leaves the others
-count_one : (l : List ℕ) (i x y : ℕ) → ranked l i ≡ some y → count_same eqb x (take (suc i) l) ≡ cond (eqb x y) (suc (count_same eqb x (take i l))) (count_same eqb x (take i l))
+count_one : (l : List ℕ) (i x y : ℕ) → ranked l i ≡ Some y → count_same eqb x (take (suc i) l) ≡ cond (eqb x y) (suc (count_same eqb x (take i l))) (count_same eqb x (take i l))
 unfolding ranked count_same
-count_one [] i x y h = absurd (none-ne-some _ h)
-count_one (a ∷ l) zero x y h = rw (some-injective a y h)
+count_one [] i x y h = absurd (none-some _ h)
+count_one (a ∷ l) zero x y h = rw (same_Some a y h)
 count_one (a ∷ l) (suc i) x y h = rw (count_one l i x y h) (go (eqb x a) (eqb x y) (count_same eqb x (take i l)))
   where
     go : (s t : Bool) (n : ℕ) → cond s (suc (cond t (suc n) n)) (cond t (suc n) n) ≡ cond t (suc (cond s (suc n) n)) (cond s (suc n) n)
@@ -139,10 +139,10 @@ pub left_none : (l r : List ℕ) (x : ℕ) → left_over l r 0 x ≡ ranks_of x 
 unfolding left_over count_same
 left_none l r x = refl
 
-pub left_takes : (l r : List ℕ) (i x : ℕ) → ranked l i ≡ some x → left_over l r (suc i) x ≡ drop 1 (left_over l r i x)
+pub left_takes : (l r : List ℕ) (i x : ℕ) → ranked l i ≡ Some x → left_over l r (suc i) x ≡ drop 1 (left_over l r i x)
 unfolding left_over
 left_takes l r i x h = rw (count_one l i x x h, eq-eqb x x refl) (drop_one (count_same eqb x (take i l)) (ranks_of x 0 r))
 
-pub left_leaves : (l r : List ℕ) (i x y : ℕ) → ranked l i ≡ some y → (x ≡ y → ⊥) → left_over l r (suc i) x ≡ left_over l r i x
+pub left_leaves : (l r : List ℕ) (i x y : ℕ) → ranked l i ≡ Some y → (x ≡ y → ⊥) → left_over l r (suc i) x ≡ left_over l r i x
 unfolding left_over
 left_leaves l r i x y h d = rw (count_one l i x y h, ne_eqb x y d)

@@ -1,6 +1,5 @@
 -- The six numbers of each entry are words, so that the bytes of a list read back as its entries.
-use Rattle.std.specs.Prelude.{ℕ, zero, suc, ◌≤◌, ◌<◌, ◌≡◌, refl, List, [], ◌∷◌, length, get_or}
-use Rattle.std.proofs.Math.Option.{some}
+use Rattle.std.specs.Prelude.{ℕ, zero, suc, ◌≤◌, ◌<◌, ◌≡◌, refl, List, [], ◌∷◌, length, get_or, Some}
 use Rattle.std.proofs.Common.{inl, inr, ⊎_elim, arith}
 use Rattle.laws.specs.Stands.{All, Word}
 use Rattle.differences.specs.Content.{Says, Content}
@@ -21,7 +20,7 @@ pub record SmallEntry (e : Entry) : Type 0 where
 
 -- what stands beside each key is small, and so is the key
 abbrev pub SmallBeside : {A : Type 0} → (A → Type 0) → List (ℕ × A) → Type 0
-SmallBeside {A} P l = (k : ℕ) (a : A) → beside l k ≡ some a → Word k × P a
+SmallBeside {A} P l = (k : ℕ) (a : A) → beside l k ≡ Some a → Word k × P a
 
 -- few rules
 abbrev pub Few : {A : Type 0} → List A → Type 0

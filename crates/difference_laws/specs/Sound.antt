@@ -1,9 +1,9 @@
 -- The content of a source without a fault: its first glyphs ascend, and so do the second glyphs of its pairs.
-use Rattle.std.specs.Prelude.{ℕ, zero, suc, ◌+◌, ◌*◌, ◌≡◌, Bool, length, eqb}
+use Rattle.std.specs.Prelude.{ℕ, zero, suc, ◌+◌, ◌*◌, ◌≡◌, Bool, length, eqb, Option, None, Some}
 use Rattle.std.proofs.Math.Path.{refl, ap}
 use Rattle.std.proofs.Common.{sym, ◌∙◌, arith}
 use Rattle.std.proofs.Math.Bool.{true, false, cond}
-use Rattle.std.proofs.Math.Option.{Option, none, some, some-injective, none-ne-some}
+use Rattle.std.proofs.lemmas.Option.{same_Some, none-some}
 use mathlib.Core.List.{List, [], ◌∷◌, ◌++◌, map}
 use Rattle.meaning.specs.Words.{word, words, inside}
 use Rattle.meaning.specs.Parts.{coverage, coverage_sound}
@@ -31,20 +31,20 @@ module _ {A B : Type 0} (say : A → B) where
   index_beside : (P : List B → Type 0) (Q : List A → Type 0) → P [] → ((xs : List A) → Q xs → P (map say xs))
       → (cov : List ℕ) (sets : List (Option (List A))) → All (Opt Q) sets → Beside P (by_index say cov sets)
   unfolding by_index beside set_holds
-  index_beside P Q none-good some_Good [] sets h k a e = absurd (none-ne-some _ e)
+  index_beside P Q none-good some_Good [] sets h k a e = absurd (none-some _ e)
   index_beside P Q none-good some_Good (g ∷ cov) [] h k a e = step (eqb g k) e (index_beside P Q none-good some_Good cov [] h k a)
     where
-      step : (b : Bool) → cond b (some []) (beside (by_index say cov []) k) ≡ some a → (beside (by_index say cov []) k ≡ some a → P a) → P a
-      step true q f = rw (← some-injective [] a q) none-good
+      step : (b : Bool) → cond b (Some []) (beside (by_index say cov []) k) ≡ Some a → (beside (by_index say cov []) k ≡ Some a → P a) → P a
+      step true q f = rw (← same_Some [] a q) none-good
       step false q f = f q
   index_beside P Q none-good some_Good (g ∷ cov) (s ∷ sets) h k a e = step (eqb g k) e (index_beside P Q none-good some_Good cov sets h.1 k a)
     where
       held : (s : Option (List A)) → Opt Q s → P (map say (set_holds s))
-      held none q = none-good
-      held (some xs) q = some_Good xs q
+      held None q = none-good
+      held (Some xs) q = some_Good xs q
 
-      step : (b : Bool) → cond b (some (map say (set_holds s))) (beside (by_index say cov sets) k) ≡ some a → (beside (by_index say cov sets) k ≡ some a → P a) → P a
-      step true q f = rw (← some-injective (map say (set_holds s)) a q) (held s h.0)
+      step : (b : Bool) → cond b (Some (map say (set_holds s))) (beside (by_index say cov sets) k) ≡ Some a → (beside (by_index say cov sets) k ≡ Some a → P a) → P a
+      step true q f = rw (← same_Some (map say (set_holds s)) a q) (held s h.0)
       step false q f = f q
 
   class_glyphs : (cs : Option (List (ℕ × ℕ))) (cov : List ℕ) (sets : List (Option (List A))) → glyphs_of (by_each_class say cs cov sets) ≡ cov
@@ -60,39 +60,39 @@ said_seconds f1 f2 (p ∷ ps) = ap (λ (l : List ℕ). p.second ∷ l) (said_sec
 
 said_eight : (f1 f2 : ℕ) (ps : List Pair) → Beside Eight (map (pair_says f1 f2) ps)
 unfolding beside pair_says four_values
-said_eight f1 f2 [] k a e = absurd (none-ne-some _ e)
+said_eight f1 f2 [] k a e = absurd (none-some _ e)
 said_eight f1 f2 (p ∷ ps) k a e = step (eqb p.second k) e (said_eight f1 f2 ps k a)
   where
     vs : List ℕ
     vs = four_values f1 p.first_values ++ four_values f2 p.second_values
 
-    step : (b : Bool) → cond b (some vs) (beside (map (pair_says f1 f2) ps) k) ≡ some a → (beside (map (pair_says f1 f2) ps) k ≡ some a → length a ≡ 8) → length a ≡ 8
-    step true q f = ap length (sym (some-injective vs a q))
+    step : (b : Bool) → cond b (Some vs) (beside (map (pair_says f1 f2) ps) k) ≡ Some a → (beside (map (pair_says f1 f2) ps) k ≡ Some a → length a ≡ 8) → length a ≡ 8
+    step true q f = ap length (sym (same_Some vs a q))
     step false q f = f q
 
 covered_up : (cover : Option (List ℕ)) → Opt (Up 0) cover → Up 0 (covered cover)
 unfolding covered
-covered_up none h = tt
-covered_up (some cov) h = h
+covered_up None h = tt
+covered_up (Some cov) h = h
 
 -- a pair set without a fault: its pairs are sorted
-pair_set_sorted : (f1 f2 a b : ℕ) (s : List ℕ) (at : ℕ) → pair_set_fault a b s at ≡ none → SortedPairs (map (pair_says f1 f2) (pair_set a b s at))
+pair_set_sorted : (f1 f2 a b : ℕ) (s : List ℕ) (at : ℕ) → pair_set_fault a b s at ≡ None → SortedPairs (map (pair_says f1 f2) (pair_set a b s at))
 unfolding pair_set_fault
 pair_set_sorted f1 f2 a b s at h =
-    let up = (both (inside s (at + 2) ((2 + 2 * a + 2 * b) * word s at)) _ (both (inside s at 2) _ (part_sound at _ none h).0).1).1 in
+    let up = (both (inside s (at + 2) ((2 + 2 * a + 2 * b) * word s at)) _ (both (inside s at 2) _ (part_sound at _ None h).0).1).1 in
     record { ascend = rw (said_seconds f1 f2 (pair_set a b s at)) (ascends_up 0 (map (λ p. p.second) (pair_set a b s at)) up (λ g r e. omega arith)); eight = said_eight f1 f2 (pair_set a b s at) }
 
 -- what offsets reach without a fault
-reached_good : {A : Type 0} (P : A → Type 0) (read : ℕ → A) (fault_at : ℕ → Option ℕ) → ((at : ℕ) → fault_at at ≡ none → P (read at)) → (s : List ℕ) (slot n : ℕ) → fault_through fault_at s 0 slot n ≡ none → All (Opt P) (reaches read s 0 slot n)
+reached_good : {A : Type 0} (P : A → Type 0) (read : ℕ → A) (fault_at : ℕ → Option ℕ) → ((at : ℕ) → fault_at at ≡ None → P (read at)) → (s : List ℕ) (slot n : ℕ) → fault_through fault_at s 0 slot n ≡ None → All (Opt P) (reaches read s 0 slot n)
 unfolding reaches fault_through
 reached_good P read fault_at k s slot zero h = tt
 reached_good P read fault_at k s slot (suc n) h = let q = one_good s P read fault_at k slot n h in (q.0, reached_good P read fault_at k s (slot + 2) n q.1)
 
 -- the coverage that a header reaches without a fault
-header_up : (s : List ℕ) (good : Bool) (k slot : ℕ) (fault_at : ℕ → Option ℕ) → header_fault good k slot fault_at s ≡ none → Up 0 (covered (reach (coverage s) s 0 2))
+header_up : (s : List ℕ) (good : Bool) (k slot : ℕ) (fault_at : ℕ → Option ℕ) → header_fault good k slot fault_at s ≡ None → Up 0 (covered (reach (coverage s) s 0 2))
 unfolding coverage_fault
 header_up s good k slot fault_at h =
-    covered_up (reach (coverage s) s 0 2) (one_good s (Up 0) (coverage s) (coverage_fault s) (λ at f. coverage_up s at (part_sound at (coverage_sound s at) none f).0) 2 0 (header_good s good k slot fault_at h).1).0
+    covered_up (reach (coverage s) s 0 2) (one_good s (Up 0) (coverage s) (coverage_fault s) (λ at f. coverage_up s at (part_sound at (coverage_sound s at) None f).0) 2 0 (header_good s good k slot fault_at h).1).0
 
 -- contents by their tables
 by_glyph_sorted : (chained : Bool) (cover : Option (List ℕ)) (sets : List (Option (List Rule))) → Up 0 (covered cover) → Sorted (content (Table.by_glyph chained cover sets))
@@ -120,17 +120,17 @@ pairs_sorted cover f1 f2 sets h k = (
 
 no_pairs : Beside SortedPairs []
 unfolding beside
-no_pairs k a e = absurd (none-ne-some _ e)
+no_pairs k a e = absurd (none-some _ e)
 
 class_pairs_sorted : (cover : Option (List ℕ)) (b a : Option (List (ℕ × ℕ))) (f1 f2 n : ℕ) (rows : List (List Pair)) → Sorted (content (Table.class_pairs cover b a f1 f2 n rows))
 unfolding content glyphs_of
 class_pairs_sorted cover b a f1 f2 n rows = (tt, no_pairs)
 
-choose : (b : Bool) (p q : Option ℕ) (t u : Table) → (p ≡ none → Sorted (content t)) → (q ≡ none → Sorted (content u)) → cond b p q ≡ none → Sorted (content (cond b t u))
+choose : (b : Bool) (p q : Option ℕ) (t u : Table) → (p ≡ None → Sorted (content t)) → (q ≡ None → Sorted (content u)) → cond b p q ≡ None → Sorted (content (cond b t u))
 choose true p q t u f k h = f h
 choose false p q t u f k h = k h
 
-context_sorted : (chained : Bool) (s : List ℕ) → context_fault chained s ≡ none → Sorted (content (context chained s))
+context_sorted : (chained : Bool) (s : List ℕ) → context_fault chained s ≡ None → Sorted (content (context chained s))
 unfolding context context_fault class_context cover_context
 context_sorted false s h =
     choose (eqb (word s 0) 1) _ _ _ _ (λ q. by_glyph_sorted false _ _ (header_up s _ 0 4 _ q))
@@ -140,7 +140,7 @@ context_sorted true s h =
     (choose (eqb (word s 0) 2) _ _ _ _ (λ q. by_class_sorted true _ _ _ _ _ (header_up s _ 3 10 _ q)) (λ q. by_cover_sorted true _ _ _ _)) h
 
 pair_table_sorted : (s : List ℕ) (good : Bool) → let a = field_count (word s 4) in let b = field_count (word s 6) in
-    header_fault good 0 8 (pair_set_fault a b s) s ≡ none → Sorted (content (Table.pairs_of (reach (coverage s) s 0 2) (word s 4) (word s 6) (reaches (pair_set a b s) s 0 10 (word s 8))))
+    header_fault good 0 8 (pair_set_fault a b s) s ≡ None → Sorted (content (Table.pairs_of (reach (coverage s) s 0 2) (word s 4) (word s 6) (reaches (pair_set a b s) s 0 10 (word s 8))))
 pair_table_sorted s good h =
     let a = field_count (word s 4) in
     let b = field_count (word s 6) in
@@ -149,7 +149,7 @@ pair_table_sorted s good h =
     (header_good s good 0 8 (pair_set_fault a b s) h).3)
 
 -- a pair table by its format: by class it has no content here
-pair_sorted : (s : List ℕ) → pair_fault s ≡ none → Sorted (content (pair_table s))
+pair_sorted : (s : List ℕ) → pair_fault s ≡ None → Sorted (content (pair_table s))
 unfolding pair_fault pair_table
 pair_sorted s h = choose (eqb (word s 0) 1) _ _ _ _ (pair_table_sorted s _) (λ q. class_pairs_sorted _ _ _ _ _ _ _) h
 
@@ -162,7 +162,7 @@ single_sorted s = go (eqb (word s 0) 1)
     go false = (tt, no_pairs)
 
 -- The content of a source without a fault is sorted.
-pub sound_sorted : (kind : ℕ) (s : List ℕ) → fault kind s ≡ none → Sorted (content (table kind s))
+pub sound_sorted : (kind : ℕ) (s : List ℕ) → fault kind s ≡ None → Sorted (content (table kind s))
 unfolding table
 sound_sorted kind s h =
     choose (eqb kind 1) _ _ _ _ (context_sorted false s)

@@ -1,8 +1,8 @@
 -- The content of a source without a fault is of words, and so is a list of differences.
-use Rattle.std.specs.Prelude.{ℕ, zero, suc, ◌+◌, ◌≤◌, ◌≡◌, Bool, length}
+use Rattle.std.specs.Prelude.{ℕ, zero, suc, ◌+◌, ◌≤◌, ◌≡◌, Bool, length, Option, None, Some}
 use Rattle.std.proofs.Math.Path.{refl}
 use Rattle.std.proofs.Math.Bool.{true, false, cond}
-use Rattle.std.proofs.Math.Option.{Option, none, some, some-injective, none-ne-some}
+use Rattle.std.proofs.lemmas.Option.{same_Some, none-some}
 use mathlib.Core.List.{List, [], ◌∷◌, ◌++◌, map}
 use Rattle.std.proofs.Common.{arith}
 use Rattle.std.proofs.Math.ListN.{get_or}
@@ -27,51 +27,51 @@ use Rattle.difference_laws.specs.Small.{SmallBeside, Few, Small}
 -- what a set holds, where it holds something good or nothing
 held : {A B : Type 0} (say : A → B) (P : List B → Type 0) (Q : List A → Type 0) → P [] → ((xs : List A) → Q xs → P (map say xs)) → (s : Option (List A)) → Opt Q s → P (map say (set_holds s))
 unfolding set_holds
-held say P Q p f none q = p
-held say P Q p f (some xs) q = f xs q
+held say P Q p f None q = p
+held say P Q p f (Some xs) q = f xs q
 
 module _ {A B : Type 0} (say : A → B) (P : List B → Type 0) (Q : List A → Type 0) (p : P []) (f : (xs : List A) → Q xs → P (map say xs)) where
   index_small : (cov : List ℕ) (sets : List (Option (List A))) → All Word cov → All (Opt Q) sets → SmallBeside P (by_index say cov sets)
   unfolding by_index beside
-  index_small [] sets w h k a e = absurd (none-ne-some _ e)
+  index_small [] sets w h k a e = absurd (none-some _ e)
   index_small (g ∷ cov) [] w h k a e = step (eqb g k) refl e (index_small cov [] w.1 h k a)
     where
-      step : (b : Bool) → eqb g k ≡ b → cond b (some []) (beside (by_index say cov []) k) ≡ some a → (beside (by_index say cov []) k ≡ some a → Word k × P a) → Word k × P a
-      step true z q r = (rw (← eqb-true g k z) w.0, rw (← some-injective [] a q) p)
+      step : (b : Bool) → eqb g k ≡ b → cond b (Some []) (beside (by_index say cov []) k) ≡ Some a → (beside (by_index say cov []) k ≡ Some a → Word k × P a) → Word k × P a
+      step true z q r = (rw (← eqb-true g k z) w.0, rw (← same_Some [] a q) p)
       step false z q r = r q
   index_small (g ∷ cov) (s ∷ sets) w h k a e = step (eqb g k) refl e (index_small cov sets w.1 h.1 k a)
     where
-      step : (b : Bool) → eqb g k ≡ b → cond b (some (map say (set_holds s))) (beside (by_index say cov sets) k) ≡ some a → (beside (by_index say cov sets) k ≡ some a → Word k × P a) → Word k × P a
-      step true z q r = (rw (← eqb-true g k z) w.0, rw (← some-injective (map say (set_holds s)) a q) (held say P Q p f s h.0))
+      step : (b : Bool) → eqb g k ≡ b → cond b (Some (map say (set_holds s))) (beside (by_index say cov sets) k) ≡ Some a → (beside (by_index say cov sets) k ≡ Some a → Word k × P a) → Word k × P a
+      step true z q r = (rw (← eqb-true g k z) w.0, rw (← same_Some (map say (set_holds s)) a q) (held say P Q p f s h.0))
       step false z q r = r q
 
   -- the set at any place
-  at_place_lem : (sets : List (Option (List A))) → All (Opt Q) sets → (i : ℕ) → Opt Q (get_or sets i none)
+  at_place_lem : (sets : List (Option (List A))) → All (Opt Q) sets → (i : ℕ) → Opt Q (get_or sets i None)
   at_place_lem [] h i = tt
   at_place_lem (s ∷ sets) h zero = h.0
   at_place_lem (s ∷ sets) h (suc i) = at_place_lem sets h.1 i
 
   class_small : (cs : Option (List (ℕ × ℕ))) (cov : List ℕ) (sets : List (Option (List A))) → All Word cov → All (Opt Q) sets → SmallBeside P (by_each_class say cs cov sets)
   unfolding by_each_class beside bind
-  class_small cs [] sets w h k a e = absurd (none-ne-some _ e)
+  class_small cs [] sets w h k a e = absurd (none-some _ e)
   class_small cs (g ∷ cov) sets w h k a e = step (eqb g k) refl e (class_small cs cov sets w.1 h k a)
     where
-      chosen : (o : Option (List (ℕ × ℕ))) → Opt Q (bind o (λ t. get_or sets (class_of t g) none))
-      chosen none = tt
-      chosen (some t) = at_place_lem sets h (class_of t g)
+      chosen : (o : Option (List (ℕ × ℕ))) → Opt Q (bind o (λ t. get_or sets (class_of t g) None))
+      chosen None = tt
+      chosen (Some t) = at_place_lem sets h (class_of t g)
 
-      step : (b : Bool) → eqb g k ≡ b → cond b (some (map say (set_holds (bind cs (λ t. get_or sets (class_of t g) none))))) (beside (by_each_class say cs cov sets) k) ≡ some a
-          → (beside (by_each_class say cs cov sets) k ≡ some a → Word k × P a) → Word k × P a
+      step : (b : Bool) → eqb g k ≡ b → cond b (Some (map say (set_holds (bind cs (λ t. get_or sets (class_of t g) None))))) (beside (by_each_class say cs cov sets) k) ≡ Some a
+          → (beside (by_each_class say cs cov sets) k ≡ Some a → Word k × P a) → Word k × P a
       step true z q r = (
         rw (← eqb-true g k z) w.0,
-        rw (← some-injective (map say (set_holds (bind cs (λ t. get_or sets (class_of t g) none)))) a q) (held say P Q p f (bind cs (λ t. get_or sets (class_of t g) none)) (chosen cs)),
+        rw (← same_Some (map say (set_holds (bind cs (λ t. get_or sets (class_of t g) None)))) a q) (held say P Q p f (bind cs (λ t. get_or sets (class_of t g) None)) (chosen cs)),
       )
       step false z q r = r q
 
 covered_words : (cover : Option (List ℕ)) → Opt Glyphs cover → All Word (covered cover)
 unfolding covered
-covered_words none h = tt
-covered_words (some cov) h = h.1
+covered_words None h = tt
+covered_words (Some cov) h = h.1
 
 -- said members are as many
 few_said : {A B : Type 0} (say : A → B) (xs : List A) → Few xs → Few (map say xs)
@@ -101,14 +101,14 @@ pair_words f1 f2 a b p h =
 
 pairs_words : (f1 f2 a b : ℕ) (ps : List Pair) → All (GoodPair a b) ps → SmallBeside (All Word) (map (pair_says f1 f2) ps)
 unfolding beside pair_says
-pairs_words f1 f2 a b [] h k v e = absurd (none-ne-some _ e)
+pairs_words f1 f2 a b [] h k v e = absurd (none-some _ e)
 pairs_words f1 f2 a b (p ∷ ps) h k v e = step (eqb p.second k) refl e (pairs_words f1 f2 a b ps h.1 k v)
   where
     vs : List ℕ
     vs = four_values f1 p.first_values ++ four_values f2 p.second_values
 
-    step : (t : Bool) → eqb p.second k ≡ t → cond t (some vs) (beside (map (pair_says f1 f2) ps) k) ≡ some v → (beside (map (pair_says f1 f2) ps) k ≡ some v → Word k × All Word v) → Word k × All Word v
-    step true z q r = (rw (← eqb-true p.second k z) h.0.second, rw (← some-injective vs v q) (pair_words f1 f2 a b p h.0))
+    step : (t : Bool) → eqb p.second k ≡ t → cond t (Some vs) (beside (map (pair_says f1 f2) ps) k) ≡ Some v → (beside (map (pair_says f1 f2) ps) k ≡ Some v → Word k × All Word v) → Word k × All Word v
+    step true z q r = (rw (← eqb-true p.second k z) h.0.second, rw (← same_Some vs v q) (pair_words f1 f2 a b p h.0))
     step false z q r = r q
 
 -- Tables.
@@ -126,7 +126,7 @@ FewSets (Table.single_list cover subs) = Unit {0}
 
 no_pairs : {A : Type 0} (P : A → Type 0) → SmallBeside P []
 unfolding beside
-no_pairs P k a e = absurd (none-ne-some _ e)
+no_pairs P k a e = absurd (none-some _ e)
 
 table_small : (t : Table) → Good t → FewSets t → Small (content t)
 unfolding content
@@ -149,7 +149,7 @@ unfolding reaches reach
 reached_all P read k s base slot zero = tt
 reached_all P read k s base slot (suc n) = (step (eqb (word s slot) 0), reached_all P read k s base (slot + 2) n)
   where
-    step : (t : Bool) → Opt P (cond t none (some (read (base + word s slot))))
+    step : (t : Bool) → Opt P (cond t None (Some (read (base + word s slot))))
     step true = tt
     step false = k (base + word s slot)
 
@@ -159,8 +159,8 @@ dropped_few read s base slot zero = omega arith
 dropped_few read s base slot (suc n) = step (reach read s base slot) (dropped_few read s base (slot + 2) n)
   where
     step : (o : Option _) → length (drop_null (reaches read s base (slot + 2) n)) ≤ n → length (drop_null (o ∷ reaches read s base (slot + 2) n)) ≤ suc n
-    step none h = omega arith
-    step (some a) h = omega arith
+    step None h = omega arith
+    step (Some a) h = omega arith
 
 module _ (s : List ℕ) (bytes : Bytes s) where
   word_few : (at : ℕ) → word s at ≤ 65536
@@ -200,5 +200,5 @@ module _ (s : List ℕ) (bytes : Bytes s) where
       (few_cond (eqb kind 3) _ _ (reached_all Few (ligature_set s) ligatures_few s 0 6 (word s 4)) (few_cond (eqb kind 4) _ _ pairs_few single_few)))
 
   -- The content of a source without a fault is of words.
-  pub sound_small : (kind : ℕ) → good_kind kind ≡ true → fault kind s ≡ none → Small (content (table kind s))
+  pub sound_small : (kind : ℕ) → good_kind kind ≡ true → fault kind s ≡ None → Small (content (table kind s))
   sound_small kind k h = table_small (table kind s) (sound_good s bytes kind k h).0 (table_few kind)

@@ -1,10 +1,10 @@
 -- The walks: which keys are gone through, what an empty list says of each, and lists that are told by what stands beside each key or rank.
 use Prim.Native.Nat.{ℕ, zero, suc, ◌+◌, ◌≤◌, ◌<◌}
-use Rattle.std.specs.Prelude.{◌≡◌, Bool, ◌||◌, length, leb, ltb, eqb}
+use Rattle.std.specs.Prelude.{◌≡◌, Bool, ◌||◌, length, leb, ltb, eqb, None, Some}
 use Rattle.std.proofs.Math.Path.{refl, sym, ap₂}
 use Rattle.std.proofs.Common.{ap, ◌∙◌, true≢false, eqb-true, eq-eqb, ne_eqb, leb-true, leb-false, ltb-true, ltb-false}
 use Rattle.std.proofs.Math.Bool.{true, false, cond}
-use Rattle.std.proofs.Math.Option.{none, some, some-injective, none-ne-some}
+use Rattle.std.proofs.lemmas.Option.{same_Some, none-some}
 use mathlib.Core.List.{List, [], ◌∷◌, ◌++◌}
 use native.Mathlib.Omega.{arith}
 use Rattle.std.proofs.lemmas.Bool.{eqb-false}
@@ -64,27 +64,27 @@ module _ {A : Type 0} where
   keys_up (e ∷ l) r = insert_up_lem 0 e.0 (keys_of l r) (omega arith) (keys_up l r)
 
   -- a key of either list is one of them
-  pub keys_right : (l r : List (ℕ × A)) (k : ℕ) (a : A) → beside r k ≡ some a → member k (keys_of l r) ≡ true
+  pub keys_right : (l r : List (ℕ × A)) (k : ℕ) (a : A) → beside r k ≡ Some a → member k (keys_of l r) ≡ true
   unfolding keys_of beside
-  keys_right [] [] k a h = absurd (none-ne-some _ h)
+  keys_right [] [] k a h = absurd (none-some _ h)
   keys_right [] (e ∷ r) k a h = insert_member e.0 (keys_of [] r) k ∙ step (eqb e.0 k) h (keys_right [] r k a)
     where
-      step : (b : Bool) → cond b (some e.1) (beside r k) ≡ some a → (beside r k ≡ some a → member k (keys_of [] r) ≡ true) → b || member k (keys_of [] r) ≡ true
+      step : (b : Bool) → cond b (Some e.1) (beside r k) ≡ Some a → (beside r k ≡ Some a → member k (keys_of [] r) ≡ true) → b || member k (keys_of [] r) ≡ true
       step true q f = refl
       step false q f = f q
   keys_right (e ∷ l) r k a h = insert_member e.0 (keys_of l r) k ∙ or_right (eqb e.0 k) _ (keys_right l r k a h)
 
-  pub keys_left : (l r : List (ℕ × A)) (k : ℕ) (a : A) → beside l k ≡ some a → member k (keys_of l r) ≡ true
+  pub keys_left : (l r : List (ℕ × A)) (k : ℕ) (a : A) → beside l k ≡ Some a → member k (keys_of l r) ≡ true
   unfolding keys_of beside
-  keys_left [] r k a h = absurd (none-ne-some _ h)
+  keys_left [] r k a h = absurd (none-some _ h)
   keys_left (e ∷ l) r k a h = insert_member e.0 (keys_of l r) k ∙ step (eqb e.0 k) h (keys_left l r k a)
     where
-      step : (b : Bool) → cond b (some e.1) (beside l k) ≡ some a → (beside l k ≡ some a → member k (keys_of l r) ≡ true) → b || member k (keys_of l r) ≡ true
+      step : (b : Bool) → cond b (Some e.1) (beside l k) ≡ Some a → (beside l k ≡ Some a → member k (keys_of l r) ≡ true) → b || member k (keys_of l r) ≡ true
       step true q f = refl
       step false q f = f q
 
   -- below the first key nothing stands
-  pub beside_low : (low : ℕ) (l : List (ℕ × A)) (k : ℕ) → Up low (glyphs_of l) → k < low → beside l k ≡ none
+  pub beside_low : (low : ℕ) (l : List (ℕ × A)) (k : ℕ) → Up low (glyphs_of l) → k < low → beside l k ≡ None
   unfolding beside glyphs_of
   beside_low low [] k u h = refl
   beside_low low (e ∷ l) k u h = rw (ne_eqb e.0 k (λ q. omega (arith, u.0))) (beside_low (e.0 + 1) l k u.1 (omega (arith, u.0)))
@@ -93,22 +93,22 @@ module _ {A : Type 0} where
   pub beside_tells : (low : ℕ) (l r : List (ℕ × A)) → Up low (glyphs_of l) → Up low (glyphs_of r) → ((k : ℕ) → beside l k ≡ beside r k) → l ≡ r
   unfolding beside glyphs_of
   beside_tells low [] [] u v h = refl
-  beside_tells low [] (e ∷ r) u v h = absurd (none-ne-some e.1 (h e.0 ∙ rw (eq-eqb e.0 e.0 refl)))
-  beside_tells low (e ∷ l) [] u v h = absurd (none-ne-some e.1 (sym (h e.0) ∙ rw (eq-eqb e.0 e.0 refl)))
+  beside_tells low [] (e ∷ r) u v h = absurd (none-some e.1 (h e.0 ∙ rw (eq-eqb e.0 e.0 refl)))
+  beside_tells low (e ∷ l) [] u v h = absurd (none-some e.1 (sym (h e.0) ∙ rw (eq-eqb e.0 e.0 refl)))
   beside_tells low (e ∷ l) (f ∷ r) u v h = step (ltb e.0 f.0) (ltb f.0 e.0) refl refl (λ q. beside_tells (e.0 + 1) l r u.1 (rw (← q) at v.1))
     where
-      at_e : some e.1 ≡ beside (f ∷ r) e.0
+      at_e : Some e.1 ≡ beside (f ∷ r) e.0
       at_e = sym (rw (eq-eqb e.0 e.0 refl)) ∙ h e.0
 
-      at_f : beside (e ∷ l) f.0 ≡ some f.1
+      at_f : beside (e ∷ l) f.0 ≡ Some f.1
       at_f = h f.0 ∙ rw (eq-eqb f.0 f.0 refl)
 
       step : (s t : Bool) → ltb e.0 f.0 ≡ s → ltb f.0 e.0 ≡ t → (e.0 ≡ f.0 → ((k : ℕ) → beside l k ≡ beside r k) → l ≡ r) → e ∷ l ≡ f ∷ r
-      step true t a b k = absurd (none-ne-some e.1 (sym (beside_low (e.0 + 1) (f ∷ r) e.0 (omega (arith, ltb-true e.0 f.0 a), v.1) (omega arith)) ∙ sym at_e))
-      step false true a b k = absurd (none-ne-some f.1 (sym (beside_low (f.0 + 1) (e ∷ l) f.0 (omega (arith, ltb-true f.0 e.0 b), u.1) (omega arith)) ∙ at_f))
+      step true t a b k = absurd (none-some e.1 (sym (beside_low (e.0 + 1) (f ∷ r) e.0 (omega (arith, ltb-true e.0 f.0 a), v.1) (omega arith)) ∙ sym at_e))
+      step false true a b k = absurd (none-some f.1 (sym (beside_low (f.0 + 1) (e ∷ l) f.0 (omega (arith, ltb-true f.0 e.0 b), u.1) (omega arith)) ∙ at_f))
       step false false a b k =
           let q : e.0 ≡ f.0 = omega (arith, ltb-false e.0 f.0 a, ltb-false f.0 e.0 b) in
-          let value : e.1 ≡ f.1 = some-injective e.1 f.1 (at_e ∙ rw (eq-eqb f.0 e.0 (sym q))) in
+          let value : e.1 ≡ f.1 = same_Some e.1 f.1 (at_e ∙ rw (eq-eqb f.0 e.0 (sym q))) in
           ap₂ (λ (x : ℕ × A) (y : List (ℕ × A)). x ∷ y) (ap₂ (λ (x : ℕ) (y : A). (x, y)) q value) (k q (λ j. rest q j (eqb e.0 j) refl))
         where
           rest : e.0 ≡ f.0 → (j : ℕ) (b : Bool) → eqb e.0 j ≡ b → beside l j ≡ beside r j
@@ -177,9 +177,9 @@ longer_right m n i h = go (leb m n) refl
 
 module _ {A : Type 0} where
   -- a rank that is held is below the length
-  pub ranked_in : (l : List A) (i : ℕ) (x : A) → ranked l i ≡ some x → i < length l
+  pub ranked_in : (l : List A) (i : ℕ) (x : A) → ranked l i ≡ Some x → i < length l
   unfolding ranked
-  ranked_in [] i x h = absurd (none-ne-some _ h)
+  ranked_in [] i x h = absurd (none-some _ h)
   ranked_in (a ∷ l) zero x h = omega arith
   ranked_in (a ∷ l) (suc i) x h = omega (arith, ranked_in l i x h)
 
@@ -187,6 +187,6 @@ module _ {A : Type 0} where
   pub ranked_tells : (l r : List A) → ((i : ℕ) → ranked l i ≡ ranked r i) → l ≡ r
   unfolding ranked
   ranked_tells [] [] h = refl
-  ranked_tells [] (b ∷ r) h = absurd (none-ne-some b (h 0))
-  ranked_tells (a ∷ l) [] h = absurd (none-ne-some a (sym (h 0)))
-  ranked_tells (a ∷ l) (b ∷ r) h = ap₂ (λ (x : A) (y : List A). x ∷ y) (some-injective a b (h 0)) (ranked_tells l r (λ i. h (suc i)))
+  ranked_tells [] (b ∷ r) h = absurd (none-some b (h 0))
+  ranked_tells (a ∷ l) [] h = absurd (none-some a (sym (h 0)))
+  ranked_tells (a ∷ l) (b ∷ r) h = ap₂ (λ (x : A) (y : List A). x ∷ y) (same_Some a b (h 0)) (ranked_tells l r (λ i. h (suc i)))

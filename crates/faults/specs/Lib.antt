@@ -1,3 +1,2 @@
-pub mod Fault
 pub mod Low
 pub mod Reached

@@ -1,22 +1,18 @@
 -- What a fault that was found says of the parts that are still to be checked: none has a fault before its own start, so that what starts at that place or after it has no lower one.
-use Rattle.std.specs.Prelude.{ℕ, ◌≤◌, ◌≡◌, refl, Bool, true, false, cond, List, leb}
+use Rattle.std.specs.Prelude.{ℕ, ◌≤◌, ◌≡◌, refl, Bool, true, false, cond, List, leb, Option, None, Some, unwrap_or}
 use Rattle.std.proofs.Common.{sym, true≢false, arith, leb-true, le-leb}
-use Rattle.std.proofs.Math.Option.{Option, none, some, get_or}
 use Rattle.meaning.specs.Fault.{lowest, part_fault, rule_sound, rule_fault, ligature_fault}
-use Rattle.faults.specs.Fault.{fault_of, place_of}
-use Rattle.faults.specs.declared.Fault.{Fault}
-use Rattle.faults.specs.declared.Fault.TheVariants.{At, Sound}
 
 -- a fault was found at a place or before it
-abbrev pub found_before : Fault → ℕ → Bool
-found_before (At p) at = leb p at
-found_before Sound at = false
+abbrev pub found_before : Option ℕ → ℕ → Bool
+found_before (Some p) at = leb p at
+found_before None at = false
 
 -- a place, where there is one, is `at` or after it
 pub record From (at : ℕ) (o : Option ℕ) : Type 0 where
-  pub least : at ≤ get_or o at
+  pub least : at ≤ unwrap_or o at
 
-pub from_none : (at : ℕ) → From at none
+pub from_none : (at : ℕ) → From at None
 from_none at = record { least = omega arith }
 
 pub from_cond : (at : ℕ) (t : Bool) {o p : Option ℕ} → From at o → From at p → From at (cond t o p)
@@ -38,8 +34,8 @@ unfolding ligature_fault
 from_ligature s at = from_part at _ (from_none at)
 
 -- a fault that was found at a part's start or before it stays the lowest
-pub none_lower : (low : Fault) (at : ℕ) (o : Option ℕ) → From at o → found_before low at ≡ true → low ≡ fault_of (lowest (place_of low) o)
+pub none_lower : (low : Option ℕ) (at : ℕ) (o : Option ℕ) → From at o → found_before low at ≡ true → low ≡ lowest low o
 unfolding lowest
-none_lower Sound at o k h = absurd (true≢false (sym h))
-none_lower (At p) at none k h = refl
-none_lower (At p) at (some q) k h = rw (le-leb p q (omega (arith, leb-true p at h, k.least))) refl
+none_lower None at o k h = absurd (true≢false (sym h))
+none_lower (Some p) at None k h = refl
+none_lower (Some p) at (Some q) k h = rw (le-leb p q (omega (arith, leb-true p at h, k.least)))

@@ -1,40 +1,25 @@
-// What a check answers, and the lower of two answers.
+// Where a check finds a fault, if it does: the lower of two, and whether one was found before a part starts.
 #![tactic(auto)]
 
 ghost use Rattle.std.specs.Prelude.{◌≡◌, ◌<◌};
 ghost use Rattle.meaning.specs.Fault.{lowest};
-ghost use Rattle.faults.specs.Fault.{fault_of, place_of};
 ghost use Rattle.faults.specs.Low.{found_before};
 
-// What a check answers: where the first faulty part starts, or that all is sound.
-#[derive(Clone, Copy)]
-pub enum Fault {
-    At(usize),
-    Sound,
-}
-
 // Whether a fault was found at `at` or before it. No part has one before its own start, so what starts at `at` has none that is lower.
-pub fn found_before(low: Fault, at: usize) -> bool
+pub fn found_before(low: Option<usize>, at: usize) -> bool
     ensures { result ≡ found_before low at }
 {
-    match low {
-        Fault::At(place) => place <= at,
-        Fault::Sound => false,
-    }
+    low.is_some_and(|place| place <= at)
 }
 
 // The lower of two faults, where there is one.
-pub fn lowest(a: Fault, b: Fault) -> Fault
-    ensures { result ≡ fault_of (lowest (place_of a) (place_of b)) }
+#[tactic(auto, unfolding(meaning::specs::Fault::lowest))]
+pub fn lowest(a: Option<usize>, b: Option<usize>) -> Option<usize>
+    ensures { result ≡ lowest a b }
 {
-    let Fault::At(p) = a else {
-        return b;
-    };
-    let Fault::At(q) = b else {
-        return Fault::At(p);
-    };
-    if p <= q {
-        return Fault::At(p);
+    match (a, b) {
+        (None, q) => q,
+        (p, None) => p,
+        (Some(p), Some(q)) => Some(p.min(q)),
     }
-    Fault::At(q)
 }

@@ -1,10 +1,9 @@
 -- The fields that are used: whether some surviving pair of the sets that notes name has a value at a place that is not 0.
 use Prim.Native.Nat.{ℕ, zero, suc, ◌+◌, ◌*◌, ◌≤◌, ◌<◌}
-use Rattle.std.specs.Prelude.{◌≡◌, Bool, ◌||◌, length, eqb}
+use Rattle.std.specs.Prelude.{◌≡◌, Bool, ◌||◌, length, eqb, Option, None, Some}
 use Rattle.std.proofs.Math.Path.{refl, sym}
 use Rattle.std.proofs.Common.{ap, ◌∙◌}
 use Rattle.std.proofs.Math.Bool.{true, false, cond}
-use Rattle.std.proofs.Math.Option.{Option, none, some}
 use mathlib.Core.List.{List, [], ◌∷◌}
 use Rattle.std.proofs.Math.Nat.{zero-add}
 use native.Mathlib.Omega.{arith}
@@ -68,19 +67,19 @@ module _ {g h : List (ℕ × ℕ)} (e : Alike g h) (s : List ℕ) (size place : 
 module _ (g : List (ℕ × ℕ)) (s : List ℕ) (size place a b : ℕ) (get : Pair → List ℕ) (f k : ℕ)
     (one : (m : ℕ) (r : List (ℕ × List Pair)) (at : ℕ) → used get f k ((m, map_some (cut_pair g) (pair_set a b s at)) ∷ r) ≡ field_used g s size place (at + 2) (word s at) || used get f k r) where
   -- a set of which nothing is left uses nothing
-  used_push : (x : ℕ) (ps : List Pair) (r : List (ℕ × List Pair)) → used get f k (push (bind (unless_empty ps) (λ y. some (x, y))) r) ≡ used get f k ((x, ps) ∷ r)
+  used_push : (x : ℕ) (ps : List Pair) (r : List (ℕ × List Pair)) → used get f k (push (bind (unless_empty ps) (λ y. Some (x, y))) r) ≡ used get f k ((x, ps) ∷ r)
   unfolding used push bind unless_empty
   used_push x [] r = refl
   used_push x (p ∷ ps) r = refl
 
   -- one set, and the kept ones behind it
   used_one : (at x : ℕ) (u : Bool) (r : List (ℕ × List Pair)) → u ≡ used get f k r
-      → set_uses g s size place at || u ≡ used get f k (push (bind (cond (eqb at 0) none (some (pair_set a b s (0 + at)))) (λ ps. bind (cut_pairs g ps) (λ y. some (x, y)))) r)
+      → set_uses g s size place at || u ≡ used get f k (push (bind (cond (eqb at 0) None (Some (pair_set a b s (0 + at)))) (λ ps. bind (cut_pairs g ps) (λ y. Some (x, y)))) r)
   unfolding set_uses cut_pairs bind push
   used_one at x u r e = step (eqb at 0)
     where
       step : (z : Bool) → cond z false (field_used g s size place (at + 2) (word s at)) || u
-          ≡ used get f k (push (bind (cond z none (some (pair_set a b s (0 + at)))) (λ ps. bind (unless_empty (map_some (cut_pair g) ps)) (λ y. some (x, y)))) r)
+          ≡ used get f k (push (bind (cond z None (Some (pair_set a b s (0 + at)))) (λ ps. bind (unless_empty (map_some (cut_pair g) ps)) (λ y. Some (x, y)))) r)
       step true = e
       step false =
           rw zero-add (ap (λ (v : Bool). field_used g s size place (at + 2) (word s at) || v) e ∙ sym (one x r at) ∙ sym (used_push x (map_some (cut_pair g) (pair_set a b s at)) r))
@@ -95,7 +94,7 @@ module _ (g : List (ℕ × ℕ)) (s : List ℕ) (size place a b : ℕ) (get : Pa
       step (find g c) (rw e at (used_met (i + 1) cov n (omega arith)))
     where
       step : (o : Option ℕ) → used_in g s size place (met (find g) (i + 1) cov) ≡ used get f k (kept_sets (cut_pairs g) g cov (reaches (pair_set a b s) s 0 (10 + 2 * i + 2) n))
-          → used_in g s size place (push (bind o (λ x. some (i, x))) (met (find g) (i + 1) cov))
-          ≡ used get f k (push (bind o (λ x. bind (reach (pair_set a b s) s 0 (10 + 2 * i)) (λ ps. bind (cut_pairs g ps) (λ y. some (x, y))))) (kept_sets (cut_pairs g) g cov (reaches (pair_set a b s) s 0 (10 + 2 * i + 2) n)))
-      step none r = r
-      step (some x) r = used_one (word s (10 + 2 * i)) x _ _ r
+          → used_in g s size place (push (bind o (λ x. Some (i, x))) (met (find g) (i + 1) cov))
+          ≡ used get f k (push (bind o (λ x. bind (reach (pair_set a b s) s 0 (10 + 2 * i)) (λ ps. bind (cut_pairs g ps) (λ y. Some (x, y))))) (kept_sets (cut_pairs g) g cov (reaches (pair_set a b s) s 0 (10 + 2 * i + 2) n)))
+      step None r = r
+      step (Some x) r = used_one (word s (10 + 2 * i)) x _ _ r

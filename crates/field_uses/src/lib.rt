@@ -35,14 +35,12 @@ fn uses(src: &[u8], size: usize, place: usize, t: &[u32], at: usize, n: usize, g
     if place == 0 {
         return false;
     }
-    let mut i = 0;
-    'notes: while i < n {
+    'notes: for i in 0..n {
         let note = t[at + i];
         let off = word_inside(src, 10 + 2 * (note as usize / 65536));
         if set_uses(src, off, size, place, t, glyphs) {
             return true;
         }
-        i += 1;
     }
     false
 }

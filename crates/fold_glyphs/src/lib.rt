@@ -22,10 +22,8 @@ fn spread_runs(list: &[u8], t: &mut [u32], at: usize) -> Map
     }
     let m = Map { at, mask: 65535 };
     clear(t, m);
-    let mut k = 0;
-    while k < list.len() / 6 {
+    for k in 0..list.len() / 6 {
         spread_run(list, k, t, m);
-        k += 1;
     }
     m
 }
@@ -42,10 +40,8 @@ fn lay_runs(list: &[u8], t: &mut [u32], at: usize) -> Map
     if t.len() <= at + 4 * n + 2 {
         return Map { at, mask: 0 };
     }
-    let mut k = 0;
-    while k < n {
+    for k in 0..n {
         lay_run(list, k, t, at + 2 * (k + 1));
-        k += 1;
     }
     Map {
         at,

@@ -1,8 +1,8 @@
 -- The ways through the loops that lay a map.
-use Prim.Native.Nat.{ℕ, zero, suc, ◌+◌, ◌-◌, ◌*◌, ◌/◌, ◌≤◌, ◌<◌}
+use Prim.Native.Nat.{ℕ, zero, suc, ◌+◌, ◌-◌, ◌*◌, ◌/◌, ◌^◌, ◌≤◌, ◌<◌, max}
 use mathlib.Core.Path.{◌≡◌, refl, sym, ap, ◌∙◌}
 use mathlib.Core.Bool.{Bool, true, false, not, true≢false}
-use mathlib.Core.Option.{none}
+use Rattle.std.specs.Prelude.{None}
 use mathlib.Core.List.{List, [], ◌∷◌, ◌++◌}
 use native.Mathlib.Decide.{dec_lt}
 use native.Mathlib.Nat.{zero-add}
@@ -12,53 +12,26 @@ use lib.ListN.{length, get_or, set, take, length-set}
 use lib.Seq.{get_or-set_same, get_or-set_other, take-suc, take_all, get_or-take, length-take-le}
 use lib.Bits.{bit_and}
 use borrow.Author.Tests.{eq-eqb, ne_eqb}
+use Rattle.std.proofs.Common.{pow-suc}
 use Rattle.meaning.specs.Words.{find, word, ascends, keys}
 use Rattle.meaning.specs.Maps.{map_entries}
 use Rattle.laws.specs.Left.{entries_length, entries_at}
 use Rattle.laws.specs.Ascends.{ascends_rise, find_none, map_length, map_key}
+use Rattle.cells.specs.Filled.{Filled}
 use Rattle.cell_maps.specs.Cells.{cell_of, cell_at, Inside, Odd, Holds, Kept, kept_all, kept_more, kept_set, holds_none}
 use Rattle.cell_maps.specs.Laid.{Power, power_twice, power_near, power_even, Next, taken, Added, added_kept, added_holds, added_clash, LaidIn, Laid}
 use Rattle.cell_maps.specs.declared.Map.{Map}
 
--- What the loop of `clear` keeps: the cells from the first up to i hold 0, and those before are as before.
-pub record Clearing (t₀ t : List ℕ) (m : Map) (i : ℕ) : Type 0 where
-  pub inside : Inside t₀ m
-  pub odd : Odd m
-  pub from : m.at ≤ i
-  pub within : i ≤ m.at + m.mask + 1
-  pub kept : Kept m.at t₀ t
-  pub zeros : (j : ℕ) → m.at ≤ j → j < i → get_or t j 0 ≡ 0
-
-module _ {t₀ : List ℕ} {m : Map} where
-  pub clearing_all : Inside t₀ m × Odd m → Clearing t₀ t₀ m m.at
-  clearing_all k = record { inside = k.0; odd = k.1; from = omega arith; within = omega arith; kept = kept_all m.at t₀; zeros = λ j a b. absurd (omega arith) }
-
-  pub clearing_next : {t : List ℕ} {i : ℕ} → Clearing t₀ t m i → i < m.at + m.mask + 1 → Clearing t₀ (set t i 0) m (i + 1)
-  clearing_next {t} {i} c h = record {
-    inside = c.inside;
-    odd = c.odd;
-    from = omega (arith, c.from);
-    within = omega arith;
-    kept = kept_more c.kept (kept_set m.at t i 0 c.from);
-    zeros = λ j a b. step j a b (dec_lt j i);
-  }
-    where
-      step : (j : ℕ) → m.at ≤ j → j < i + 1 → Dec (j < i) → get_or (set t i 0) j 0 ≡ 0
-      step j a b (yes l) = get_or-set_other t i j 0 0 (λ e. omega arith) ∙ c.zeros j a l
-      step j a b (no l) =
-          let e : j ≡ i = omega arith in
-          rw e (get_or-set_same t i 0 0 (omega (arith, c.kept.size, c.inside.within)))
-
-  pub clearing_end : {t : List ℕ} {i : ℕ} → Clearing t₀ t m i → m.at + m.mask + 1 ≤ i
-      → Holds (set t m.at 65536) m [] × Kept m.at t₀ (set t m.at 65536)
-  clearing_end {t} {i} c h = (
-    holds_none
-        (record { within = omega (arith, length-set t m.at 65536, c.kept.size, c.inside.within) })
-        c.odd
-        (get_or-set_same t m.at 65536 0 (omega (arith, c.kept.size, c.inside.within)))
-        (λ j a b. get_or-set_other t m.at j 65536 0 (λ e. omega arith) ∙ c.zeros j (omega arith) (omega arith)),
-    kept_more c.kept (kept_set m.at t m.at 65536 (omega arith)),
-  )
+-- What `clear` leaves: the cells are filled with 0, and then the first one names a number that is not its own.
+pub cleared : {t₀ t : List ℕ} {m : Map} → Inside t₀ m × Odd m → Filled m.at (m.at + m.mask + 1) t₀ t → Holds (set t m.at 65536) m [] × Kept m.at t₀ (set t m.at 65536)
+cleared {t₀} {t} {m} k f = (
+  holds_none
+      (record { within = omega (arith, length-set t m.at 65536, f.size, k.0.within) })
+      k.1
+      (get_or-set_same t m.at 65536 0 (omega (arith, f.size, k.0.within)))
+      (λ j a b. get_or-set_other t m.at j 65536 0 (λ e. omega arith) ∙ f.blank j (omega arith) (omega arith)),
+  kept_more (record { size = f.size; same = f.before }) (kept_set m.at t m.at 65536 (omega arith)),
+)
 
 -- One entry more or none: what `add` answers.
 module _ {t : List ℕ} {m : Map} {old new : ℕ} (s : cell_at t m old < 4294967296) where
@@ -70,20 +43,19 @@ module _ {t : List ℕ} {m : Map} {old new : ℕ} (s : cell_at t m old < 4294967
   unfolding taken
   adds_one h = record { free = sym (ap not (ne_eqb _ _ h)); cells = refl; small = s }
 
--- What the loop of `power` keeps: a power that is not too large.
-pub record Doubling (n p : ℕ) : Type 0 where
-  pub two : Power p
-  pub least : 2 < p → p < 2 * n
-  pub few : n ≤ 65536 → p ≤ 65536
-
-pub doubling_two : (n : ℕ) → Doubling n 2
-doubling_two n = record { two = record { exponent = 0; power = refl }; least = λ h. absurd (omega arith); few = λ h. omega arith }
-
-pub doubling_next : {n p : ℕ} → Doubling n p → p < n → Doubling n (2 * p)
-doubling_next w h = record { two = power_twice w.two; least = λ l. omega arith; few = λ l. power_near w.two (omega arith) }
-
-pub doubling_end : {n p : ℕ} → Doubling n p → n ≤ p → Next n p
-doubling_end w h = record { two = w.two; enough = h; least = w.least; few = w.few }
+-- the least power of two that is the greater of n and 2, or more
+pub power_of : (n r k : ℕ) → r ≡ 2 ^ k → n ≤ r → 2 ≤ r → r / 2 < max n 2 → Next n r
+power_of n r zero e h g l = absurd (omega arith)
+power_of n r (suc zero) e h g l = record { two = record { exponent = 0; power = e }; enough = h; least = λ b. absurd (omega arith); few = λ b. omega arith }
+power_of n r (suc (suc k)) e h g l =
+    let w : Power (2 ^ suc k) = record { exponent = k; power = refl } in
+    let d : r ≡ 2 ^ suc k * 2 = e ∙ pow-suc 2 (suc k) in
+    record {
+      two = record { exponent = suc k; power = e };
+      enough = h;
+      least = λ b. omega (arith, d, power_even w);
+      few = λ b. omega (arith, d, power_near w (omega (arith, d)));
+    }
 
 -- A listed map's entries, as many as there are and one of them.
 entry_count : (m : List ℕ) → length (map_entries m) ≡ length m / 4
@@ -108,7 +80,7 @@ keys_take zero es = refl
 keys_take (suc i) [] = refl
 keys_take (suc i) (e ∷ es) = ap (λ (ks : List ℕ). e.0 ∷ ks) (keys_take i es)
 
-next_none : (m : List ℕ) (i : ℕ) {old : ℕ} → i < length m / 4 → old ≡ word m (4 * i) → ascends (keys (map_entries m)) ≡ true → find (take i (map_entries m)) old ≡ none
+next_none : (m : List ℕ) (i : ℕ) {old : ℕ} → i < length m / 4 → old ≡ word m (4 * i) → ascends (keys (map_entries m)) ≡ true → find (take i (map_entries m)) old ≡ None
 next_none m i {old} h e up = find_none (take i (map_entries m)) old (λ k l. other k (omega (arith, long, ap length (keys_take i (map_entries m)))))
   where
     long : length (take i (keys (map_entries m))) ≡ i
@@ -172,7 +144,7 @@ module _ {list t₀ : List ℕ} {at : ℕ} where
 
   module _ {t : List ℕ} {n : ℕ} (c : Trying list t₀ t at n) where
     -- the loop tries more cells each time
-    pub trying_more : 2 ≤ n
+    trying_more : 2 ≤ n
     trying_more = (power_even c.two).1
 
     module _ (h : at + n ≤ length t) where

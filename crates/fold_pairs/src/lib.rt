@@ -14,13 +14,9 @@ pub fn clear(t: &mut [u32], m: Map)
     requires { Inside t.old m × Odd m }
     ensures { Holds t.new m [] × Kept m.at t.old t.new }
 {
-    let mut i = m.at;
     let end = m.at + m.mask + 1;
-    while i < end {
-        t[i] = 0;
-        i += 1;
-    }
     let at = m.at;
+    t[at..end].fill(0);
     t[at] = 65536;
 }
 
@@ -44,14 +40,12 @@ fn lay_in(list: &[u8], t: &mut [u32], m: Map) -> bool
     ensures { LaidIn list.now t.old t.new m result }
 {
     clear(t, m);
-    let mut i = 0;
-    while i < list.len() / 4 {
+    for i in 0..list.len() / 4 {
         let old = word_inside(list, 4 * i);
         let new = word_inside(list, 4 * i + 2);
         if !add(t, m, old, new) {
             return false;
         }
-        i += 1;
     }
     true
 }
@@ -61,11 +55,7 @@ pub fn power(n: usize) -> usize
     requires { n < 0x1_0000_0000_0000 }
     ensures { Next n result }
 {
-    let mut p = 2;
-    while p < n {
-        p = 2 * p;
-    }
-    p
+    n.max(2).next_power_of_two()
 }
 
 // One more than the last old number of a listed map.

@@ -18,17 +18,14 @@ pub fn gather(src: &[u8], set: Set, num: &[u32], nums: &mut [u32], from: usize) 
     }
     let n = word_at(src, set.at);
     let mut m = 0;
-    let mut i = 0;
-    'slots: while i < n {
+    for i in 0..n {
         let offset = word_at(src, set.at + 2 + 2 * i);
         if offset == 0 {
-            i += 1;
-            continue 'slots;
+            continue;
         }
         let k = cell(num, 2 * (set.at + offset) + set.side);
         put_cell(nums, from + m, k);
         m += 1;
-        i += 1;
     }
     m
 }

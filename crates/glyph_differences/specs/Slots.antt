@@ -1,7 +1,6 @@
 -- Subtables whose rules are reached by coverage index: slots from 6 on, after their count.
-use Rattle.std.specs.Prelude.{ℕ, ◌+◌, ◌*◌, ◌≤◌, ◌<◌, ◌≡◌, true, List, length}
+use Rattle.std.specs.Prelude.{ℕ, ◌+◌, ◌*◌, ◌≤◌, ◌<◌, ◌≡◌, true, List, length, None, Some}
 use Rattle.std.proofs.Common.{ap, ◌∙◌}
-use Rattle.std.proofs.Math.Option.{none, some}
 use Rattle.meaning.specs.Words.{word, bind}
 use Rattle.meaning.specs.Tables.{reaches}
 use Rattle.meaning.specs.Fault.{fault}
@@ -18,7 +17,7 @@ pub record ByGlyph (kind : ℕ) (s : List ℕ) : Type 0 where
   pub low : 1 ≤ kind
   pub high : kind ≤ 3
   pub format : word s 0 ≡ 1
-  pub sound : fault kind s ≡ none
+  pub sound : fault kind s ≡ None
 
 -- each covered glyph with the numbers of its rules
 unfoldable pub numbers_by : List ℕ → List ℕ → ℕ → List (ℕ × List ℕ)
@@ -31,8 +30,8 @@ pub record SlotTable (s : List ℕ) : Type 0 where
   pub few : word s 4 < 65536
 
 -- the numbers of a covered glyph are those of the set in its slot
-pub in_slots : (num s : List ℕ) (side : ℕ) → SlotTable s → (g : ℕ) → beside (numbers_by num s side) g ≡ bind (index_of (cover_of s) g) (λ i. some (numbers_at num s side (word s (6 + 2 * i))))
+pub in_slots : (num s : List ℕ) (side : ℕ) → SlotTable s → (g : ℕ) → beside (numbers_by num s side) g ≡ bind (index_of (cover_of s) g) (λ i. Some (numbers_at num s side (word s (6 + 2 * i))))
 unfolding numbers_by
 in_slots num s side a g =
     by_slot (number_in num) (codes_of s side) s 6 (word s 4) a.enough g
-    ∙ bind_same (index_of (cover_of s) g) (λ i. ap some (set_numbers_lem num s side (6 + 2 * i)))
+    ∙ bind_same (index_of (cover_of s) g) (λ i. ap Some (set_numbers_lem num s side (6 + 2 * i)))

@@ -1,9 +1,8 @@
 -- A subtable of rules by coverage index as a whole: what is known of a sound one, and its list by numbers.
-use Rattle.std.specs.Prelude.{ℕ, zero, suc, ◌+◌, ◌*◌, ◌/◌, ◌%◌, ◌≤◌, ◌<◌, ◌≡◌, Bool, cond, List, map}
+use Rattle.std.specs.Prelude.{ℕ, zero, suc, ◌+◌, ◌*◌, ◌/◌, ◌%◌, ◌≤◌, ◌<◌, ◌≡◌, Bool, cond, List, map, Option, None, Some}
 use Rattle.std.proofs.Math.Path.{refl, ap}
 use Rattle.std.proofs.Common.{sym, ◌∙◌, eq-eqb}
 use Rattle.std.proofs.Math.Bool.{true, false}
-use Rattle.std.proofs.Math.Option.{Option, none, some}
 use native.Mathlib.Omega.{arith}
 use Rattle.std.proofs.Math.Dec.{eqb}
 use Rattle.meaning.specs.Words.{word, inside, bind, up_from}
@@ -29,13 +28,13 @@ use Rattle.glyph_differences.specs.Slots.{ByGlyph, numbers_by, SlotTable, in_slo
 
 module _ (s : List ℕ) (bytes : Bytes s) where
   -- from a header without a fault
-  from_header : (sets : ℕ → Option ℕ) → header_fault (enough s (word s 4)) 0 4 sets s ≡ none → SlotTable s
+  from_header : (sets : ℕ → Option ℕ) → header_fault (enough s (word s 4)) 0 4 sets s ≡ None → SlotTable s
   from_header sets h =
       let p = header_good s (enough s (word s 4)) 0 4 sets h in
       let c = sound_cover_lem s p.1 in
       record { cover = c; enough = covered_below s (word s 4) c p.0; few = word_small s bytes 4 }
 
-  from_context : (chained : Bool) → word s 0 ≡ 1 → context_fault chained s ≡ none → SlotTable s
+  from_context : (chained : Bool) → word s 0 ≡ 1 → context_fault chained s ≡ None → SlotTable s
   unfolding context_fault
   from_context chained f h = from_header (set_fault (rule_fault chained s) s) (rw (eq-eqb _ _ f) at h)
 
@@ -75,19 +74,19 @@ module _ (kind : ℕ) (l r t : List ℕ) where
       rw (a, b)
 
   -- what the rules of a covered glyph say is what the codes of the set in its slot say
-  rules_slots : (s : List ℕ) (side : ℕ) → side ≤ 1 → side_of side l r ≡ s → SlotTable s → (g : ℕ) → beside (rules_by kind s) g ≡ bind (index_of (cover_of s) g) (λ i. some (map says (codes_of s side (word s (6 + 2 * i)))))
+  rules_slots : (s : List ℕ) (side : ℕ) → side ≤ 1 → side_of side l r ≡ s → SlotTable s → (g : ℕ) → beside (rules_by kind s) g ≡ bind (index_of (cover_of s) g) (λ i. Some (map says (codes_of s side (word s (6 + 2 * i)))))
   unfolding rules_by rule_set ligature_set says_at ligature_by ligature_says rule_says numbered number_by
   rules_slots s side h e a g = step (eqb kind 3) refl
     where
       step : (b : Bool) → eqb kind 3 ≡ b
           → beside (cond b (by_index ligature_says (cover_of s) (reaches (ligature_set s) s 0 6 (word s 4))) (by_index (rule_says one_glyph one_glyph one_glyph) (cover_of s) (reaches (rule_set (eqb kind 2) s) s 0 6 (word s 4)))) g
-          ≡ bind (index_of (cover_of s) g) (λ i. some (map says (codes_of s side (word s (6 + 2 * i)))))
+          ≡ bind (index_of (cover_of s) g) (λ i. Some (map says (codes_of s side (word s (6 + 2 * i)))))
       step true q =
           by_slot ligature_says (ligature_set s) s 6 (word s 4) a.enough g
-          ∙ bind_same (index_of (cover_of s) g) (λ i. ap some (set_says (ligature s) ligature_says says s side (λ p. code_says side p h ∙ rw (e, q)) (ligature_set s) (λ at. refl) (6 + 2 * i)))
+          ∙ bind_same (index_of (cover_of s) g) (λ i. ap Some (set_says (ligature s) ligature_says says s side (λ p. code_says side p h ∙ rw (e, q)) (ligature_set s) (λ at. refl) (6 + 2 * i)))
       step false q =
           by_slot (rule_says one_glyph one_glyph one_glyph) (rule_set (eqb kind 2) s) s 6 (word s 4) a.enough g
-          ∙ bind_same (index_of (cover_of s) g) (λ i. ap some (set_says (rule (eqb kind 2) s) (rule_says one_glyph one_glyph one_glyph) says s side (λ p. code_says side p h ∙ rw (e, q)) (rule_set (eqb kind 2) s) (λ at. refl) (6 + 2 * i)))
+          ∙ bind_same (index_of (cover_of s) g) (λ i. ap Some (set_says (rule (eqb kind 2) s) (rule_says one_glyph one_glyph one_glyph) says s side (λ p. code_says side p h ∙ rw (e, q)) (rule_set (eqb kind 2) s) (λ at. refl) (6 + 2 * i)))
 
 -- the first glyphs of a sound subtable are words
 firsts_small : (kind : ℕ) (s : List ℕ) → Bytes s → sound_cover s ≡ true → All (λ k. k < 65536) (glyphs_of (rules_by kind s))

@@ -13,7 +13,6 @@ ghost use Rattle.first_glyphs.specs.First.{at_glyph};
 ghost use Rattle.gathered.specs.Gathered.{Scratch, Fit, Remembered};
 ghost use Rattle.glyph_differences.specs.Slots.{numbers_by, SlotTable, ByGlyph};
 
-use coverage_index::Covered;
 use first_glyphs::{cover_index, list_right};
 use listing::put_listed;
 use rule_says::Shape;
@@ -42,10 +41,10 @@ fn list_glyph(
     requires { SlotTable left.now × SlotTable right.now × (at.glyph < 65536) × (at.pos < 0x1000_0000_0000) × Fit num.now (length nums.old) (length heads.old) (length links.old) × Remembered num.now left.now right.now nums.old }
     ensures { Listed (at_glyph (rule_entries eqb) (numbers_by num.now left.now 0) (numbers_by num.now right.now 1) at.glyph) out.old at.pos out.new result × (result ≤ at.pos + 0x18_0000) × Remembered num.now left.now right.now nums.new }
 {
-    let Covered::At(i) = cover_index(left, at.glyph) else {
+    let Some(i) = cover_index(left, at.glyph) else {
         return list_right(right, at.glyph, out, at.pos);
     };
-    let Covered::At(j) = cover_index(right, at.glyph) else {
+    let Some(j) = cover_index(right, at.glyph) else {
         return put_listed(out, at.pos, 2, 0, at.glyph, 0, 0, 0);
     };
     let sets = Sets {
@@ -72,11 +71,9 @@ fn list_numbered(
 {
     remember(nums, 0, 0, 0);
     let mut at = 0;
-    let mut g = 0;
-    while g < 65536 {
+    for g in 0..65536 {
         let first = First { glyph: g, pos: at };
         at = list_glyph(first, left, right, num, nums, heads, links, out);
-        g += 1;
     }
     at
 }

@@ -1,9 +1,8 @@
 -- What a good glyph map says of a number, by its runs: in one, or between two.
 use Prim.Native.Nat.{ℕ, zero, suc, ◌+◌, ◌*◌, ◌/◌, ◌≤◌, ◌<◌}
-use Rattle.std.specs.Prelude.{◌≡◌, true, List, [], ◌∷◌, ◌++◌, ◌⊎◌, length, leb, ltb}
+use Rattle.std.specs.Prelude.{◌≡◌, true, List, [], ◌∷◌, ◌++◌, ◌⊎◌, length, leb, ltb, None, Some}
 use Rattle.std.proofs.Math.Path.{refl}
 use Rattle.std.proofs.Common.{◌∙◌, inl, inr, mul-suc, zero-add, arith}
-use Rattle.std.proofs.Math.Option.{none, some}
 use borrow.Author.Tests.{leb-true, ltb-true, ne_eqb, eq-eqb}
 use Rattle.meaning.specs.Words.{word, find, keys}
 use Rattle.meaning.specs.Maps.{steps, run_pairs, runs_rise, glyph_entries}
@@ -14,7 +13,7 @@ use Rattle.halving.specs.Rising.{Rising}
 use Rattle.glyph_runs.specs.Runs.{GlyphMap, run_count, old_of, new_of, size_at, size_of, IsRun, Past, runs_from, form_is, map_good, map_rises}
 
 -- a number among n pairs in step, before others; and one that is not among them
-steps_in : (old new n j : ℕ) (es : List (ℕ × ℕ)) → j < n → find (steps old new n ++ es) (old + j) ≡ some (new + j)
+steps_in : (old new n j : ℕ) (es : List (ℕ × ℕ)) → j < n → find (steps old new n ++ es) (old + j) ≡ Some (new + j)
 unfolding find steps
 steps_in old new zero j es h = absurd (omega arith)
 steps_in old new (suc n) zero es h =
@@ -108,7 +107,7 @@ module _ (form : ℕ) (m : List ℕ) where
       rw (later at p, later at q) (runs_apart p q (at + form) n (word m at + size_at form m at) (word m (at + 2) + size_at form m at) (omega arith) (omega arith) f.others)
 
   -- a number below all runs has no pair
-  runs_low : (n at old new x : ℕ) → runs_rise old new (runs_from form m at n) ≡ true → x < old → find (run_pairs (runs_from form m at n)) x ≡ none
+  runs_low : (n at old new x : ℕ) → runs_rise old new (runs_from form m at n) ≡ true → x < old → find (run_pairs (runs_from form m at n)) x ≡ None
   unfolding run_pairs runs_from find
   runs_low zero at old new x h l = refl
   runs_low (suc n) at old new x h l =
@@ -118,7 +117,7 @@ module _ (form : ℕ) (m : List ℕ) where
 
   -- one in the i-th run has the pair there
   found_at : (i at n old new j : ℕ) → i < n → j < size_at form m (at + form * i) → runs_rise old new (runs_from form m at n) ≡ true
-      → find (run_pairs (runs_from form m at n)) (word m (at + form * i) + j) ≡ some (word m (at + form * i + 2) + j)
+      → find (run_pairs (runs_from form m at n)) (word m (at + form * i) + j) ≡ Some (word m (at + form * i + 2) + j)
   unfolding run_pairs runs_from
   found_at i at zero old new j l k h = absurd (omega arith)
   found_at zero at (suc n) old new j l k h =
@@ -133,7 +132,7 @@ module _ (form : ℕ) (m : List ℕ) where
 
   -- one between the run before the r-th and the r-th has none
   none_at : (r at n old new x : ℕ) → r ≤ n → ((k : ℕ) → k + 1 ≡ r → word m (at + form * k) + size_at form m (at + form * k) ≤ x) → (r < n → x < word m (at + form * r))
-      → runs_rise old new (runs_from form m at n) ≡ true → find (run_pairs (runs_from form m at n)) x ≡ none
+      → runs_rise old new (runs_from form m at n) ≡ true → find (run_pairs (runs_from form m at n)) x ≡ None
   unfolding run_pairs runs_from find
   none_at zero at zero old new x l p q h = refl
   none_at zero at (suc n) old new x l p q h =
@@ -207,10 +206,10 @@ module _ {form : ℕ} {m : List ℕ} (g : GlyphMap form m) where
   apart p q l h = rw (front p, front q) at (runs_apart form m p q 0 (run_count form m) 0 0 l h (map_rises g).rise)
 
   -- a number in the i-th run, and one between two
-  pub run_found : (i j : ℕ) → i < run_count form m → j < size_of form m i → find (glyph_entries form m) (old_of form m i + j) ≡ some (new_of form m i + j)
+  pub run_found : (i j : ℕ) → i < run_count form m → j < size_of form m i → find (glyph_entries form m) (old_of form m i + j) ≡ Some (new_of form m i + j)
   run_found i j h l = rw (map_rises g).entries_are (rw (front i) at (found_at form m i 0 (run_count form m) 0 0 j h (rw (front i) l) (map_rises g).rise))
 
-  pub none_found : {r : ℕ} (x : ℕ) → r ≤ run_count form m → Past form m x r → (r < run_count form m → x < old_of form m r) → find (glyph_entries form m) x ≡ none
+  pub none_found : {r : ℕ} (x : ℕ) → r ≤ run_count form m → Past form m x r → (r < run_count form m → x < old_of form m r) → find (glyph_entries form m) x ≡ None
   none_found {r} x l p q =
       rw (map_rises g).entries_are (none_at form m r 0 (run_count form m) 0 0 x l (λ k e. rw (front k) (p k e)) (λ h. rw (front r) (q h)) (map_rises g).rise)
 

@@ -1,34 +1,17 @@
 -- The ways through the pass over sets and rules for a record past its rule.
 use Prim.Native.Nat.{ℕ, ◌+◌, ◌*◌, ◌≤◌, ◌<◌}
-use mathlib.Core.Path.{◌≡◌, refl, sym, ◌∙◌}
+use mathlib.Core.Path.{◌≡◌, refl, ◌∙◌}
 use mathlib.Core.Bool.{Bool, true, false, cond}
 use mathlib.Core.List.{List}
 use native.Mathlib.Nat.{zero-add}
 use lib.ListN.{length}
 use lib.Dec.{eqb}
-use borrow.Author.Tests.{eq-eqb, ne_eqb}
 use Rattle.meaning.specs.Words.{word, every}
 use Rattle.meaning.specs.Tables.{rule, rule_set, reaches, drop_null}
 use Rattle.meaning.specs.Records.{rule_within, sets_within}
 use Rattle.laws.specs.EachLeft.{passes, all_pass, Each, each_all, each_next, each_fails, each_end}
 use Rattle.gsubgpos.specs.Marks.{Marked}
 use Rattle.gsubgpos.specs.Members.{good_rule}
-
--- what an offset to a rule reaches, from what was read
-module _ (chained : Bool) (s : List ℕ) (base slot : ℕ) {off : ℕ} (e : off ≡ word s slot) where
-  pub rule_null : off ≡ 0 → true ≡ passes rule_within (rule chained s) s base slot
-  rule_null z = rw (eq-eqb (word s slot) 0 (sym e ∙ z))
-
-  pub rule_reached : (off ≡ 0 → ⊥) → {b : Bool} → b ≡ rule_within (rule chained s (base + off)) → b ≡ passes rule_within (rule chained s) s base slot
-  rule_reached z f = rw (ne_eqb (word s slot) 0 (λ q. z (e ∙ q)), ← e) f
-
--- how many rules are asked of a set
-module _ (s : List ℕ) (set : ℕ) where
-  pub rules_null : set ≡ 0 → 0 ≡ cond (eqb set 0) 0 (word s set)
-  rules_null z = rw z
-
-  pub rules_counted : (set ≡ 0 → ⊥) → {k : ℕ} → k ≡ word s set → k ≡ cond (eqb set 0) 0 (word s set)
-  rules_counted z e = rw (ne_eqb set 0 z) e
 
 -- What the loop over sets keeps, and what the loop over the rules of the set at `set` keeps besides. `marks₀` is what the loop begins with.
 pub record InSets (chained : Bool) (s : List ℕ) (slot n : ℕ) (marks₀ marks : List ℕ) (within : Bool) (i : ℕ) : Type 0 where

@@ -1,6 +1,5 @@
 -- What is asked of a set's members.
-use Rattle.std.specs.Prelude.{ℕ, Bool, true, false, List}
-use Rattle.std.proofs.Math.Option.{Option}
+use Rattle.std.specs.Prelude.{ℕ, Bool, true, false, List, Option}
 use Rattle.meaning.specs.Tables.{rule}
 use Rattle.meaning.specs.Fault.{rule_fault, ligature_fault}
 use Rattle.meaning.specs.Records.{rule_within}

@@ -1,19 +1,17 @@
 // Sets of rules of contexts, plain and chained, and of ligatures: checked. The work: the check looks once at the counts of each member.
 #![tactic(auto)]
 
-ghost use Rattle.std.specs.Prelude.{◌≡◌, true, cond, ◌+◌, ◌*◌, ◌≤◌, ◌<◌, length, eqb};
-ghost use Rattle.std.proofs.Math.Option.{none};
+ghost use Rattle.std.specs.Prelude.{◌≡◌, true, cond, ◌+◌, ◌*◌, ◌≤◌, ◌<◌, length, eqb, None};
 ghost use Rattle.meaning.specs.Words.{word};
 ghost use Rattle.meaning.specs.Tables.{rule, rule_set, reaches};
 ghost use Rattle.meaning.specs.Fault.{fault_through, set_fault};
 ghost use Rattle.meaning.specs.Records.{rule_within, sets_within};
 ghost use Rattle.laws.specs.EachLeft.{passes};
-ghost use Rattle.faults.specs.Fault.{fault_of};
 ghost use Rattle.gsubgpos.specs.Marks.{Marked};
 ghost use Rattle.gsubgpos.specs.Members.{member_fault, good_rule};
 
 use bits::{has_bit, put_bit};
-use faults::{Fault, found_before, lowest};
+use faults::{found_before, lowest};
 use ligature_subst::check_ligature;
 use rules::{check_rule, rule_within};
 use wire::{inside, word_at, word_inside};
@@ -27,9 +25,9 @@ pub enum Member {
 }
 
 // The fault of the member at `at`, by its sort.
-fn check_member(member: Member, src: &[u8], at: usize) -> Fault
+fn check_member(member: Member, src: &[u8], at: usize) -> Option<usize>
     requires { at < 0x100_0000_0000 }
-    ensures { result ≡ fault_of (member_fault member src.now at) }
+    ensures { result ≡ member_fault member src.now at }
 {
     match member {
         Member::Rule => check_rule(false, src, at),
@@ -39,15 +37,19 @@ fn check_member(member: Member, src: &[u8], at: usize) -> Fault
 }
 
 // The lowest fault among the members that the `n` offsets of the set at `at` reach, which lie inside. A member whose place has a mark was found sound before: nothing of it is read, since sets that overlap reach a member again and again. One that is sound gets a mark, where `marks` has room for it.
-fn check_members(member: Member, src: &[u8], at: usize, n: usize, marks: &mut [u32]) -> Fault
-    requires { (at < 0x80_0000_0000) × (n < 65536) × (at + 2 + 2 * n ≤ length src.now) × Marked (member_fault member src.now) none marks.old }
-    ensures { (result ≡ fault_of (fault_through (member_fault member src.now) src.now at (at + 2) n)) × Marked (member_fault member src.now) none marks.new }
+fn check_members(
+    member: Member,
+    src: &[u8],
+    at: usize,
+    n: usize,
+    marks: &mut [u32],
+) -> Option<usize>
+    requires { (at < 0x80_0000_0000) × (n < 65536) × (at + 2 + 2 * n ≤ length src.now) × Marked (member_fault member src.now) None marks.old }
+    ensures { (result ≡ fault_through (member_fault member src.now) src.now at (at + 2) n) × Marked (member_fault member src.now) None marks.new }
 {
-    let mut low = Fault::Sound;
-    let mut i = 0;
-    while i < n {
+    let mut low = None;
+    for i in 0..n {
         let offset = word_inside(src, at + 2 + 2 * i);
-        i += 1;
         if offset == 0 {
             continue;
         }
@@ -57,27 +59,28 @@ fn check_members(member: Member, src: &[u8], at: usize, n: usize, marks: &mut [u
         if found_before(low, at + offset) {
             continue;
         }
-        let Fault::At(place) = check_member(member, src, at + offset) else {
+        let found = check_member(member, src, at + offset);
+        if found.is_none() {
             put_bit(marks, 0, at + offset);
-            continue;
-        };
-        low = lowest(low, Fault::At(place));
+        }
+        low = lowest(low, found);
     }
     low
 }
 
 // The fault of the set at `at`: its own place if its count or its offsets do not lie inside the source, else the lowest among its members.
 // `marks` has a mark of no place but those of members that are sound; where it has a bit for each member each is checked once, however many sets share it.
-pub fn check_set(member: Member, src: &[u8], at: usize, marks: &mut [u32]) -> Fault
-    requires { (at < 0x80_0000_0000) × Marked (member_fault member src.now) none marks.old }
-    ensures { (result ≡ fault_of (set_fault (member_fault member src.now) src.now at)) × Marked (member_fault member src.now) none marks.new }
+#[tactic(auto, unfolding(meaning::specs::Fault::set_fault, meaning::specs::Fault::part_fault, meaning::specs::Words::inside))]
+pub fn check_set(member: Member, src: &[u8], at: usize, marks: &mut [u32]) -> Option<usize>
+    requires { (at < 0x80_0000_0000) × Marked (member_fault member src.now) None marks.old }
+    ensures { (result ≡ set_fault (member_fault member src.now) src.now at) × Marked (member_fault member src.now) None marks.new }
 {
     if !inside(src, at, 2) {
-        return Fault::At(at);
+        return Some(at);
     }
     let n = word_at(src, at);
     if !inside(src, at + 2, 2 * n) {
-        return Fault::At(at);
+        return Some(at);
     }
     check_members(member, src, at, n, marks)
 }
@@ -126,19 +129,15 @@ pub fn sets_within(chained: bool, src: &[u8], slot: usize, n: usize, marks: &mut
     ensures { result ≡ sets_within (reaches (rule_set chained src.now) src.now 0 slot n) }
 {
     let mut within = true;
-    let mut i = 0;
-    'sets: while i < n {
+    'sets: for i in 0..n {
         let set = word_at(src, slot + 2 * i);
         let rules = rules_in(src, set);
-        let mut k = 0;
-        while k < rules {
+        for k in 0..rules {
             if !reached_within(chained, src, set, set + 2 + 2 * k, marks) {
                 within = false;
                 break 'sets;
             }
-            k += 1;
         }
-        i += 1;
     }
     within
 }

@@ -1,24 +1,24 @@
--- What the loops that copy, move and lessen keep, and what they come to.
+-- What copies and moves come to, and what the loop that lessens keeps.
 use Prim.Native.Nat.{ℕ, zero, suc, ◌+◌, ◌-◌, ◌*◌, ◌/◌, ◌%◌, ◌≤◌, ◌<◌}
 use mathlib.Core.Path.{◌≡◌, refl, sym, ap, ap₂, ◌∙◌}
 use mathlib.Core.Logic.{◌≢◌}
-use mathlib.Core.Bool.{Bool, true, false, cond, ◌||◌, not, true≢false}
-use lib.Dec.{ltb}
-use borrow.Author.Tests.{ltb-false}
+use mathlib.Core.Bool.{Bool}
 use mathlib.Core.List.{List, [], ◌∷◌, ◌++◌}
 use native.Mathlib.Omega.{arith}
-use lib.ListN.{length, get_or, set, take, drop, length-append, length-set, length-map}
-use lib.Seq.{sets, length-sets, get_or-set_other}
+use lib.ListN.{length, get_or, set, take, drop, length-append, length-map}
+use lib.Seq.{sets, length-sets, paste, get_or-set_other}
+use borrow.Rule.Slice.PartMut.{put_mid}
+use Rattle.std.proofs.lemmas.List.Edits.{sets-eq}
 use Rattle.meaning.specs.Words.{word, words, bytes2, flat}
-use Rattle.meaning.specs.Subset.{limit}
 use Rattle.laws.specs.Stands.{All, flat_length, flat_append}
 use Rattle.laws.specs.Left.{words_left_lem, words_all, words_none}
 use Rattle.laws.specs.Written.{Wrote, wrote_more, sets_sets, sets_one}
-use Rattle.room.specs.Laid.{laid_for, laid_as, outcome_of, is_kept, refused_room, kept_room}
-use Rattle.room.specs.declared.Laid.{Laid}
-use Rattle.room.specs.declared.Laid.TheVariants.{TooBig, NoRoom, Kept}
+use Rattle.room.specs.Laid.{laid_for, laid_as, outcome_of, refused_room, kept_room}
+use Rattle.room.specs.declared.NotLaid.{NotLaid}
+use Rattle.std.specs.Prelude.{Ok, Err}
 use Rattle.area.specs.Extends.{Extends, wrote_extends}
-use Rattle.area.specs.Part.{part, part_length, part_all, part_left, part_none, part_append, take_part}
+use Rattle.area.specs.AtOnce.{at_once}
+use Rattle.area.specs.Part.{part, part_length, part_append, part_take, take_part}
 use Rattle.handing.specs.Closed.{lessened, less_by, Closed}
 
 -- a run of stores leaves what stands behind it
@@ -33,46 +33,19 @@ unfolding part
 part_behind xs l at j zero h = refl
 part_behind xs l at j (suc n) h = rw (get_d_sets_behind xs l at j h) (ap (λ (r : List ℕ). get_or l j 0 ∷ r) (part_behind xs l at (j + 1) n (omega arith)))
 
--- What the loops of `copy` and `move_down` keep: the bytes that are left, stored from the i-th on, end the run; in `move_down` they stand where they stood.
-pub record Copying (s : List ℕ) (from n : ℕ) (out₀ : List ℕ) (to : ℕ) (out : List ℕ) (i : ℕ) : Type 0 where
-  pub within : i ≤ n
-  pub same : length out ≡ length out₀
-  pub left : sets out (to + i) (part s (from + i) (n - i)) ≡ sets out₀ to (part s from n)
+-- bytes that are copied or moved are a run of stores
+pub copied : (area out : List ℕ) {ys : List ℕ} (from to n : ℕ) → from + n ≤ length area → to + n ≤ length out → ys ≡ take (from + n - from) (drop from area) → put_mid to (to + n - to) out ys ≡ sets out to (part area from n)
+copied area out {ys} from to n f t e =
+    let a : from + n - from ≡ n = omega arith in
+    let b : to + n - to ≡ n = omega arith in
+    let p : ys ≡ part area from n = rw a at e ∙ sym (part_take area from n f) in
+    rw (b, p) (at_once to n out (part area from n) (part_length area from n) t)
 
-module _ {s : List ℕ} {from n : ℕ} {out₀ : List ℕ} {to : ℕ} where
-  pub copying_all : Copying s from n out₀ to out₀ 0
-  copying_all =
-      let e : to + 0 ≡ to = omega arith in
-      record { within = omega arith; same = refl; left = rw (part_all s from n, e) }
-
-  pub copying_turn : {out next : List ℕ} {i x : ℕ} → Copying s from n out₀ to out i → i < n → x ≡ get_or s (from + i) 0
-      → next ≡ set out (to + i) x → Copying s from n out₀ to next (i + 1)
-  copying_turn {out} {next} {i} {x} k h e f =
-      let g : to + (i + 1) ≡ suc (to + i) = omega arith in
-      record {
-        within = omega arith;
-        same = ap length f ∙ length-set out (to + i) x ∙ k.same;
-        left = rw (g, f, e) (ap (sets out (to + i)) (sym (part_left s from n i h)) ∙ k.left);
-      }
-
-  pub copying_end : {out : List ℕ} {i : ℕ} → Copying s from n out₀ to out i → n ≤ i → out ≡ sets out₀ to (part s from n)
-  copying_end {out} {i} k h = sym (ap (sets out (to + i)) (part_none s from n i h)) ∙ k.left
-
--- What the loop of `move_down` keeps besides: the bytes that are left stand where they stood.
-pub record Moving (from n : ℕ) (out₀ : List ℕ) (to : ℕ) (out : List ℕ) (i : ℕ) : Type 0 where
-  pub copying : Copying out₀ from n out₀ to out i
-  pub behind : (j : ℕ) → from + i ≤ j → get_or out j 0 ≡ get_or out₀ j 0
-
-module _ {from n : ℕ} {out₀ : List ℕ} {to : ℕ} where
-  pub moving_all : Moving from n out₀ to out₀ 0
-  moving_all = record { copying = copying_all; behind = λ j h. refl }
-
-  pub moving_turn : {out next : List ℕ} {i x : ℕ} → to ≤ from → Moving from n out₀ to out i → i < n → x ≡ get_or out (from + i) 0
-      → next ≡ set out (to + i) x → Moving from n out₀ to next (i + 1)
-  moving_turn {out} {next} {i} {x} l k h e f = record {
-    copying = copying_turn k.copying h (e ∙ k.behind (from + i) (omega arith)) f;
-    behind = λ j m. ap (λ (b : List ℕ). get_or b j 0) f ∙ get_or-set_other out (to + i) j x 0 (omega arith) ∙ k.behind j (omega arith);
-  }
+pub moved : (area : List ℕ) (from to n : ℕ) → from + n ≤ length area → to + n ≤ length area → paste area to (drop from area) (from + n - from) ≡ sets area to (part area from n)
+moved area from to n f t =
+    let a : from + n - from ≡ n = omega arith in
+    let l = part_length area from n in
+    rw a (ap (λ (xs : List ℕ). take to area ++ xs ++ drop (to + n) area) (sym (part_take area from n f)) ∙ sym (rw l at (sets-eq (part area from n) area to (omega (arith, l)))))
 
 -- What the loop of `lessen` keeps: the words that are left, lessened, end the run; and they stand where they stood.
 pub record Lessening (d at n : ℕ) (out₀ out : List ℕ) (i : ℕ) : Type 0 where
@@ -200,24 +173,10 @@ module _ (area : List ℕ) (head first n : ℕ) (fits : Bool) (out : List ℕ) w
   handed_length : length handed ≡ head + n
   handed_length = omega (arith, length-append (part area 0 head) (part area first n), part_length area 0 head, part_length area first n)
 
-  module _ {r : Laid} (e : r ≡ laid_for (head + n) fits (length out)) where
-    said : r ≡ laid_for (length handed) fits (length out)
-    said = rw handed_length e
+  pub hand_refused : {x : NotLaid} → Err x ≡ laid_for (head + n) fits (length out) → outcome_of (Err x) out ≡ laid_as fits out handed
+  hand_refused {x} e = refused_room fits out handed (rw handed_length e)
 
-    pub hand_refused : is_kept r ≡ false → outcome_of r out ≡ laid_as fits out handed
-    hand_refused h = refused_room fits out handed said h
-
-    pub hand_kept : {mid after : List ℕ} → is_kept r ≡ true → mid ≡ sets out 0 (part area 0 head) → after ≡ sets mid head (part area first n) → outcome_of r after ≡ laid_as fits out handed
-    hand_kept {mid} {after} h a b =
-        let long : 0 + length (part area 0 head) ≡ head = omega (arith, part_length area 0 head) in
-        kept_room fits out handed said h (b ∙ ap₂ (λ (l : List ℕ) (i : ℕ). sets l i (part area first n)) a (sym long) ∙ sets_sets out 0 (part area 0 head) (part area first n))
-
-    -- it has room
-    pub hand_room : is_kept r ≡ true → head + n ≤ length out
-    unfolding laid_for
-    hand_room h = step (ltb limit (head + n) || not fits) (ltb (length out) (head + n)) refl (sym (ap is_kept e) ∙ h)
-      where
-        step : (a b : Bool) → ltb (length out) (head + n) ≡ b → is_kept (cond a TooBig (cond b (NoRoom (head + n)) (Kept (head + n)))) ≡ true → head + n ≤ length out
-        step true b t h = absurd (true≢false (sym h))
-        step false true t h = absurd (true≢false (sym h))
-        step false false t h = ltb-false (length out) (head + n) t
+  pub hand_kept : {m : ℕ} {mid after : List ℕ} → Ok m ≡ laid_for (head + n) fits (length out) → mid ≡ sets out 0 (part area 0 head) → after ≡ sets mid head (part area first n) → outcome_of (Ok m) after ≡ laid_as fits out handed
+  hand_kept {m} {mid} {after} e a b =
+      let long : 0 + length (part area 0 head) ≡ head = omega (arith, part_length area 0 head) in
+      kept_room fits out handed (rw handed_length e) (b ∙ ap₂ (λ (l : List ℕ) (i : ℕ). sets l i (part area first n)) a (sym long) ∙ sets_sets out 0 (part area 0 head) (part area first n))

@@ -1,8 +1,7 @@
 -- A gap that is closed: the offsets before it are lessened, and the members behind it moved down over it.
-use Rattle.std.specs.Prelude.{ℕ, zero, suc, ◌+◌, ◌-◌, ◌*◌, ◌≤◌, ◌<◌, ◌≡◌, refl, List, [], ◌∷◌, ◌++◌, map, length}
-use Rattle.std.proofs.Common.{sym, ap, ◌∙◌, arith}
-use Rattle.std.proofs.Math.Option.{Option, none, some}
-use Rattle.meaning.specs.Words.{words, flat}
+use Rattle.std.specs.Prelude.{ℕ, ◌+◌, ◌-◌, ◌*◌, ◌≤◌, ◌≡◌, refl, List, [], ◌∷◌, ◌++◌, map, length, Option, Some}
+use Rattle.std.proofs.Common.{ap, arith}
+use Rattle.meaning.specs.Words.{flat}
 use Rattle.meaning.specs.Layout.{offsets}
 use Rattle.laws.specs.Stands.{All}
 use Rattle.area.specs.Extends.{Extends}
@@ -26,7 +25,7 @@ pub record Closed (before : List ℕ) (at k first end : ℕ) (after : List ℕ) 
 
 -- the blocks of a set's members
 abbrev pub members : List (List ℕ) → List (Option (List ℕ))
-members bs = map (λ b. some b) bs
+members bs = map (λ b. Some b) bs
 
 -- offsets that were counted with the gap, less by it: those without it
 pub offsets_less : (d p : ℕ) (bs : List (List ℕ)) → less_by d (offsets (p + d) (members bs)) ≡ offsets p (members bs)

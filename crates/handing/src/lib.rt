@@ -9,7 +9,7 @@ ghost use Rattle.handing.specs.Closed.{lessened, Closed};
 ghost use Rattle.area.specs.Part.{part};
 
 use area::put;
-use room::{LIMIT, Laid, room};
+use room::{LIMIT, NotLaid, room};
 use wire::word_inside;
 
 // Less by `d`, modulo 65,536, each of the `n` words from `at` on. The limit, which no gap is over, is a multiple of 65,536.
@@ -17,12 +17,10 @@ pub fn lessen(area: &mut [u8], at: usize, n: usize, d: usize)
     requires { (at + 2 * n ≤ length area.old) × (d ≤ 262144) }
     ensures { area.new ≡ sets area.old at (flat (lessened d (words area.old at n))) }
 {
-    let mut i = 0;
-    while i < n {
+    for i in 0..n {
         let p = at + 2 * i;
         let w = word_inside(area, p);
         put(area, p, w + LIMIT - d);
-        i += 1;
     }
 }
 
@@ -31,12 +29,7 @@ fn move_down(area: &mut [u8], to: usize, from: usize, n: usize)
     requires { (to ≤ from) × (from + n ≤ length area.old) }
     ensures { area.new ≡ sets area.old to (part area.old from n) }
 {
-    let mut i = 0;
-    while i < n {
-        let b = area[from + i];
-        area[to + i] = b;
-        i += 1;
-    }
+    area.copy_within(from..from + n, to);
 }
 
 // The `k` offsets from `at` on, and what they reach, which stands from `first` up to `end`, moved together; the place after it.
@@ -59,12 +52,7 @@ fn copy(area: &[u8], from: usize, n: usize, out: &mut [u8], to: usize)
     requires { (from + n ≤ length area.now) × (to + n ≤ length out.old) }
     ensures { out.new ≡ sets out.old to (part area.now from n) }
 {
-    let mut i = 0;
-    while i < n {
-        let b = area[from + i];
-        out[to + i] = b;
-        i += 1;
-    }
+    out[to..to + n].copy_from_slice(&area[from..from + n]);
 }
 
 // The head of a layout and its rest, which stands from `first` up to `end`, laid into the buffer if they are not over the limit, each offset and count fits a word, as `fits` says, and the buffer is not shorter; else the buffer is untouched.
@@ -75,16 +63,13 @@ pub fn hand_over(
     end: usize,
     fits: bool,
     out: &mut [u8],
-) -> Laid
+) -> Result<usize, NotLaid>
     requires { (head ≤ first) × (first ≤ end) × (end ≤ length area.now) }
     ensures { outcome_of result out.new ≡ laid_as fits out.old (part area.now 0 head ++ part area.now first (end - first)) }
 {
     let rest = end - first;
-    let laid = room(head + rest, fits, out.len());
-    let Laid::Kept(_) = laid else {
-        return laid;
-    };
+    let size = room(head + rest, fits, out.len())?;
     copy(area, 0, head, out, 0);
     copy(area, first, rest, out, head);
-    laid
+    Ok(size)
 }

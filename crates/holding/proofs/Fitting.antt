@@ -1,6 +1,6 @@
 -- The ways through the parts of a rule.
 use Prim.Native.Nat.{ℕ, ◌+◌}
-use mathlib.Core.Path.{◌≡◌, sym, ap, ◌∙◌, subst}
+use mathlib.Core.Path.{◌≡◌, ap, ◌∙◌}
 use mathlib.Core.Bool.{Bool, true, false, not}
 use mathlib.Core.List.{List}
 use native.Mathlib.Omega.{arith}
@@ -9,14 +9,10 @@ use lib.Dec.{ltb}
 use borrow.Author.Tests.{lt-ltb, le-ltb, not-true, not-false}
 use Rattle.replay_laws.specs.Places.{backward}
 use Rattle.rules.specs.declared.RuleParts.{RuleParts}
-use Rattle.holding.specs.Held.{Fine, runs_on}
+use Rattle.holding.specs.Held.{runs_on}
 use Rattle.holding.specs.Fitting.{sequence_of, parts_fit}
 use Rattle.holding.specs.declared.Sequence.{Sequence}
 use Rattle.holding.specs.declared.How.{How}
-
--- what a row asks as a sequence
-pub fine_row : {s : List ℕ} {q p : Sequence} → q ≡ p → Fine s p → Fine s q
-fine_row {s} e f = subst (Fine s) (sym e) f
 
 -- The parts of a rule, one after another.
 module _ (s : List ℕ) (h : How) (r : RuleParts) (text : List ℕ) (place start : ℕ) where

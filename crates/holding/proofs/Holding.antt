@@ -1,6 +1,8 @@
 -- The ways through holding numbers against glyphs.
 use Prim.Native.Nat.{ℕ, suc, ◌+◌, ◌-◌, ◌*◌, ◌≤◌, ◌<◌}
-use mathlib.Core.Path.{◌≡◌, sym, ap, ◌∙◌}
+use mathlib.Core.Path.{◌≡◌, refl, sym, ap, ◌∙◌}
+use Rattle.std.specs.Prelude.{Option, None, Some}
+use Rattle.std.specs.Option as option
 use mathlib.Core.Bool.{Bool, true, false, ◌&&◌, not}
 use mathlib.Core.List.{List}
 use native.Mathlib.Omega.{arith}
@@ -13,27 +15,24 @@ use Rattle.meaning.specs.Parts.{coverage, class_in}
 use Rattle.meaning.specs.Matching.{covers?, in_class}
 use Rattle.laws.specs.Left.{words_length, words_all}
 use Rattle.replay_laws.specs.Places.{backward, fits_on, on_turn, on_short, on_end, fits_back, back_turn, back_short, back_end, glyph_at}
-use Rattle.coverage_index.specs.Index.{index_of, covered_of, is_at, is_not, member_index}
-use Rattle.coverage_index.specs.declared.Covered.{Covered}
-use Rattle.coverage_index.specs.declared.Covered.TheVariants.{At, Not}
+use Rattle.coverage_index.specs.Index.{index_of, member_index}
 use Rattle.class_stretches.specs.Tables.{table_at}
 use Rattle.holding.specs.Held.{cover_at, held, runs_on}
 use Rattle.holding.specs.declared.Sequence.{Sequence}
 
--- A coverage: a null one, one that has not the glyph, one that has it.
+-- A coverage: a null one, and another, which has the glyph if the glyph has an index.
 module _ (s : List ℕ) (at g : ℕ) where
   pub covers_null : at ≡ 0 → false ≡ covers? (cover_at s at) g
   unfolding covers?
   covers_null h = rw (eq-eqb at 0 h)
 
-  module _ (h : at ≡ 0 → ⊥) {r : Covered} (e : r ≡ covered_of (index_of (coverage s at) g)) where
-    pub covers_not : r ≡ Not → false ≡ covers? (cover_at s at) g
-    unfolding covers? is_some
-    covers_not f = rw (ne_eqb at 0 h, member_index (coverage s at) g, is_not (index_of (coverage s at) g) f e)
-
-    pub covers_at_lem : {i : ℕ} → r ≡ At i → true ≡ covers? (cover_at s at) g
-    unfolding covers? is_some
-    covers_at_lem f = rw (ne_eqb at 0 h, member_index (coverage s at) g, is_at (index_of (coverage s at) g) f e)
+  pub covers_there : (at ≡ 0 → ⊥) → {o : Option ℕ} → o ≡ index_of (coverage s at) g → option.is_some o ≡ covers? (cover_at s at) g
+  unfolding covers? is_some
+  covers_there h e = rw (ne_eqb at 0 h, member_index (coverage s at) g, e) (step (index_of (coverage s at) g))
+    where
+      step : (o : Option ℕ) → option.is_some o ≡ is_some o
+      step None = refl
+      step (Some i) = refl
 
 -- A number, by its sort.
 module _ (s : List ℕ) (sort table w g : ℕ) where

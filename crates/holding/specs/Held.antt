@@ -1,6 +1,5 @@
 -- How the numbers of sequences are held against glyphs, and what a sequence asks of its source.
-use Rattle.std.specs.Prelude.{ℕ, ◌+◌, ◌*◌, ◌<◌, ◌≡◌, Bool, true, cond, List, eqb}
-use Rattle.std.proofs.Math.Option.{Option, none, some}
+use Rattle.std.specs.Prelude.{ℕ, ◌+◌, ◌*◌, ◌<◌, ◌≡◌, Bool, true, cond, List, eqb, Option, None, Some}
 use Rattle.meaning.specs.Words.{word, words}
 use Rattle.meaning.specs.Parts.{coverage, coverage_sound}
 use Rattle.meaning.specs.Matching.{fits, covers?, in_class}
@@ -9,7 +8,7 @@ use Rattle.holding.specs.declared.Sequence.{Sequence}
 
 -- the coverage at an offset; there is none where it is null
 abbrev pub cover_at : List ℕ → ℕ → Option (List ℕ)
-cover_at s at = cond (eqb at 0) none (some (coverage s at))
+cover_at s at = cond (eqb at 0) None (Some (coverage s at))
 
 -- a number holds for a glyph: it is the glyph, its class, or the offset of a coverage that has it
 unfoldable pub held : List ℕ → ℕ → ℕ → ℕ → ℕ → Bool

@@ -10,7 +10,7 @@ ghost use Rattle.holding.specs.Held.{cover_at, held, Fine, SoundNumber, runs_on}
 ghost use Rattle.holding.specs.Fitting.{FineParts, sequence_of, parts_fit};
 
 use class_stretches::class_of;
-use coverage_index::{Covered, index_of};
+use coverage_index::index_of;
 use rules::{Row, RuleParts};
 use wire::word_at;
 
@@ -40,10 +40,7 @@ pub fn covers(src: &[u8], at: usize, glyph: usize) -> bool
     if at == 0 {
         return false;
     }
-    let Covered::At(_) = index_of(src, at, glyph) else {
-        return false;
-    };
-    true
+    index_of(src, at, glyph).is_some()
 }
 
 // Whether a number holds for a glyph.
@@ -65,8 +62,7 @@ fn fits_on(src: &[u8], q: Sequence, string: &[u8], n: usize, place: usize) -> bo
     requires { Fine src.now q × (place < 0x1_0000_0000_0000) }
     ensures { result ≡ runs_on src.now q (drop place (words string.now 0 n)) }
 {
-    let mut i = 0;
-    while i < q.len {
+    for i in 0..q.len {
         if n <= place + i {
             return false;
         }
@@ -75,7 +71,6 @@ fn fits_on(src: &[u8], q: Sequence, string: &[u8], n: usize, place: usize) -> bo
         if !holds(src, q.sort, q.table, number, glyph) {
             return false;
         }
-        i += 1;
     }
     true
 }
@@ -85,8 +80,7 @@ fn fits_back(src: &[u8], q: Sequence, string: &[u8], n: usize, place: usize) -> 
     requires { Fine src.now q × (place < n) × (n < 0x1_0000_0000_0000) }
     ensures { result ≡ runs_on src.now q (backward (words string.now 0 n) place) }
 {
-    let mut i = 0;
-    while i < q.len {
+    for i in 0..q.len {
         if place <= i {
             return false;
         }
@@ -95,7 +89,6 @@ fn fits_back(src: &[u8], q: Sequence, string: &[u8], n: usize, place: usize) -> 
         if !holds(src, q.sort, q.table, number, glyph) {
             return false;
         }
-        i += 1;
     }
     true
 }

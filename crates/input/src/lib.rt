@@ -1,45 +1,27 @@
 // A reader, such as standard input, read to its end into a lent buffer.
 #![tactic(auto)]
 
-ghost use Rattle.std.specs.Prelude.{◌≤◌, length};
-ghost use Rattle.input.specs.Input.{Within, Gives, Ends, EndsAtNone};
+ghost use Rattle.std.specs.Prelude.{◌≤◌, ◌<◌, length, take, IfOk};
+ghost use Rattle.std.specs.Io.KnownBytes.{Consumes, IsAtEnd};
 
+use std::io;
 use std::io::Read;
 
-// What came of reading: a number of bytes at the front of the buffer, or that a read failed.
-#[derive(Clone, Copy)]
-pub enum Input {
-    Bytes(usize),
-    Failed,
-}
-
-// Reads once; 0 bytes are the end, where there is room for one.
-fn read_once<R: Read>(from: &mut R, part: &mut [u8]) -> Input
-    ensures within { Within result (length part.new) }
-    ensures given { Gives (R.remaining from.old) (R.remaining from.new) result part.new }
-    ensures end { EndsAtNone (R.remaining from.new) result (length part.new) }
-{
-    match from.read(part) {
-        Ok(n) => Input::Bytes(n),
-        Err(_) => Input::Failed,
-    }
-}
-
-// Reads to the end, or until `file` is full. Where a read fails, no more is read.
-pub fn read_input<R: Read>(from: &mut R, file: &mut [u8]) -> Input
-    ensures within { Within result (length file.new) }
-    ensures given { Gives (R.remaining from.old) (R.remaining from.new) result file.new }
-    ensures end { Ends (R.remaining from.new) result (length file.new) }
+// Reads to the end, or until `file` is full; how many bytes stand at the front of the buffer. Where a read fails, no more is read.
+// Of a reader whose bytes are known, these are the next of them, in their order, and none is left where the buffer was not filled.
+pub fn read_input<R: Read>(from: &mut R, file: &mut [u8]) -> io::Result<usize>
+    ensures within { IfOk result (λ n. n ≤ length file.new) }
+    ensures given { IfOk result (λ n. Consumes (R.remaining from.old) (R.remaining from.new) (take n file.new)) }
+    ensures end { IfOk result (λ n. n < length file.new → IsAtEnd (R.remaining from.new)) }
 {
     let mut n = 0;
+    // Each read says how many bytes came.
     while n < file.len() {
-        let Input::Bytes(more) = read_once(from, &mut file[n..]) else {
-            return Input::Failed;
-        };
+        let more = from.read(&mut file[n..])?;
         if more == 0 {
-            return Input::Bytes(n);
+            return Ok(n);
         }
         n += more;
     }
-    Input::Bytes(n)
+    Ok(n)
 }

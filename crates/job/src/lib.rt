@@ -9,16 +9,16 @@ use job_form::good_job;
 use job_parts::{TRAILER, glyph_part, lookup_part, table_part};
 use job_tags::form_of;
 use marks::Marks;
-use refusals::Answer;
+use refusals::Refusal;
 use subset::subset;
 use wire::word_at;
 
 // The job of a file, on a lent buffer: the call on the file's kind and parts for the plain layout, or that the file is faulty, which is tested first.
-pub fn run(file: &[u8], out: &mut [u8]) -> Answer
+pub fn run(file: &[u8], out: &mut [u8]) -> Result<usize, Refusal>
     ensures { outcome result out.new ≡ job file.now out.old }
 {
     if !good_job(file) {
-        return Answer::BadJob;
+        return Err(Refusal::BadJob);
     }
     let marks = Marks {
         kind: word_at(file, file.len() - TRAILER),

@@ -4,30 +4,13 @@
 ghost use Rattle.std.specs.Prelude.{◌≡◌, true, ◌+◌, ◌≤◌, ◌<◌, length};
 ghost use Rattle.meaning.specs.Job.{eq_list, runs_tag, ends_in, tagged, form_of};
 
-// Whether two slices hold the same bytes.
-fn same(a: &[u8], b: &[u8]) -> bool
-    ensures { result ≡ eq_list a.now b.now }
-{
-    if a.len() != b.len() {
-        return false;
-    }
-    let mut i = 0;
-    while i < a.len() {
-        if a[i] != b[i] {
-            return false;
-        }
-        i += 1;
-    }
-    true
-}
-
 // Whether the file ends in this tag.
 fn ends_in(file: &[u8], tag: &[u8]) -> bool
     requires { 30 ≤ length file.now }
     ensures { result ≡ ends_in tag.now file.now }
 {
     let at = file.len() - 4;
-    same(&file[at..], tag)
+    &file[at..] == tag
 }
 
 // Whether it ends in the tag of a glyph map of runs.

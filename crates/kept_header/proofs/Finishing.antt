@@ -2,7 +2,7 @@
 use Prim.Native.Nat.{ℕ, ◌+◌, ◌-◌, ◌*◌, ◌≤◌}
 use mathlib.Core.Path.{◌≡◌, sym, ap, ap₂, ◌∙◌}
 use mathlib.Core.Bool.{Bool}
-use mathlib.Core.Option.{Option, some}
+use Rattle.std.specs.Prelude.{Option, Some}
 use mathlib.Core.List.{List, [], ◌∷◌, ◌++◌, append_assoc}
 use native.Mathlib.Omega.{arith}
 use lib.ListN.{length, length-append, length-map}
@@ -79,7 +79,7 @@ module _ {sort : Sort} {t : List ℕ} {notes k first p : ℕ} {a₀ : List ℕ} 
       bl = blocks_in packed (members bs)
 
       many : length (offsets_in packed first (members bs)) ≡ k
-      many = offsets_count packed first (members bs) ∙ length-map bs (λ b. some b) ∙ e
+      many = offsets_count packed first (members bs) ∙ length-map bs (λ b. Some b) ∙ e
 
       wide : first ≡ slots + 2 * k + gap
       wide = omega (arith, a.behind, s)
@@ -93,7 +93,7 @@ module _ {sort : Sort} {t : List ℕ} {notes k first p : ℕ} {a₀ : List ℕ} 
           less ∙ ap (sets a₀ slots) (bytes ∙ ap flat without)
 
       long : length os ≡ k
-      long = offsets_count packed (slots + 2 * k) (members bs) ∙ length-map bs (λ b. some b) ∙ e
+      long = offsets_count packed (slots + 2 * k) (members bs) ∙ length-map bs (λ b. Some b) ∙ e
 
       placed₁ : Extends a₀ slots os a₁ (slots + 2 * k)
       placed₁ =
@@ -141,7 +141,7 @@ module _ {sort : Sort} {t : List ℕ} {notes k first p : ℕ} {a₀ : List ℕ} 
       whole =
           ap (λ (i : ℕ). part a₃ 0 (i + 2 * k) ++ part a₃ first (r - first)) (sym s)
           ∙ ap₂ (λ (x y : List ℕ). x ++ y) head_is rest_is ∙ sym (flat_append (head ++ os) (bl ++ cov))
-          ∙ ap flat (append_assoc head os (bl ++ cov) ∙ sym (table_is packed (more_of sort) cov (members bs) (sym (length-map bs (λ b. some b) ∙ e)) (omega (arith, s)) (omega (arith, u.place, wide))))
+          ∙ ap flat (append_assoc head os (bl ++ cov) ∙ sym (table_is packed (more_of sort) cov (members bs) (sym (length-map bs (λ b. Some b) ∙ e)) (omega (arith, s)) (omega (arith, u.place, wide))))
 
     pub finish_table : Finished sort t notes k first p a₀ a₃ r
     finish_table = record {

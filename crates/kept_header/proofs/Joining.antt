@@ -2,7 +2,7 @@
 use Prim.Native.Nat.{ℕ, ◌+◌, ◌-◌, ◌*◌, ◌≤◌, ◌<◌}
 use mathlib.Core.Path.{◌≡◌, refl, sym, ap, ◌∙◌}
 use mathlib.Core.Bool.{Bool, true, false}
-use mathlib.Core.Option.{Option, none, some}
+use Rattle.std.specs.Prelude.{Option, None, Some, Err}
 use mathlib.Core.List.{List, [], ◌∷◌, ◌++◌}
 use native.Mathlib.Omega.{arith}
 use lib.ListN.{length, get_or, length-append, length-map}
@@ -13,7 +13,7 @@ use Rattle.meaning.specs.Cut.{glyphs_of}
 use Rattle.meaning.specs.Layout.{coverage_words}
 use Rattle.meaning.specs.Subset.{Outcome, refused, limit}
 use Rattle.room.specs.Laid.{enough_area, laid_as}
-use Rattle.tried.specs.declared.Tried.{Tried}
+use Rattle.tried.specs.declared.NotCut.{NotCut}
 use Rattle.area.specs.Part.{part, news}
 use Rattle.handing.specs.Closed.{members}
 use Rattle.kept_rules.specs.declared.Maps.{Maps}
@@ -48,12 +48,12 @@ cover_word packed more cov bs = refl
 
 module _ (packed : Bool) (sort : Sort) where
   -- of no sets there is no table
-  table_none : (ks : List (ℕ × List ℕ)) → length ks ≡ 0 → table_of packed sort ks ≡ none
+  table_none : (ks : List (ℕ × List ℕ)) → length ks ≡ 0 → table_of packed sort ks ≡ None
   unfolding table_of
   table_none [] e = refl
   table_none (k ∷ ks) e = absurd (omega arith)
 
-  table_some : (ks : List (ℕ × List ℕ)) → (length ks ≡ 0 → ⊥) → table_of packed sort ks ≡ some (layout_of packed sort (glyphs_of ks) (words_of ks))
+  table_some : (ks : List (ℕ × List ℕ)) → (length ks ≡ 0 → ⊥) → table_of packed sort ks ≡ Some (layout_of packed sort (glyphs_of ks) (words_of ks))
   unfolding table_of
   table_some [] z = absurd (z refl)
   table_some (k ∷ ks) z = refl
@@ -64,21 +64,21 @@ module _ (packed : Bool) (sort : Sort) where
   table_sets [] h = absurd (omega (arith, ap length (none_blocks packed)))
   table_sets (k ∷ ks) h = omega (arith, cover_word packed (more_of sort) (coverage_words (glyphs_of (k ∷ ks))) (members (words_of (k ∷ ks))))
 
-words_some : (ws : List ℕ) → left_words (some ws) ≡ ws
+words_some : (ws : List ℕ) → left_words (Some ws) ≡ ws
 unfolding left_words
 words_some ws = refl
 
-laid_some : (out ws : List ℕ) → laid_words out (some ws) ≡ laid_as (ltb (get_or ws 1 0) 65536) out (flat ws)
+laid_some : (out ws : List ℕ) → laid_words out (Some ws) ≡ laid_as (ltb (get_or ws 1 0) 65536) out (flat ws)
 unfolding laid_words
 laid_some out ws = refl
 
 -- nothing is left
-pub laid_none : (out : List ℕ) {o : Option (List ℕ)} → o ≡ none → refused out 8 ≡ laid_words out o
+pub laid_none : (out : List ℕ) {o : Option (List ℕ)} → o ≡ None → refused out 8 ≡ laid_words out o
 unfolding laid_words
 laid_none out e = rw e refl
 
 -- there is no room
-pub answered_short : {a b : ℕ} {r : Tried} {out : List ℕ} {words : Option (List ℕ)} → NoRoom b r → b ≡ a → (enough_area ≤ a → refused out 9 ≡ laid_words out words) → Answered (⊥) out words a r out
+pub answered_short : {a b : ℕ} {r : NotCut} {out : List ℕ} {words : Option (List ℕ)} → NoRoom b r → b ≡ a → (enough_area ≤ a → refused out 9 ≡ laid_words out words) → Answered (⊥) out words a (Err r) out
 answered_short h e o = record { answer = (rw e at h).refuses o }
 
 module _ {sort : Sort} {s t₀ : List ℕ} {maps : Maps} {at m : ℕ} {packed : Bool} {area₀ t area : List ℕ} {r : Sets} (a : Ready sort s t₀ maps at m) (w : WroteKept sort s t₀ maps at m packed area₀ t area r) where
@@ -94,7 +94,7 @@ module _ {sort : Sort} {s t₀ : List ℕ} {maps : Maps} {at m : ℕ} {packed : 
     done = w.done (omega (arith, w.same))
 
     -- none is kept
-    pub none_kept : r.count ≡ 0 → table_of packed sort kept ≡ none
+    pub none_kept : r.count ≡ 0 → table_of packed sort kept ≡ None
     none_kept z = table_none packed sort kept (done.count ∙ z)
 
     module _ (z : r.count ≡ 0 → ⊥) {first : ℕ} (e : first ≡ header_size sort + 2 * m) where
@@ -112,7 +112,7 @@ module _ {sort : Sort} {s t₀ : List ℕ} {maps : Maps} {at m : ℕ} {packed : 
       }
 
       module _ {after : List ℕ} {end : ℕ} (f : Finished sort t at r.count first r.end area after end) where
-        table_is_some : table_of packed sort kept ≡ some (layout_of packed sort (glyphs_of kept) (words_of kept))
+        table_is_some : table_of packed sort kept ≡ Some (layout_of packed sort (glyphs_of kept) (words_of kept))
         table_is_some = table_some packed sort kept (λ n. z (sym done.count ∙ n))
 
         -- there is no room for the coverage
@@ -128,7 +128,7 @@ module _ {sort : Sort} {s t₀ : List ℕ} {maps : Maps} {at m : ℕ} {packed : 
         table_laid k {head} u {fits} q out₀ h =
             let p = rw (← e) at done.placed in
             let v = f.table (words_of kept) (length-map kept (λ x. x.1) ∙ done.count) p (omega (arith, f.same)) in
-            let many : length (members (words_of kept)) ≡ r.count = length-map (words_of kept) (λ b. some b) ∙ length-map kept (λ x. x.1) ∙ done.count in
+            let many : length (members (words_of kept)) ≡ r.count = length-map (words_of kept) (λ b. Some b) ∙ length-map kept (λ x. x.1) ∙ done.count in
             let second : r.end - (first - head) ≡ get_or (layout_of packed sort (glyphs_of kept) (words_of kept)) 1 0 = omega (arith, cover_word packed (more_of sort) (coverage_words (glyphs_of kept)) (members (words_of kept)), many, done.placed.place, done.few, e, u) in
             let test : fits ≡ ltb (get_or (layout_of packed sort (glyphs_of kept) (words_of kept)) 1 0) 65536 = q ∙ ap (λ (n : ℕ). ltb n 65536) second in
             h ∙ ap (λ (i : ℕ). laid_as fits out₀ (part after 0 i ++ part after first (end - first))) u ∙ ap (laid_as fits out₀) (v ∙ ap (λ (g : List ℕ). flat (layout_of packed sort g (words_of kept))) done.glyphs)

@@ -1,7 +1,6 @@
 -- What the writing of a table answers, with a lent area.
-use Rattle.std.specs.Prelude.{ℕ, ◌+◌, ◌*◌, ◌≤◌, ◌<◌, ◌≡◌, refl, List, length, get_or, ltb}
+use Rattle.std.specs.Prelude.{ℕ, ◌+◌, ◌*◌, ◌≤◌, ◌<◌, ◌≡◌, refl, List, length, get_or, ltb, Option, None, Some, Result, Err}
 use Rattle.std.proofs.Common.{sym, ap, ◌∙◌, arith, le-ltb}
-use Rattle.std.proofs.Math.Option.{Option, none, some}
 use Rattle.meaning.specs.Words.{flat}
 use Rattle.meaning.specs.Tables.{Table}
 use Rattle.meaning.specs.Layout.{block, words_fit}
@@ -10,33 +9,33 @@ use Rattle.laws.specs.Stands.{flat_length}
 use Rattle.laws.specs.Through.{Opt}
 use Rattle.room.specs.Laid.{enough_area, laid_as, laid_words_lem, laid_over, laid_unfit}
 use Rattle.tried.specs.Tries.{Tries, tries_less}
-use Rattle.tried.specs.declared.Tried.{Tried}
+use Rattle.tried.specs.declared.NotCut.{NotCut}
 use Rattle.placed_sets.specs.Sorts.{left_words}
 
 -- There is no room in an area of a bytes: it is too short; or it has what is enough, and then the answer is that the layout is too big. The buffer is as before.
-pub record NoRoom (a : ℕ) (r : Tried) : Type 0 where
-  pub refuses : {out : List ℕ} {made : Outcome} → (enough_area ≤ a → refused out 9 ≡ made) → Tries (⊥) (a < enough_area) r out out made
+pub record NoRoom (a : ℕ) (r : NotCut) : Type 0 where
+  pub refuses : {out : List ℕ} {made : Outcome} → (enough_area ≤ a → refused out 9 ≡ made) → Tries (⊥) (a < enough_area) (Err r) out out made
 
 -- words laid into the buffer, which fit if the second of them, the coverage's offset, does; or nothing is left
 unfoldable pub laid_words : List ℕ → Option (List ℕ) → Outcome
-laid_words out none = refused out 8
-laid_words out (some ws) = laid_as (ltb (get_or ws 1 0) 65536) out (flat ws)
+laid_words out None = refused out 8
+laid_words out (Some ws) = laid_as (ltb (get_or ws 1 0) 65536) out (flat ws)
 
 -- the words of a table in the layout with this mark do fit exactly then
 abbrev pub ByCover : ℕ → Table → Type 0
 ByCover packing t = words_fit (words_in packing t) ≡ ltb (get_or (words_in packing t) 1 0) 65536
 
 -- What a cut answers, with an area of a bytes: few cells, as `few` says; that the area is too short; or what is left, laid into the buffer.
-pub record Answered (few : Type 0) (out₀ : List ℕ) (words : Option (List ℕ)) (a : ℕ) (r : Tried) (out : List ℕ) : Type 0 where
+pub record Answered (few : Type 0) (out₀ : List ℕ) (words : Option (List ℕ)) (a : ℕ) (r : Result ℕ NotCut) (out : List ℕ) : Type 0 where
   pub answer : Tries few (a < enough_area) r out₀ out (laid_words out₀ words)
 
 -- words of a table, laid
 laid_as_lem : (packing : ℕ) (out : List ℕ) (left : Option Table) → Opt (ByCover packing) left → laid_words out (block (words_in packing) left) ≡ written_in packing out left
 unfolding laid_words written_in block
-laid_as_lem packing out none h = refl
-laid_as_lem packing out (some t) h = laid_words_lem out (words_in packing t) h
+laid_as_lem packing out None h = refl
+laid_as_lem packing out (Some t) h = laid_words_lem out (words_in packing t) h
 
-module _ {few other : Type 0} (f : few → other) {out₀ : List ℕ} {words : Option (List ℕ)} {a : ℕ} {r : Tried} {out : List ℕ} where
+module _ {few other : Type 0} (f : few → other) {out₀ : List ℕ} {words : Option (List ℕ)} {a : ℕ} {r : Result ℕ NotCut} {out : List ℕ} where
   -- what is answered of words is answered of their table
   pub answered_as : (packing : ℕ) (left : Option Table) → Opt (ByCover packing) left → words ≡ block (words_in packing) left → Answered few out₀ words a r out → Tries other (a < enough_area) r out₀ out (written_in packing out₀ left)
   answered_as packing left c e h =
@@ -50,11 +49,11 @@ module _ {few other : Type 0} (f : few → other) {out₀ : List ℕ} {words : O
 -- an area that has what is enough and is too short for the coverage means that the layout is over the limit
 pub words_over : (out : List ℕ) (words : Option (List ℕ)) {n a : ℕ} → n ≤ limit → a < 2 * length (left_words words) + n → enough_area ≤ a → refused out 9 ≡ laid_words out words
 unfolding laid_words left_words limit
-words_over out none h e l = absurd (omega arith)
-words_over out (some ws) h e l = sym (laid_over (ltb (get_or ws 1 0) 65536) out (flat ws) (omega (arith, flat_length ws)))
+words_over out None h e l = absurd (omega arith)
+words_over out (Some ws) h e l = sym (laid_over (ltb (get_or ws 1 0) 65536) out (flat ws) (omega (arith, flat_length ws)))
 
 -- and so does a coverage's offset that doesn't fit a word
 pub words_unfit : (out : List ℕ) (words : Option (List ℕ)) → 65536 ≤ get_or (left_words words) 1 0 → refused out 9 ≡ laid_words out words
 unfolding laid_words left_words
-words_unfit out none l = absurd (omega arith)
-words_unfit out (some ws) l = rw (le-ltb (get_or ws 1 0) 65536 l) (sym (laid_unfit out (flat ws)))
+words_unfit out None l = absurd (omega arith)
+words_unfit out (Some ws) l = rw (le-ltb (get_or ws 1 0) 65536 l) (sym (laid_unfit out (flat ws)))

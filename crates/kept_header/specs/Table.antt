@@ -1,6 +1,5 @@
 -- The table that kept sets make, and how it stands in the area.
-use Rattle.std.specs.Prelude.{ℕ, ◌+◌, ◌-◌, ◌*◌, ◌≤◌, ◌<◌, ◌≡◌, Bool, List, [], ◌∷◌, ◌++◌, length}
-use Rattle.std.proofs.Math.Option.{Option, none, some}
+use Rattle.std.specs.Prelude.{ℕ, ◌+◌, ◌-◌, ◌*◌, ◌≤◌, ◌<◌, ◌≡◌, Bool, List, [], ◌∷◌, ◌++◌, length, Option, None, Some}
 use Rattle.meaning.specs.Words.{flat}
 use Rattle.meaning.specs.Cut.{glyphs_of}
 use Rattle.meaning.specs.Layout.{coverage_words}
@@ -24,8 +23,8 @@ layout_of packed sort gs bs = sets_in packed (coverage_words gs) (more_of sort) 
 
 -- the words of the table of kept sets, if one is kept
 unfoldable pub table_of : Bool → Sort → List (ℕ × List ℕ) → Option (List ℕ)
-table_of packed sort [] = none
-table_of packed sort (e ∷ ks) = some (layout_of packed sort (glyphs_of (e ∷ ks)) (words_of (e ∷ ks)))
+table_of packed sort [] = None
+table_of packed sort (e ∷ ks) = Some (layout_of packed sort (glyphs_of (e ∷ ks)) (words_of (e ∷ ks)))
 
 -- what is asked of k sets that stand from `first` up to p: there is one, and the gap before `first` is not too wide
 pub record Finishes (sort : Sort) (t : List ℕ) (notes k first p : ℕ) (area : List ℕ) : Type 0 where

@@ -2,7 +2,7 @@
 use Prim.Native.Nat.{ℕ, ◌+◌, ◌-◌, ◌*◌, ◌/◌, ◌≤◌}
 use mathlib.Core.Path.{◌≡◌, refl, sym, ap, ◌∙◌}
 use mathlib.Core.Bool.{false}
-use mathlib.Core.Option.{some}
+use Rattle.std.specs.Prelude.{Some}
 use mathlib.Core.List.{List, [], ◌∷◌, ◌++◌}
 use native.Mathlib.Omega.{arith}
 use lib.ListN.{length}
@@ -20,9 +20,9 @@ use Rattle.kept_rules.specs.Left.{rule_size, plain_gone, plain_is}
 
 -- what is left of it, in the numbers that were read
 plain_said : (m : RuleMaps) (s : List ℕ) (at : ℕ) {count n k : ℕ} {ns : List ℕ} → count ≡ word s at → (count ≡ 0 → ⊥) → n ≡ count - 1 → k ≡ word s (at + 2)
-    → map_all (find m.input) (words s (at + 4) n) ≡ some ns
+    → map_all (find m.input) (words s (at + 4) n) ≡ Some ns
     → block (rule_words false) (cut_rule false m (rule false s at))
-    ≡ some (count ∷ length (cut_records m.lookups (entries s (at + 4 + 2 * n) k)) ∷ (ns ++ twos (cut_records m.lookups (entries s (at + 4 + 2 * n) k))))
+    ≡ Some (count ∷ length (cut_records m.lookups (entries s (at + 4 + 2 * n) k)) ∷ (ns ++ twos (cut_records m.lookups (entries s (at + 4 + 2 * n) k))))
 plain_said m s at e z d f h =
     let g = ap (λ (i : ℕ). map_all (find m.input) (words s (at + 4) i)) (sym (d ∙ ap (λ (i : ℕ). i - 1) e)) ∙ h in
     rw (f, d, e) (plain_is m s at (λ w. z (e ∙ w)) g)
@@ -49,5 +49,5 @@ module _ (m : RuleMaps) (s : List ℕ) (at : ℕ) {count n : ℕ} (e : count ≡
     plain_left {k} {end} {r} {c} {after} f y o =
         let rs = cut_records m.lookups (entries s (at + 4 + 2 * n) k) in
         let many : (end - q) / 4 ≡ length rs = omega (arith, y.place, twos_length rs) in
-        let whole : block (rule_words false) (cut_rule false m (rule false s at)) ≡ some (count ∷ length rs ∷ (input.words ++ twos rs)) = plain_said m s at e z d f input.is in
+        let whole : block (rule_words false) (cut_rule false m (rule false s at)) ≡ Some (count ∷ length rs ∷ (input.words ++ twos rs)) = plain_said m s at e z d f input.is in
         leaves_words whole (extends_before (count ∷ length rs ∷ []) (extends_more input.extends y) refl (o.1 ∙ ap (λ (i : ℕ). sets c pos (flat (count ∷ i ∷ []))) many))

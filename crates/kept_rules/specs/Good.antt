@@ -1,6 +1,5 @@
 -- What maps in cells answer are words.
-use Rattle.std.specs.Prelude.{ℕ, zero, suc, ◌+◌, ◌/◌, ◌%◌, Bool, true, false, cond, List, [], ◌∷◌, get_or, eqb}
-use Rattle.std.proofs.Math.Option.{Option, none, some}
+use Rattle.std.specs.Prelude.{ℕ, zero, suc, ◌+◌, ◌/◌, ◌%◌, Bool, true, false, cond, List, [], ◌∷◌, get_or, eqb, Option, None, Some}
 use Rattle.std.proofs.Common.{arith}
 use Rattle.std.specs.Int.Bits.{bit_and}
 use Rattle.meaning.specs.Words.{bind, push, map_some, up_from}
@@ -18,7 +17,7 @@ answer_word : (e x : ℕ) → Opt Word (answer_in e x)
 unfolding answer_in
 answer_word e x = step (eqb (e / 65536) x)
   where
-    step : (t : Bool) → Opt Word (cond t (some (e % 65536)) none)
+    step : (t : Bool) → Opt Word (cond t (Some (e % 65536)) None)
     step true = omega arith
     step false = tt
 
@@ -27,16 +26,16 @@ unfolding answered_from push bind
 answered_values f h a zero = tt
 answered_values f h a (suc n) = step (f a) (h a) (answered_values f h (a + 1) n)
   where
-    step : (o : Option ℕ) → Opt Word o → Values (answered_from f (a + 1) n) → Values (push (bind o (λ v. some (a, v))) (answered_from f (a + 1) n))
-    step none w r = r
-    step (some v) w r = (w, r)
+    step : (o : Option ℕ) → Opt Word o → Values (answered_from f (a + 1) n) → Values (push (bind o (λ v. Some (a, v))) (answered_from f (a + 1) n))
+    step None w r = r
+    step (Some v) w r = (w, r)
 
 cell_values : (t : List ℕ) (m : Map) (is : List ℕ) → Values (map_some (entry_in t m) is)
 unfolding map_some push entry_in
 cell_values t m [] = tt
 cell_values t m (i ∷ is) = step (eqb (bit_and (get_or t (m.at + i) 0 / 65536) m.mask) i) (cell_values t m is)
   where
-    step : (b : Bool) → Values (map_some (entry_in t m) is) → Values (push (cond b (some (get_or t (m.at + i) 0 / 65536, get_or t (m.at + i) 0 % 65536)) none) (map_some (entry_in t m) is))
+    step : (b : Bool) → Values (map_some (entry_in t m) is) → Values (push (cond b (Some (get_or t (m.at + i) 0 / 65536, get_or t (m.at + i) 0 % 65536)) None) (map_some (entry_in t m) is))
     step true r = (omega arith, r)
     step false r = r
 

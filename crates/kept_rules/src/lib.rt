@@ -1,8 +1,7 @@
 // One rule of a context, plain or chained: what is left of it, written into the area in one walk.
 #![tactic(auto)]
 
-ghost use Rattle.std.specs.Prelude.{◌≡◌, true, false, ◌+◌, ◌≤◌, ◌<◌, length};
-ghost use Rattle.std.proofs.Math.Option.{none};
+ghost use Rattle.std.specs.Prelude.{◌≡◌, true, false, ◌+◌, ◌≤◌, ◌<◌, length, None};
 ghost use Rattle.meaning.specs.Tables.{rule};
 ghost use Rattle.meaning.specs.Fault.{rule_fault};
 ghost use Rattle.meaning.specs.Cut.{cut_rule};
@@ -13,7 +12,7 @@ ghost use Rattle.kept_rules.specs.Left.{AllInside, maps_in, rule_size, ahead_on,
 use area::{over, put_two};
 use cell_maps::Map;
 use lookup_records::{write_counted_records, write_records};
-use numbers::{after_first, ended, renumber, write_counted};
+use numbers::{ended, renumber, write_counted};
 use wire::word_inside;
 
 // The maps that a rule's numbers and the lookups of its records go through.
@@ -27,7 +26,7 @@ pub struct Maps {
 
 // What is left of the plain rule at `at`, from `pos` on: nothing if its glyph count is 0 or a number of its input has no new one.
 fn write_plain(src: &[u8], at: usize, t: &[u32], maps: Maps, area: &mut [u8], pos: usize) -> usize
-    requires { (rule_fault false src.now at ≡ none) × AllInside t.now maps × (pos ≤ length area.old) }
+    requires { (rule_fault false src.now at ≡ None) × AllInside t.now maps × (pos ≤ length area.old) }
     ensures { Leaves area.old pos (block (rule_words false) (cut_rule false (maps_in t.now maps) (rule false src.now at))) (rule_size false src.now at) area.new result }
 {
     let count = word_inside(src, at);
@@ -69,7 +68,7 @@ fn write_input(src: &[u8], at: usize, t: &[u32], maps: Maps, area: &mut [u8], po
     ensures { Leaves area.old pos (input_on (maps_in t.now maps) src.now at) (input_size src.now at) area.new result }
 {
     let count = word_inside(src, at);
-    let n = after_first(count);
+    let n = count.saturating_sub(1);
     let p = write_counted(count, src, at + 2, n, t, maps.input, area, pos);
     if ended(area, p) {
         return p;
@@ -79,7 +78,7 @@ fn write_input(src: &[u8], at: usize, t: &[u32], maps: Maps, area: &mut [u8], po
 
 // What is left of the chained rule at `at`, from `pos` on: nothing if one of its numbers has no new one.
 fn write_chained(src: &[u8], at: usize, t: &[u32], maps: Maps, area: &mut [u8], pos: usize) -> usize
-    requires { (rule_fault true src.now at ≡ none) × AllInside t.now maps × (0 < pos) × (pos ≤ length area.old) }
+    requires { (rule_fault true src.now at ≡ None) × AllInside t.now maps × (0 < pos) × (pos ≤ length area.old) }
     ensures { Leaves area.old pos (block (rule_words true) (cut_rule true (maps_in t.now maps) (rule true src.now at))) (rule_size true src.now at) area.new result }
 {
     let n = word_inside(src, at);
@@ -100,7 +99,7 @@ pub fn write_rule(
     area: &mut [u8],
     pos: usize,
 ) -> usize
-    requires { (rule_fault chained src.now at ≡ none) × AllInside t.now maps × (0 < pos) × (pos ≤ length area.old) }
+    requires { (rule_fault chained src.now at ≡ None) × AllInside t.now maps × (0 < pos) × (pos ≤ length area.old) }
     ensures { Leaves area.old pos (block (rule_words chained) (cut_rule chained (maps_in t.now maps) (rule chained src.now at))) (rule_size chained src.now at) area.new result }
 {
     if chained {

@@ -1,7 +1,7 @@
 -- What is asked, in each turn of the loop over the notes, and what it leaves.
 use Prim.Native.Nat.{ℕ, ◌+◌, ◌*◌, ◌/◌, ◌≤◌, ◌<◌}
 use mathlib.Core.Path.{◌≡◌, refl, sym, ap, ◌∙◌, subst}
-use mathlib.Core.Option.{none}
+use Rattle.std.specs.Prelude.{None}
 use mathlib.Core.List.{List}
 use native.Mathlib.Omega.{arith}
 use lib.ListN.{length, get_or}
@@ -46,7 +46,7 @@ module _ {sort : Sort} {s t₀ : List ℕ} {maps : Maps} {at m : ℕ} (a : Ready
       pub offset_inside : slots + 2 * (note / 65536) + 1 < length s
       offset_inside = omega (arith, e, reaches.inside)
 
-      pub set_sound : {off : ℕ} → off ≡ word s (slots + 2 * (note / 65536)) → (off ≡ 0 → ⊥) → set_fault_of sort s off ≡ none
+      pub set_sound : {off : ℕ} → off ≡ word s (slots + 2 * (note / 65536)) → (off ≡ 0 → ⊥) → set_fault_of sort s off ≡ None
       set_sound {off} w z =
           let f : word s (header_size sort + 2 * (note / 65536)) ≡ off = sym (w ∙ ap (λ (i : ℕ). word s (i + 2 * (note / 65536))) e) in
           rw f at (reaches.sound (λ q. z (sym f ∙ q)))

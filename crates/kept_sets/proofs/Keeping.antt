@@ -1,7 +1,7 @@
 -- What the loop over the notes keeps, and each way through its turn, for sets of any sort.
 use Prim.Native.Nat.{ℕ, ◌+◌, ◌-◌, ◌*◌, ◌/◌, ◌%◌, ◌≤◌, ◌<◌}
 use mathlib.Core.Path.{◌≡◌, refl, sym, ap, ◌∙◌}
-use mathlib.Core.Option.{Option, none, some}
+use Rattle.std.specs.Prelude.{Option, None, Some}
 use mathlib.Core.List.{List, [], ◌∷◌, ◌++◌, map, append_assoc, append-nil, map-append}
 use native.Mathlib.Omega.{arith}
 use lib.ListN.{length, get_or, set, length-append, length-map}
@@ -39,10 +39,10 @@ pub words_length : (xs : List (ℕ × List ℕ)) → length (words_of xs) ≡ le
 words_length xs = length-map xs (λ e. e.1)
 
 -- a set that is left is the next of them
-words_push : (o : Option (List ℕ)) (n : ℕ) (r : List (ℕ × List ℕ)) → words_of (push (bind o (λ ws. some (n, ws))) r) ≡ push o [] ++ words_of r
+words_push : (o : Option (List ℕ)) (n : ℕ) (r : List (ℕ × List ℕ)) → words_of (push (bind o (λ ws. Some (n, ws))) r) ≡ push o [] ++ words_of r
 unfolding push bind
-words_push none n r = refl
-words_push (some ws) n r = refl
+words_push None n r = refl
+words_push (Some ws) n r = refl
 
 module _ (left : ℕ → Option (List ℕ)) (s : List ℕ) (slots : ℕ) (t₀ : List ℕ) (at m : ℕ) where
   -- what is kept from the i-th note on, and in all
@@ -86,7 +86,7 @@ module _ (left : ℕ → Option (List ℕ)) (s : List ℕ) (slots : ℕ) (t₀ :
 
   module _ {area₀ book₀ t area book : List ℕ} {k p i : ℕ} (c : Keeping area₀ book₀ t area book k p i) where
     module _ (h : i < m) {note off : ℕ} (n : note ≡ get_or t (at + i) 0) (e : off ≡ word s (slots + 2 * (note / 65536))) where
-      here : from i ≡ push (bind (set_at left s slots (note / 65536)) (λ ws. some (note % 65536, ws))) (from (i + 1))
+      here : from i ≡ push (bind (set_at left s slots (note / 65536)) (λ ws. Some (note % 65536, ws))) (from (i + 1))
       unfolding kept_of
       here =
           let v : get_or t₀ (at + i) 0 ≡ note = sym (n ∙ c.ahead (at + i) (omega arith)) in
@@ -130,7 +130,7 @@ module _ (left : ℕ → Option (List ℕ)) (s : List ℕ) (slots : ℕ) (t₀ :
       }
 
       module _ (z : off ≡ 0 → ⊥) (small : Small (left off)) {q : ℕ} {one after : List ℕ} (w : PlacedSet left turn area book one after q) where
-        there : from i ≡ push (bind (left off) (λ ws. some (note % 65536, ws))) (from (i + 1))
+        there : from i ≡ push (bind (left off) (λ ws. Some (note % 65536, ws))) (from (i + 1))
         unfolding set_at
         there = here ∙ rw (ne_eqb (word s (slots + 2 * (note / 65536))) 0 (λ v. z (e ∙ v)), ← e)
 
@@ -142,7 +142,7 @@ module _ (left : ℕ → Option (List ℕ)) (s : List ℕ) (slots : ℕ) (t₀ :
         unfolding push bind
         keeping_gone v =
             let g = w.gone next_turn v in
-            let d : from i ≡ from (i + 1) = there ∙ ap (λ (o : Option (List ℕ)). push (bind o (λ ws. some (note % 65536, ws))) (from (i + 1))) g.0 in
+            let d : from i ≡ from (i + 1) = there ∙ ap (λ (o : Option (List ℕ)). push (bind o (λ ws. Some (note % 65536, ws))) (from (i + 1))) g.0 in
             record {
               within = omega arith;
               fewer = omega (arith, c.fewer);
@@ -164,7 +164,7 @@ module _ (left : ℕ → Option (List ℕ)) (s : List ℕ) (slots : ℕ) (t₀ :
         keeping_one {next} v l f =
             let g = w.next next_turn v (omega (arith, w.same)) in
             let mine : ℕ × List ℕ = (note % 65536, g.words) in
-            let d : from i ≡ mine ∷ from (i + 1) = there ∙ ap (λ (o : Option (List ℕ)). push (bind o (λ ws. some (note % 65536, ws))) (from (i + 1))) g.is in
+            let d : from i ≡ mine ∷ from (i + 1) = there ∙ ap (λ (o : Option (List ℕ)). push (bind o (λ ws. Some (note % 65536, ws))) (from (i + 1))) g.is in
             let room : at + k < length t = omega (arith, c.fewer, c.fits, c.cells.size) in
             record {
               within = omega arith;

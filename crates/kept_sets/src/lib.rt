@@ -48,11 +48,9 @@ pub fn write_kept(
     begin(book);
     let mut k = 0;
     let mut p = first;
-    let mut i = 0;
-    while i < m {
+    for i in 0..m {
         let note = t[notes.at + i];
         let at = word_inside(src, slots + 2 * (note as usize / 65536));
-        i += 1;
         if at == 0 {
             continue;
         }
@@ -66,11 +64,12 @@ pub fn write_kept(
         if area.len() < q {
             return Sets { count: 0, end: q };
         }
-        if q != 0 {
-            t[notes.at + k] = note;
-            k += 1;
-            p = q;
+        if q == 0 {
+            continue;
         }
+        t[notes.at + k] = note;
+        k += 1;
+        p = q;
     }
     Sets { count: k, end: p }
 }

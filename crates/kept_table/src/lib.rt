@@ -15,17 +15,17 @@ use kept_rules::Maps;
 use kept_sets::Notes;
 use packed_sets::write_sets;
 use placed_sets::{Sort, header_size};
-use room::{AREA, Laid};
-use tried::Tried;
+use room::{AREA, NotLaid};
+use tried::NotCut;
 
 // There is no room in the area: it is too short; or it has what is enough for any source, and then the layout is too big.
-fn no_room(area: &[u8]) -> Tried
+fn no_room(area: &[u8]) -> NotCut
     ensures { NoRoom (length area.now) result }
 {
     if area.len() < AREA {
-        return Tried::Short;
+        return NotCut::Short;
     }
-    Tried::Became(Laid::TooBig)
+    NotCut::Refused(NotLaid::TooBig)
 }
 
 // What is left of a table, whose retained covered glyphs are noted, laid into the buffer if it is not too big and the buffer is not shorter. `told` says where the fields that stay stand in a pair record; for other sorts it has marks at the places of members that are known to go.
@@ -38,7 +38,7 @@ pub fn write_table(
     maps: Maps,
     area: &mut [u8],
     out: &mut [u8],
-) -> Tried
+) -> Result<usize, NotCut>
     requires { Ready sort src.now t.old maps notes.at notes.count × (length area.old ≤ enough_area) × Told sort (maps_in t.old maps) src.now told.old }
     ensures { Answered ⊥ out.old (table_of (eqb notes.packing 1) sort (kept_in sort src.now t.old maps notes.at notes.count)) (length area.old) result out.new }
 {
@@ -47,18 +47,18 @@ pub fn write_table(
     let p = sets.end;
     let k = sets.count;
     if area.len() < p {
-        return no_room(area);
+        return Err(no_room(area));
     }
     if k == 0 {
-        return Tried::Became(Laid::Nothing);
+        return Err(NotCut::Refused(NotLaid::Nothing));
     }
     let slots = header_size(sort);
     let first = slots + 2 * m;
     let end = finish(sort, t, notes.at, k, first, p, area);
     if area.len() < end {
-        return no_room(area);
+        return Err(no_room(area));
     }
     let head = slots + 2 * k;
     let fits = cover_fits(head, first, p);
-    Tried::Became(hand_over(area, head, first, end, fits, out))
+    Ok(hand_over(area, head, first, end, fits, out)?)
 }

@@ -2,7 +2,7 @@
 use Prim.Native.Nat.{ℕ, zero, suc, ◌+◌, ◌*◌, ◌/◌, ◌%◌, ◌<◌}
 use mathlib.Core.Path.{◌≡◌, refl, sym, ap, ◌∙◌}
 use mathlib.Core.Bool.{Bool, true, false, cond, ◌||◌, true≢false}
-use mathlib.Core.Option.{Option, some}
+use Rattle.std.specs.Prelude.{Option, Some}
 use mathlib.Core.List.{List, [], ◌∷◌, ◌++◌, append-nil}
 use native.Mathlib.Omega.{arith}
 use lib.ListN.{length, get_or}
@@ -65,17 +65,17 @@ book_different true bs = firsts_different (drop_null bs)
 
 -- what is left of a place is one of the blocks of the book, and r is where that stands: it is not written again
 pub repeated_in : {left : ℕ → Option (List ℕ)} (bs : List (Option (List ℕ))) (d : List ℕ) {book : List ℕ} {first source r : ℕ} → Booked left (in_book (packs book) bs) book → has d (in_book (packs book) bs) ≡ true
-    → r ≡ offset_in first (in_book (packs book) bs) d → left source ≡ some d → Repeated left bs book first source r
+    → r ≡ offset_in first (in_book (packs book) bs) d → left source ≡ Some d → Repeated left bs book first source r
 unfolding has place_in
 repeated_in {left} bs d {book} {first} {source} {r} k h o f =
     let g = step (packs book) k h o in
     record { words = d; is = f; at = g.0; again = g.1; booked = g.2 }
   where
     step : (packed : Bool) → Booked left (in_book packed bs) book → has d (in_book packed bs) ≡ true → r ≡ offset_in first (in_book packed bs) d
-        → (r ≡ place_in packed first bs d) × (known packed bs d ≡ true) × Booked left (in_book packed (bs ++ (some d ∷ []))) book
+        → (r ≡ place_in packed first bs d) × (known packed bs d ≡ true) × Booked left (in_book packed (bs ++ (Some d ∷ []))) book
     step false k h o = absurd (true≢false (sym h))
     step true k h o =
-        let same : in_book true (bs ++ (some d ∷ [])) ≡ in_book true bs = firsts_next true 0 bs d ∙ rw h (append-nil (first_of_each (drop_null bs))) in
+        let same : in_book true (bs ++ (Some d ∷ [])) ≡ in_book true bs = firsts_next true 0 bs d ∙ rw h (append-nil (first_of_each (drop_null bs))) in
         (rw h o, h, rw (sym same) at k)
 
 -- the offset of a block, by the words before it
@@ -103,7 +103,7 @@ found_none = record { found = λ {left} bs k z. absurd (z refl) }
 -- the j-th of blocks that stand behind `before` words, by its cell
 record Listing (left : ℕ → Option (List ℕ)) (ds : List (List ℕ)) (before c : ℕ) : Type 0 where
   pub words : List ℕ
-  pub is : left (c % 65536) ≡ some words
+  pub is : left (c % 65536) ≡ Some words
   pub among : has words ds ≡ true
   pub behind : c / 65536 ≡ before + words_before ds words
 

@@ -3,7 +3,7 @@ use Prim.Native.Nat.{ℕ, zero, suc, ◌+◌, ◌-◌, ◌*◌, ◌/◌, ◌%◌
 use mathlib.Core.Path.{◌≡◌, refl, sym, ap, ◌∙◌, subst}
 use mathlib.Core.Bool.{Bool, true, false, cond, ◌||◌, true≢false}
 use mathlib.Core.Logic.{◌⊎◌, inl, inr}
-use mathlib.Core.Option.{Option, some}
+use Rattle.std.specs.Prelude.{Option, Some}
 use mathlib.Core.List.{List, [], ◌∷◌, ◌++◌, append-nil}
 use native.Mathlib.Omega.{arith}
 use lib.ListN.{length, get_or, set, length-set, length-append}
@@ -103,7 +103,7 @@ listed_more left before after j v i w (d ∷ ds) b k h e f l =
     (ap (λ (x : ℕ). x / 65536) c ∙ h.0, ap (λ (x : ℕ). left (x % 65536)) c ∙ h.1, listed_more left before after j v (i + 1) (w + length d) ds b (λ x u y. k x (omega arith) (omega arith)) h.2 (omega (arith, e)) (omega (arith, f, length-append d (together ds))) l)
 
 pub booked_more : (left : ℕ → Option (List ℕ)) (ds : List (List ℕ)) (b : List ℕ) {before after : List ℕ} {offset source : ℕ} → Booked left ds before → Noted offset source before after → offset ≤ 65535 → offset ≡ 2 * length (together ds) → source < 65536
-    → left source ≡ some b → 3 + length ds ≤ length before → length ds < 65535 → Booked left (ds ++ (b ∷ [])) after
+    → left source ≡ Some b → 3 + length ds ≤ length before → length ds < 65535 → Booked left (ds ++ (b ∷ [])) after
 booked_more left ds b {before} {after} {offset} {source} k n near place f o r w = record {
   count = ap (λ (l : List ℕ). get_or l 0 0) (n.is near) ∙ get_or-set_same one 0 (c + 1) 0 (omega (arith, many)) ∙ omega (arith, k.count, more);
   few = omega (arith, more);
@@ -148,7 +148,7 @@ listed_same left before after i w (d ∷ ds) k h =
     let e = k i (omega arith) (omega arith) in
     (ap (λ (x : ℕ). x / 65536) e ∙ h.0, ap (λ (x : ℕ). left (x % 65536)) e ∙ h.1, listed_same left before after (i + 1) (w + length d) ds (λ j u v. k j (omega arith) (omega arith)) h.2)
 
-booked_further : {left : ℕ → Option (List ℕ)} (ds : List (List ℕ)) (b : List ℕ) {offset source : ℕ} {before after : List ℕ} → Booked left ds before → NotedPlace offset source before after → source < 65536 → left source ≡ some b → has b ds ≡ true
+booked_further : {left : ℕ → Option (List ℕ)} (ds : List (List ℕ)) (b : List ℕ) {offset source : ℕ} {before after : List ℕ} → Booked left ds before → NotedPlace offset source before after → source < 65536 → left source ≡ Some b → has b ds ≡ true
     → offset ≡ 2 * words_before ds b → Booked left ds after
 booked_further {left} ds b {offset} {source} {before} {after} k n f o h e = record {
   count = n.kept 0 (omega arith) ∙ k.count;
@@ -168,7 +168,7 @@ booked_further {left} ds b {offset} {source} {before} {after} k n f o h e = reco
 
 -- what is said of a block that is not too far
 abbrev NearIn : Bool → (ℕ → Option (List ℕ)) → List (Option (List ℕ)) → List ℕ → ℕ → List ℕ → Spot → Type 0
-NearIn packed left bs b first book r = (r.at ≡ place_in packed first bs b) × (r.end ≡ first + 2 * length (blocks_in packed (bs ++ (some b ∷ [])))) × Booked left (in_book packed (bs ++ (some b ∷ []))) book
+NearIn packed left bs b first book r = (r.at ≡ place_in packed first bs b) × (r.end ≡ first + 2 * length (blocks_in packed (bs ++ (Some b ∷ [])))) × Booked left (in_book packed (bs ++ (Some b ∷ []))) book
 
 module _ {area : List ℕ} {first p : ℕ} (q source : ℕ) {book : List ℕ} where
   -- a book of one cell: each block is new
@@ -232,7 +232,7 @@ module _ {area : List ℕ} {first p : ℕ} (q source : ℕ) {book : List ℕ} wh
       near_known {after} z o c =
           let ds = first_of_each (drop_null bs) in
           let k = is_known z in
-          let same : first_of_each (drop_null (bs ++ (some b ∷ []))) ≡ ds = firsts_next true 0 bs b ∙ rw k (append-nil ds) in
+          let same : first_of_each (drop_null (bs ++ (Some b ∷ []))) ≡ ds = firsts_next true 0 bs b ∙ rw k (append-nil ds) in
           let there : at ≡ offset_in first ds b = found ∙ where_has p first ds b k in
           let booked : Booked left ds after = booked_further ds b in_book_lem o c h.from k (omega (arith, there, offset_words first ds b k)) in
           (rw k there, place ∙ ap (λ (x : List (List ℕ)). first + 2 * length (together x)) (sym same), subst (λ (x : List (List ℕ)). Booked left x after) (sym same) booked)
@@ -241,8 +241,8 @@ module _ {area : List ℕ} {first p : ℕ} (q source : ℕ) {book : List ℕ} wh
       unfolding place_in shared_blocks
       near_new {after} {r} z a f o c y =
           let k = is_new z in
-          let more : first_of_each (drop_null (bs ++ (some b ∷ []))) ≡ first_of_each (drop_null bs) ++ (b ∷ []) = firsts_next true 0 bs b ∙ rw k refl in
-          let words_more : together (first_of_each (drop_null (bs ++ (some b ∷ [])))) ≡ together (first_of_each (drop_null bs)) ++ b = blocks_next true 0 bs b ∙ rw k refl in
+          let more : first_of_each (drop_null (bs ++ (Some b ∷ []))) ≡ first_of_each (drop_null bs) ++ (b ∷ []) = firsts_next true 0 bs b ∙ rw k refl in
+          let words_more : together (first_of_each (drop_null (bs ++ (Some b ∷ [])))) ≡ together (first_of_each (drop_null bs)) ++ b = blocks_next true 0 bs b ∙ rw k refl in
           (rw k (a ∙ place), f ∙ omega (arith, place, h.end, ap length words_more, length-append (together (first_of_each (drop_null bs))) b), subst (λ (x : List (List ℕ)). Booked left x after) (sym more) (booked_more left (first_of_each (drop_null bs)) b in_book_lem o (omega arith) (omega (arith, place)) c h.from (h.room e y) (h.few e y)))
 
     pub settled_known : {after : List ℕ} → (at ≡ p → ⊥) → NotedPlace (at - first) source book after → source < 65536 → Settled area first p q source book after (record { at = at; end = p })

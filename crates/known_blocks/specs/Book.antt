@@ -1,6 +1,5 @@
 -- A book of the blocks that are written, and what is found by it.
-use Rattle.std.specs.Prelude.{ℕ, ◌+◌, ◌-◌, ◌*◌, ◌/◌, ◌%◌, ◌≤◌, ◌<◌, ◌≡◌, Bool, true, false, cond, ◌&&◌, ◌⊎◌, List, [], ◌∷◌, ◌++◌, length, get_or, set, eqb, ltb}
-use Rattle.std.proofs.Math.Option.{Option, some}
+use Rattle.std.specs.Prelude.{ℕ, ◌+◌, ◌-◌, ◌*◌, ◌/◌, ◌%◌, ◌≤◌, ◌<◌, ◌≡◌, Bool, true, false, cond, ◌&&◌, ◌⊎◌, List, [], ◌∷◌, ◌++◌, length, get_or, set, eqb, ltb, Option, Some}
 use Rattle.meaning.specs.Words.{words, eq_list}
 use Rattle.meaning.specs.Tables.{drop_null}
 use Rattle.meaning.specs.Packed.{first_of_each, together}
@@ -25,7 +24,7 @@ in_book true bs = first_of_each (drop_null bs)
 -- the blocks `ds`, which stand behind `before` words, have the cells from i on: how many words stand before each, and a place of which it is what is left
 abbrev pub Listed : (ℕ → Option (List ℕ)) → List ℕ → ℕ → ℕ → List (List ℕ) → Type 0
 Listed left book i before [] = Unit {0}
-Listed left book i before (d ∷ ds) = (get_or book i 0 / 65536 ≡ before) × (left (get_or book i 0 % 65536) ≡ some d) × Listed left book (i + 1) (before + length d) ds
+Listed left book i before (d ∷ ds) = (get_or book i 0 / 65536 ≡ before) × (left (get_or book i 0 % 65536) ≡ Some d) × Listed left book (i + 1) (before + length d) ds
 
 -- how many words stand before the block b
 unfoldable pub words_before : List (List ℕ) → List ℕ → ℕ
@@ -35,7 +34,7 @@ words_before (d ∷ ds) b = cond (eq_list d b) 0 (length d + words_before ds b)
 -- a cell leads to a block: what is left of its place is one of the blocks, which stands behind as many words as the cell says
 pub record Leads (left : ℕ → Option (List ℕ)) (ds : List (List ℕ)) (c : ℕ) : Type 0 where
   pub words : List ℕ
-  pub is : left (c % 65536) ≡ some words
+  pub is : left (c % 65536) ≡ Some words
   pub among : has words ds ≡ true
   pub before : c / 65536 ≡ words_before ds words
 
@@ -93,10 +92,10 @@ pub record Fresh (first p q : ℕ) (r : Spot) : Type 0 where
 -- What was left of this place of the source is in the book, and stands at r, if r is not 0: it is not written again.
 pub record Repeated (left : ℕ → Option (List ℕ)) (bs : List (Option (List ℕ))) (book : List ℕ) (first source r : ℕ) : Type 0 where
   pub words : List ℕ
-  pub is : left source ≡ some words
+  pub is : left source ≡ Some words
   pub at : r ≡ place_in (packs book) first bs words
   pub again : known (packs book) bs words ≡ true
-  pub booked : Booked left (in_book (packs book) (bs ++ (some words ∷ []))) book
+  pub booked : Booked left (in_book (packs book) (bs ++ (Some words ∷ []))) book
 
 pub record Again (book : List ℕ) (first source r : ℕ) : Type 0 where
   pub found : {left : ℕ → Option (List ℕ)} (bs : List (Option (List ℕ))) → Booked left (in_book (packs book) bs) book → (r ≡ 0 → ⊥) → Repeated left bs book first source r
@@ -109,7 +108,7 @@ pub record Behind (left : ℕ → Option (List ℕ)) (bs : List (Option (List �
   pub some_word : 0 < length b
   pub laid : packs book ≡ true → Stands area first (blocks_in true bs)
   pub last : packs book ≡ true → Stands area p b
-  pub from : left source ≡ some b
+  pub from : left source ≡ Some b
   pub room : packs book ≡ true → p ≤ first + 65535 → 3 + length (in_book true bs) ≤ length book
   pub few : packs book ≡ true → p ≤ first + 65535 → length (in_book true bs) < 65535
 
@@ -118,6 +117,6 @@ pub record Settled (area : List ℕ) (first p q source : ℕ) (before after : Li
   pub same : length after ≡ length before
   pub far : r.at ≡ 0 → 0 < first → first + 65535 < p
   pub near : {left : ℕ → Option (List ℕ)} (bs : List (Option (List ℕ))) (b : List ℕ) → Behind left bs b area first p q source before → (r.at ≡ 0 → ⊥)
-      → (r.at ≡ place_in (packs after) first bs b) × (r.end ≡ first + 2 * length (blocks_in (packs after) (bs ++ (some b ∷ [])))) × Booked left (in_book (packs after) (bs ++ (some b ∷ []))) after
+      → (r.at ≡ place_in (packs after) first bs b) × (r.end ≡ first + 2 * length (blocks_in (packs after) (bs ++ (Some b ∷ [])))) × Booked left (in_book (packs after) (bs ++ (Some b ∷ []))) after
   pub new : {left : ℕ → Option (List ℕ)} (bs : List (Option (List ℕ))) (b : List ℕ) → Behind left bs b area first p q source before → first + 65535 < p → (r.at ≡ 0 → ⊥) → known (packs after) bs b ≡ true
   pub unknown : {left : ℕ → Option (List ℕ)} (bs : List (Option (List ℕ))) (b : List ℕ) → Behind left bs b area first p q source before → r.at ≡ 0 → 0 < first → known (packs after) bs b ≡ false

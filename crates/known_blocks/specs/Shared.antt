@@ -1,9 +1,8 @@
 -- Blocks of one kind in the layout that is asked for, plain or packed, as a loop meets them one by one.
-use Rattle.std.specs.Prelude.{ℕ, ◌+◌, ◌*◌, ◌≤◌, ◌≡◌, Bool, ◌&&◌}
+use Rattle.std.specs.Prelude.{ℕ, ◌+◌, ◌*◌, ◌≤◌, ◌≡◌, Bool, ◌&&◌, Option, None, Some}
 use Rattle.std.proofs.Math.Path.{refl, ap}
 use Rattle.std.proofs.Common.{sym, ap₂, ◌∙◌, arith, length-append}
 use Rattle.std.proofs.Math.Bool.{true, false, cond}
-use Rattle.std.proofs.Math.Option.{Option, none, some}
 use mathlib.Core.List.{List, [], ◌∷◌, ◌++◌, map, map-append, append-nil, append_assoc}
 use Rattle.std.proofs.Math.ListN.{length}
 use Rattle.meaning.specs.Tables.{drop_null}
@@ -32,18 +31,18 @@ unfoldable pub place_in : Bool → ℕ → List (Option (List ℕ)) → List ℕ
 place_in packed p bs b = cond (known packed bs b) (offset_in p (first_of_each (drop_null bs)) b) (p + 2 * length (blocks_in packed bs))
 
 -- no block more
-pub null_dropped : (bs : List (Option (List ℕ))) → drop_null (bs ++ (none ∷ [])) ≡ drop_null bs
+pub null_dropped : (bs : List (Option (List ℕ))) → drop_null (bs ++ (None ∷ [])) ≡ drop_null bs
 unfolding drop_null
 null_dropped [] = refl
-null_dropped (none ∷ bs) = null_dropped bs
-null_dropped (some b ∷ bs) = ap (λ (l : List (List ℕ)). b ∷ l) (null_dropped bs)
+null_dropped (None ∷ bs) = null_dropped bs
+null_dropped (Some b ∷ bs) = ap (λ (l : List (List ℕ)). b ∷ l) (null_dropped bs)
 
 -- one block more
-block_left : (bs : List (Option (List ℕ))) (b : List ℕ) → drop_null (bs ++ (some b ∷ [])) ≡ drop_null bs ++ (b ∷ [])
+block_left : (bs : List (Option (List ℕ))) (b : List ℕ) → drop_null (bs ++ (Some b ∷ [])) ≡ drop_null bs ++ (b ∷ [])
 unfolding drop_null
 block_left [] b = refl
-block_left (none ∷ bs) b = block_left bs b
-block_left (some d ∷ bs) b = ap (λ (l : List (List ℕ)). d ∷ l) (block_left bs b)
+block_left (None ∷ bs) b = block_left bs b
+block_left (Some d ∷ bs) b = ap (λ (l : List (List ℕ)). d ∷ l) (block_left bs b)
 
 together_append : (ds es : List (List ℕ)) → together (ds ++ es) ≡ together ds ++ together es
 unfolding together
@@ -54,24 +53,24 @@ together_append (d ∷ ds) es = ap (λ (l : List ℕ). d ++ l) (together_append 
 shared_stay : (p : ℕ) (ds es : List (List ℕ)) (bs : List (Option (List ℕ))) → All (λ b. has b ds ≡ true) (drop_null bs) → map (shared_offset p (ds ++ es)) bs ≡ map (shared_offset p ds) bs
 unfolding shared_offset drop_null
 shared_stay p ds es [] h = refl
-shared_stay p ds es (none ∷ bs) h = ap (λ (l : List ℕ). 0 ∷ l) (shared_stay p ds es bs h)
-shared_stay p ds es (some b ∷ bs) h = ap₂ ◌∷◌ (offset_stays p ds es b h.0) (shared_stay p ds es bs h.1)
+shared_stay p ds es (None ∷ bs) h = ap (λ (l : List ℕ). 0 ∷ l) (shared_stay p ds es bs h)
+shared_stay p ds es (Some b ∷ bs) h = ap₂ ◌∷◌ (offset_stays p ds es b h.0) (shared_stay p ds es bs h.1)
 
 module _ (packed : Bool) (p : ℕ) (bs : List (Option (List ℕ))) where
-  pub offsets_null : offsets_in packed p (bs ++ (none ∷ [])) ≡ offsets_in packed p bs ++ (0 ∷ [])
+  pub offsets_null : offsets_in packed p (bs ++ (None ∷ [])) ≡ offsets_in packed p bs ++ (0 ∷ [])
   unfolding offsets shared_offsets shared_offset
   offsets_null = step packed
     where
-      step : (t : Bool) → offsets_in t p (bs ++ (none ∷ [])) ≡ offsets_in t p bs ++ (0 ∷ [])
-      step false = offsets_append p bs (none ∷ [])
-      step true = ap (λ (ds : List (List ℕ)). map (shared_offset p (first_of_each ds)) (bs ++ (none ∷ []))) (null_dropped bs) ∙ map-append (shared_offset p (first_of_each (drop_null bs))) bs (none ∷ [])
+      step : (t : Bool) → offsets_in t p (bs ++ (None ∷ [])) ≡ offsets_in t p bs ++ (0 ∷ [])
+      step false = offsets_append p bs (None ∷ [])
+      step true = ap (λ (ds : List (List ℕ)). map (shared_offset p (first_of_each ds)) (bs ++ (None ∷ []))) (null_dropped bs) ∙ map-append (shared_offset p (first_of_each (drop_null bs))) bs (None ∷ [])
 
-  pub blocks_null : blocks_in packed (bs ++ (none ∷ [])) ≡ blocks_in packed bs
+  pub blocks_null : blocks_in packed (bs ++ (None ∷ [])) ≡ blocks_in packed bs
   unfolding blocks shared_blocks
   blocks_null = step packed
     where
-      step : (t : Bool) → blocks_in t (bs ++ (none ∷ [])) ≡ blocks_in t bs
-      step false = blocks_append bs (none ∷ []) ∙ append-nil (blocks bs)
+      step : (t : Bool) → blocks_in t (bs ++ (None ∷ [])) ≡ blocks_in t bs
+      step false = blocks_append bs (None ∷ []) ∙ append-nil (blocks bs)
       step true = ap (λ (ds : List (List ℕ)). together (first_of_each ds)) (null_dropped bs)
 
   module _ (b : List ℕ) where
@@ -79,10 +78,10 @@ module _ (packed : Bool) (p : ℕ) (bs : List (Option (List ℕ))) where
     abbrev ds : List (List ℕ)
     ds = first_of_each (drop_null bs)
 
-    pub firsts_next : first_of_each (drop_null (bs ++ (some b ∷ []))) ≡ ds ++ cond (has b ds) [] (b ∷ [])
+    pub firsts_next : first_of_each (drop_null (bs ++ (Some b ∷ []))) ≡ ds ++ cond (has b ds) [] (b ∷ [])
     firsts_next = ap first_of_each (block_left bs b) ∙ first_next (drop_null bs) b
 
-    pub blocks_next : blocks_in packed (bs ++ (some b ∷ [])) ≡ blocks_in packed bs ++ cond (known packed bs b) [] b
+    pub blocks_next : blocks_in packed (bs ++ (Some b ∷ [])) ≡ blocks_in packed bs ++ cond (known packed bs b) [] b
     unfolding blocks shared_blocks together
     blocks_next = step packed
       where
@@ -90,11 +89,11 @@ module _ (packed : Bool) (p : ℕ) (bs : List (Option (List ℕ))) where
         one true = refl
         one false = append-nil b
 
-        step : (t : Bool) → blocks_in t (bs ++ (some b ∷ [])) ≡ blocks_in t bs ++ cond (t && has b ds) [] b
-        step false = blocks_append bs (some b ∷ []) ∙ ap (λ (l : List ℕ). blocks bs ++ l) (append-nil b)
+        step : (t : Bool) → blocks_in t (bs ++ (Some b ∷ [])) ≡ blocks_in t bs ++ cond (t && has b ds) [] b
+        step false = blocks_append bs (Some b ∷ []) ∙ ap (λ (l : List ℕ). blocks bs ++ l) (append-nil b)
         step true = ap together firsts_next ∙ together_append ds (cond (has b ds) [] (b ∷ [])) ∙ ap (λ (l : List ℕ). together ds ++ l) (one (has b ds))
 
-    pub offsets_next : offsets_in packed p (bs ++ (some b ∷ [])) ≡ offsets_in packed p bs ++ (place_in packed p bs b ∷ [])
+    pub offsets_next : offsets_in packed p (bs ++ (Some b ∷ [])) ≡ offsets_in packed p bs ++ (place_in packed p bs b ∷ [])
     unfolding offsets place_in shared_offsets shared_offset shared_blocks
     offsets_next = step packed
       where
@@ -102,9 +101,9 @@ module _ (packed : Bool) (p : ℕ) (bs : List (Option (List ℕ))) where
         last true e = ap (λ (l : List (List ℕ)). offset_in p l b) (append-nil ds)
         last false e = offset_behind p ds b e
 
-        step : (t : Bool) → offsets_in t p (bs ++ (some b ∷ [])) ≡ offsets_in t p bs ++ (place_in t p bs b ∷ [])
-        step false = offsets_append p bs (some b ∷ [])
+        step : (t : Bool) → offsets_in t p (bs ++ (Some b ∷ [])) ≡ offsets_in t p bs ++ (place_in t p bs b ∷ [])
+        step false = offsets_append p bs (Some b ∷ [])
         step true =
-            ap (λ (l : List (List ℕ)). map (shared_offset p l) (bs ++ (some b ∷ []))) firsts_next
-            ∙ map-append (shared_offset p (ds ++ cond (has b ds) [] (b ∷ []))) bs (some b ∷ [])
+            ap (λ (l : List (List ℕ)). map (shared_offset p l) (bs ++ (Some b ∷ []))) firsts_next
+            ∙ map-append (shared_offset p (ds ++ cond (has b ds) [] (b ∷ []))) bs (Some b ∷ [])
             ∙ ap₂ ◌++◌ (shared_stay p ds (cond (has b ds) [] (b ∷ [])) bs (each_has (drop_null bs))) (ap (λ (q : ℕ). q ∷ []) (last (has b ds) refl))

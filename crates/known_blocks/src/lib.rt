@@ -40,12 +40,10 @@ fn same(area: &[u8], a: usize, b: usize, n: usize) -> bool
     requires { (a + 2 * n < 0x4_0000_0000_0000) × (b + 2 * n < 0x4_0000_0000_0000) }
     ensures { result ≡ eq_list (words area.now a n) (words area.now b n) }
 {
-    let mut i = 0;
-    while i < n {
+    for i in 0..n {
         if word_at(area, a + 2 * i) != word_at(area, b + 2 * i) {
             return false;
         }
-        i += 1;
     }
     true
 }
@@ -79,12 +77,10 @@ pub fn find(area: &[u8], book: &[u32], first: usize, p: usize, n: usize) -> usiz
     ensures { Found area.now book.now first p n result }
 {
     let count = cell(book, 0);
-    let mut i = 0;
-    while i < count {
+    for i in 0..count {
         if is_equal(area, book, first, p, n, i) {
             return start(book, first, p, i);
         }
-        i += 1;
     }
     p
 }

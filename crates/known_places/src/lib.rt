@@ -13,13 +13,11 @@ fn among(book: &[u32], first: usize, source: usize) -> usize
     ensures { Again book.now first source result }
 {
     let count = cell(book, 0);
-    let mut i = 0;
-    while i < count {
+    for i in 0..count {
         let block = cell(book, 1 + i);
         if block % 65536 == source {
             return first + 2 * (block / 65536);
         }
-        i += 1;
     }
     0
 }
@@ -31,8 +29,7 @@ fn elsewhere(book: &[u32], first: usize, source: usize) -> usize
 {
     let blocks = cell(book, 0);
     let count = cell(book, last(book));
-    let mut i = 0;
-    while i < count {
+    for i in 0..count {
         if book.len() < 3 + blocks + i {
             return 0;
         }
@@ -40,7 +37,6 @@ fn elsewhere(book: &[u32], first: usize, source: usize) -> usize
         if further % 65536 == source {
             return first + 2 * (further / 65536);
         }
-        i += 1;
     }
     0
 }

@@ -3,6 +3,7 @@ use Prim.Native.Nat.{ℕ, ◌-◌, ◌≤◌}
 use mathlib.Core.Path.{◌≡◌, refl, sym, ap, ◌∙◌}
 use mathlib.Core.Bool.{Bool, true, false}
 use mathlib.Core.List.{List, ◌++◌}
+use Rattle.std.specs.Prelude.{Result}
 use native.Mathlib.Omega.{arith}
 use lib.ListN.{length, take, drop, replicate, length-replicate}
 use lib.Seq.{sets, take_at, drop_at, length-sets, length-take-le}
@@ -15,7 +16,7 @@ use Rattle.promises.specs.Refusals.{Call}
 use Rattle.promises.specs.Promises.{kept_is_small}
 use Rattle.job.proofs.Runs.{job_faulty, job_runs}
 use Rattle.refusals.specs.Answers.{number_of, length_of, outcome}
-use Rattle.refusals.specs.declared.Answer.{Answer}
+use Rattle.refusals.specs.declared.Refusal.{Refusal}
 use Rattle.report_lines.specs.Text.{Put, Printable}
 use Rattle.report_lines.specs.Lengths.{text_room, printed_length}
 use Rattle.label_job.specs.Answered.{Answered}
@@ -36,7 +37,7 @@ program_is : (f lent : List ℕ) → lent ≡ replicate room 0 → printed (job 
 unfolding program room limit
 program_is f lent e = ap (λ (l : List ℕ). printed (job f l)) e
 
-module _ (f : List ℕ) (a : Answer) {lent result : List ℕ} {n len : ℕ} (zeros : lent ≡ replicate room 0) (number : n ≡ number_of a) (long : len ≡ length_of a) (ran : outcome a result ≡ job f lent) (full : length result ≡ 262144) where
+module _ (f : List ℕ) (a : Result ℕ Refusal) {lent result : List ℕ} {n len : ℕ} (zeros : lent ≡ replicate room 0) (number : n ≡ number_of a) (long : len ≡ length_of a) (ran : outcome a result ≡ job f lent) (full : length result ≡ 262144) where
   -- the number, the length and the buffer are those of the job
   same : record { number = n; len = len; out = result } ≡ job f lent
   same = rw (number, long) ran

@@ -7,7 +7,7 @@ ghost use Rattle.report_lines.specs.Lengths.{text_room};
 ghost use Rattle.label_job.specs.Answered.{Answered};
 
 use answer_numbers::{length_of, number_of};
-use input::{Input, read_input};
+use input::read_input;
 use job::run;
 use report::report;
 use std::io::Write;
@@ -53,7 +53,7 @@ fn unread() -> [u8; FILE] {
 // Reads the file, and writes the text at once. Where that fails, a sentence on standard error says so; a failed read leaves standard output empty.
 fn main(rt: HostRuntime) {
     let mut file = unread();
-    let Input::Bytes(n) = read_input(&mut rt.stdin(), &mut file) else {
+    let Ok(n) = read_input(&mut rt.stdin(), &mut file) else {
         let _ = eprintln!(rt; "label_job: standard input could not be read");
         return;
     };

@@ -30,9 +30,7 @@ pub fn spread_run(list: &[u8], k: usize, t: &mut [u32], m: Map)
     let old = word_inside(list, 6 * k);
     let new = word_inside(list, 6 * k + 2);
     let count = word_inside(list, 6 * k + 4);
-    let mut i = 0;
-    while i < count {
+    for i in 0..count {
         add(t, m, old + i, new + i);
-        i += 1;
     }
 }

@@ -1,10 +1,8 @@
 -- What is cut from a good pair table by class, and from good single substitutions, is good.
 use Prim.Native.Nat.{ℕ, suc, ◌+◌, ◌-◌, ◌≤◌, ◌<◌, ◌%◌}
-use Rattle.std.specs.Prelude.{◌≡◌, Bool, true, false, cond, ◌&&◌, get_or, eqb}
+use Rattle.std.specs.Prelude.{◌≡◌, Bool, true, false, cond, ◌&&◌, get_or, eqb, Option, None, Some, unwrap_or}
 use Rattle.std.proofs.Math.Path.{refl, ap, subst}
 use Rattle.std.proofs.Common.{sym, ◌∙◌}
-use Rattle.std.proofs.Math.Option
-use Rattle.std.proofs.Math.Option.{Option, none, some}
 use mathlib.Core.List.{List, [], ◌∷◌, map}
 use native.Mathlib.Omega.{arith}
 use Rattle.std.proofs.Math.ListN.{length, length-map}
@@ -78,7 +76,7 @@ unfolding kept_singles kind_of
 singles_kept [] u h = tt
 singles_kept (e ∷ r) u h = step (agree (e ∷ r))
   where
-    step : (t : Bool) → GoodOf 5 (cond t (Table.single_delta (some (keys (e ∷ r))) (delta_of e)) (Table.single_list (some (keys (e ∷ r))) (values (e ∷ r))))
+    step : (t : Bool) → GoodOf 5 (cond t (Table.single_delta (Some (keys (e ∷ r))) (delta_of e)) (Table.single_list (Some (keys (e ∷ r))) (values (e ∷ r))))
     step true = (((u, keys_words (e ∷ r) h), delta_word e), refl)
     step false = (((u, keys_words (e ∷ r) h), values_words (e ∷ r) h, columns (e ∷ r)), refl)
 
@@ -87,7 +85,7 @@ module _ (g : List (ℕ × ℕ)) (good : GoodMap g) where
   pub substitutes_words : (es : List (ℕ × ℕ)) → All Words2 (kept_substitutes g es)
   unfolding kept_substitutes
   substitutes_words es =
-      all_map_some (λ (e : ℕ × ℕ). Unit {0}) Words2 (λ e. bind (find g e.0) (λ n. bind (find g e.1) (λ m. some (n, m))))
+      all_map_some (λ (e : ℕ × ℕ). Unit {0}) Words2 (λ e. bind (find g e.0) (λ n. bind (find g e.1) (λ m. Some (n, m))))
       (λ e u. opt_bind Word Words2 (find g e.0) _ (find_word g e.0 (new_words g good)) (λ n p. opt_bind Word Words2 (find g e.1) _ (find_word g e.1 (new_words g good)) (λ m q. (p, q)))) es (all_any es)
 
   pub singles_good : (es : List (ℕ × ℕ)) → Up 0 (keys es) → Opt (GoodOf 5) (kept_singles (kept_substitutes g es))
@@ -98,12 +96,12 @@ module _ (g : List (ℕ × ℕ)) (good : GoodMap g) where
       (substitutes_words es)
     where
       f : ℕ × ℕ → Option (ℕ × ℕ)
-      f e = bind (find g e.0) (λ n. bind (find g e.1) (λ m. some (n, m)))
+      f e = bind (find g e.0) (λ n. bind (find g e.1) (λ m. Some (n, m)))
 
-      follow : (e : ℕ × ℕ) → Opt (λ b. find g e.0 ≡ some b.0) (f e)
+      follow : (e : ℕ × ℕ) → Opt (λ b. find g e.0 ≡ Some b.0) (f e)
       follow e =
-          let Q : ℕ × ℕ → Type 0 = λ b. find g e.0 ≡ some b.0 in
-          opt_bind (λ n. find g e.0 ≡ some n) Q (find g e.0) _ (itself (find g e.0)) (λ n p.
+          let Q : ℕ × ℕ → Type 0 = λ b. find g e.0 ≡ Some b.0 in
+          opt_bind (λ n. find g e.0 ≡ Some n) Q (find g e.0) _ (itself (find g e.0)) (λ n p.
           opt_bind (λ m. Unit {0}) Q (find g e.1) _ (any (find g e.1)) (λ m u. p))
 
 -- Classes that are held.
@@ -146,7 +144,7 @@ unfolding class_of find
 class_below n [] g z h = z
 class_below n (e ∷ cs) g z h = step (eqb e.0 g) (class_below n cs g z h.1)
   where
-    step : (t : Bool) → Option.get_or (find cs g) 0 < n → Option.get_or (cond t (some e.1) (find cs g)) 0 < n
+    step : (t : Bool) → unwrap_or (find cs g) 0 < n → unwrap_or (cond t (Some e.1) (find cs g)) 0 < n
     step true k = h.0
     step false k = k
 
@@ -170,21 +168,21 @@ unfolding find
 find_below n [] c h = tt
 find_below n (e ∷ m) c h = step (eqb e.0 c) (find m c) (find_below n m c h.1)
   where
-    step : (t : Bool) (o : Option ℕ) → Opt (λ v. v < n) o → Opt (λ v. v < n) (cond t (some e.1) o)
+    step : (t : Bool) (o : Option ℕ) → Opt (λ v. v < n) o → Opt (λ v. v < n) (cond t (Some e.1) o)
     step true o k = h.0
     step false o k = k
 
 under_below : (n : ℕ) (m g cs : List (ℕ × ℕ)) → All (λ e. e.1 < n) m → All (λ e. e.1 < n) (classes_under m g cs)
 under_below n m g cs h =
-    all_map_some (λ (e : ℕ × ℕ). Unit {0}) (λ e. e.1 < n) (λ e. bind (find m (class_of cs e.0)) (λ v. cond (eqb v 0) none (some (e.1, v))))
-    (λ e u. opt_bind (λ v. v < n) (λ e. e.1 < n) (find m (class_of cs e.0)) _ (find_below n m (class_of cs e.0) h) (λ v p. opt_cond (λ e. e.1 < n) (eqb v 0) (some (e.1, v)) p)) g (all_any g)
+    all_map_some (λ (e : ℕ × ℕ). Unit {0}) (λ e. e.1 < n) (λ e. bind (find m (class_of cs e.0)) (λ v. cond (eqb v 0) None (Some (e.1, v))))
+    (λ e u. opt_bind (λ v. v < n) (λ e. e.1 < n) (find m (class_of cs e.0)) _ (find_below n m (class_of cs e.0) h) (λ v p. opt_cond (λ e. e.1 < n) (eqb v 0) (Some (e.1, v)) p)) g (all_any g)
 
 pub numbered_length : (k : ℕ) (l : List ℕ) → length (numbered k l) ≡ length l
 unfolding numbered
 numbered_length k [] = refl
 numbered_length k (c ∷ r) = ap suc (numbered_length (k + 1) r)
 
-pub find_low : (k c : ℕ) (ks : List ℕ) (low : ℕ) → Up low ks → c < low → find (numbered k ks) c ≡ none
+pub find_low : (k c : ℕ) (ks : List ℕ) (low : ℕ) → Up low ks → c < low → find (numbered k ks) c ≡ None
 unfolding find numbered
 find_low k c [] low u h = refl
 find_low k c (x ∷ xs) low u h = rw (ne_eqb x c (omega arith)) (find_low (k + 1) c xs (x + 1) u.1 (omega arith))
@@ -192,15 +190,15 @@ find_low k c (x ∷ xs) low u h = rw (ne_eqb x c (omega arith)) (find_low (k + 1
 -- Cells.
 
 -- a cell with a class that a map has, and one with a class that it has not
-cut_some : (m : List (ℕ × ℕ)) (p : Pair) (n : ℕ) → find m p.second ≡ some n → cut_pair m p ≡ some (record { second = n; first_values = p.first_values; second_values = p.second_values })
+cut_some : (m : List (ℕ × ℕ)) (p : Pair) (n : ℕ) → find m p.second ≡ Some n → cut_pair m p ≡ Some (record { second = n; first_values = p.first_values; second_values = p.second_values })
 unfolding cut_pair bind
 cut_some m p n e = rw e
 
-cut_none : (m : List (ℕ × ℕ)) (p : Pair) → find m p.second ≡ none → cut_pair m p ≡ none
+cut_none : (m : List (ℕ × ℕ)) (p : Pair) → find m p.second ≡ None → cut_pair m p ≡ None
 unfolding cut_pair bind
 cut_none m p e = rw e
 
-pub find_hit : (x v y : ℕ) (m : List (ℕ × ℕ)) → x ≡ y → find ((x, v) ∷ m) y ≡ some v
+pub find_hit : (x v y : ℕ) (m : List (ℕ × ℕ)) → x ≡ y → find ((x, v) ∷ m) y ≡ Some v
 unfolding find
 find_hit x v y m e = rw (eq-eqb x y e)
 
@@ -228,11 +226,11 @@ module _ (a b : ℕ) where
   abbrev Cells : ℕ → ℕ → List Pair → Type 0
   Cells k n row = CellsFrom a b k row × (length row ≡ n)
 
-  push_hit : (k n : ℕ) (o : Option Pair) (l₁ l₂ : List Pair) (p : Pair) → o ≡ some p → l₁ ≡ l₂ → p.second ≡ k → GoodPair a b p → Cells (k + 1) n l₂ → Cells k (suc n) (push o l₁)
+  push_hit : (k n : ℕ) (o : Option Pair) (l₁ l₂ : List Pair) (p : Pair) → o ≡ Some p → l₁ ≡ l₂ → p.second ≡ k → GoodPair a b p → Cells (k + 1) n l₂ → Cells k (suc n) (push o l₁)
   unfolding push
   push_hit k n o l₁ l₂ p f s e g i = rw (f, s) ((e, g, i.0), ap suc i.1)
 
-  push_miss : (k n : ℕ) (o : Option Pair) (l : List Pair) → o ≡ none → Cells k n l → Cells k n (push o l)
+  push_miss : (k n : ℕ) (o : Option Pair) (l : List Pair) → o ≡ None → Cells k n l → Cells k n (push o l)
   unfolding push
   push_miss k n o l f i = rw f i
 
@@ -272,15 +270,15 @@ module _ (a b : ℕ) where
     rows_good m c (row ∷ rows) k = step (find m c) (row_good row k.0) (rows_good m (c + 1) rows k.1)
       where
         step : (o : Option ℕ) → GoodRow a b (length ks) (map_some (cut_pair (numbered 0 ks)) row) → All (λ e. GoodRow a b (length ks) e.1) (kept_rows m (numbered 0 ks) (c + 1) rows)
-            → All (λ e. GoodRow a b (length ks) e.1) (push (bind o (λ v. some (v, map_some (cut_pair (numbered 0 ks)) row))) (kept_rows m (numbered 0 ks) (c + 1) rows))
-        step none p q = q
-        step (some v) p q = (p, q)
+            → All (λ e. GoodRow a b (length ks) e.1) (push (bind o (λ v. Some (v, map_some (cut_pair (numbered 0 ks)) row))) (kept_rows m (numbered 0 ks) (c + 1) rows))
+        step None p q = q
+        step (Some v) p q = (p, q)
 
 pub rows_skip : (x v c : ℕ) (m m2 : List (ℕ × ℕ)) (rows : List (List Pair)) → x < c → kept_rows ((x, v) ∷ m) m2 c rows ≡ kept_rows m m2 c rows
 unfolding kept_rows
 rows_skip x v c m m2 [] l = refl
 rows_skip x v c m m2 (row ∷ rows) l =
-    let one : Option ℕ → Option (ℕ × List Pair) = λ o. bind o (λ n. some (n, map_some (cut_pair m2) row)) in
+    let one : Option ℕ → Option (ℕ × List Pair) = λ o. bind o (λ n. Some (n, map_some (cut_pair m2) row)) in
     ap (λ (o : Option ℕ). push (one o) (kept_rows ((x, v) ∷ m) m2 (c + 1) rows)) (find_miss x v c m l) ∙ ap (push (one (find m c))) (rows_skip x v (c + 1) m m2 rows (omega arith))
 
 no_rows : (m2 : List (ℕ × ℕ)) (c : ℕ) (rows : List (List Pair)) → kept_rows [] m2 c rows ≡ []
@@ -288,11 +286,11 @@ unfolding kept_rows find bind push
 no_rows m2 c [] = refl
 no_rows m2 c (row ∷ rows) = no_rows m2 (c + 1) rows
 
-pushed : (o : Option ℕ) (v : ℕ) (row : List Pair) (l₁ l₂ : List (ℕ × List Pair)) (n : ℕ) → o ≡ some v → l₁ ≡ l₂ → length l₂ ≡ n → length (push (bind o (λ v. some (v, row))) l₁) ≡ suc n
+pushed : (o : Option ℕ) (v : ℕ) (row : List Pair) (l₁ l₂ : List (ℕ × List Pair)) (n : ℕ) → o ≡ Some v → l₁ ≡ l₂ → length l₂ ≡ n → length (push (bind o (λ v. Some (v, row))) l₁) ≡ suc n
 unfolding push bind
 pushed o v row l₁ l₂ n f s i = rw (f, s) (ap suc i)
 
-not_pushed : (o : Option ℕ) (row : List Pair) (l : List (ℕ × List Pair)) (n : ℕ) → o ≡ none → length l ≡ n → length (push (bind o (λ v. some (v, row))) l) ≡ n
+not_pushed : (o : Option ℕ) (row : List Pair) (l : List (ℕ × List Pair)) (n : ℕ) → o ≡ None → length l ≡ n → length (push (bind o (λ v. Some (v, row))) l) ≡ n
 unfolding push bind
 not_pushed o row l n f i = rw f i
 
@@ -310,7 +308,7 @@ kept_rows_length m2 k c (x ∷ xs) (row ∷ rows) u h =
     m = (x, k) ∷ numbered (k + 1) xs
 
     step : (t : Bool) → eqb x c ≡ t → (x ≡ c → length (kept_rows (numbered (k + 1) xs) m2 (c + 1) rows) ≡ length xs) → (c < x → length (kept_rows m m2 (c + 1) rows) ≡ suc (length xs))
-        → length (push (bind (find m c) (λ v. some (v, map_some (cut_pair m2) row))) (kept_rows m m2 (c + 1) rows)) ≡ suc (length xs)
+        → length (push (bind (find m c) (λ v. Some (v, map_some (cut_pair m2) row))) (kept_rows m m2 (c + 1) rows)) ≡ suc (length xs)
     step true e same more =
         let y = eqb-true x c e in
         pushed (find m c) k (map_some (cut_pair m2) row) (kept_rows m m2 (c + 1) rows) (kept_rows (numbered (k + 1) xs) m2 (c + 1) rows) (length xs) (find_hit x k c (numbered (k + 1) xs) y) (rows_skip x k (c + 1) (numbered (k + 1) xs) m2 rows (omega arith)) (same y)
@@ -320,37 +318,37 @@ kept_rows_length m2 k c (x ∷ xs) (row ∷ rows) u h =
         not_pushed (find m c) (map_some (cut_pair m2) row) (kept_rows m m2 (c + 1) rows) (suc (length xs)) (find_low k c (x ∷ xs) x (omega arith, u.1) z) (more z)
 
 -- a class that has a rank is no lower than the list, and its rank no lower than the first
-found_low : (k c low v : ℕ) (ks : List ℕ) → Up low ks → find (numbered k ks) c ≡ some v → (low ≤ c) × (k ≤ v)
+found_low : (k c low v : ℕ) (ks : List ℕ) → Up low ks → find (numbered k ks) c ≡ Some v → (low ≤ c) × (k ≤ v)
 unfolding find numbered
 found_low k c low v [] u e = absurd (let z : ◌≡◌ {A = ℕ} 0 1 = cc in omega arith)
 found_low k c low v (x ∷ xs) u e = step (eqb x c) refl e (found_low (k + 1) c (x + 1) v xs u.1)
   where
-    step : (t : Bool) → eqb x c ≡ t → cond t (some k) (find (numbered (k + 1) xs) c) ≡ some v → (find (numbered (k + 1) xs) c ≡ some v → (x + 1 ≤ c) × (k + 1 ≤ v)) → (low ≤ c) × (k ≤ v)
+    step : (t : Bool) → eqb x c ≡ t → cond t (Some k) (find (numbered (k + 1) xs) c) ≡ Some v → (find (numbered (k + 1) xs) c ≡ Some v → (x + 1 ≤ c) × (k + 1 ≤ v)) → (low ≤ c) × (k ≤ v)
     step true q f i = let z : k ≡ v = cc in (omega (arith, eqb-true x c q, u.0), omega arith)
     step false q f i = let r = i f in (omega (arith, r.0, u.0), omega (arith, r.1))
 
-none_found : (k c v : ℕ) → find (numbered k []) c ≡ some v → ⊥
+none_found : (k c v : ℕ) → find (numbered k []) c ≡ Some v → ⊥
 unfolding find numbered
 none_found k c v e = let z : ◌≡◌ {A = ℕ} 0 1 = cc in omega arith
 
-here : (k c x v : ℕ) (xs : List ℕ) → x ≡ c → find (numbered k (x ∷ xs)) c ≡ some v → k ≡ v
+here : (k c x v : ℕ) (xs : List ℕ) → x ≡ c → find (numbered k (x ∷ xs)) c ≡ Some v → k ≡ v
 unfolding find numbered
-here k c x v xs q e = let f : some k ≡ some v = sym (rw (eq-eqb x c q)) ∙ e in cc
+here k c x v xs q e = let f : Some k ≡ Some v = sym (rw (eq-eqb x c q)) ∙ e in cc
 
-there : (k c x v : ℕ) (xs : List ℕ) → eqb x c ≡ false → find (numbered k (x ∷ xs)) c ≡ some v → find (numbered (k + 1) xs) c ≡ some v
+there : (k c x v : ℕ) (xs : List ℕ) → eqb x c ≡ false → find (numbered k (x ∷ xs)) c ≡ Some v → find (numbered (k + 1) xs) c ≡ Some v
 unfolding find numbered
 there k c x v xs q e = rw q at e
 
-row_hit : (m2 : List (ℕ × ℕ)) (o : Option ℕ) (v : ℕ) (row : List Pair) (rest : List (ℕ × List Pair)) → o ≡ some v → rows_of (push (bind o (λ v. some (v, map_some (cut_pair m2) row))) rest) ≡ map_some (cut_pair m2) row ∷ rows_of rest
+row_hit : (m2 : List (ℕ × ℕ)) (o : Option ℕ) (v : ℕ) (row : List Pair) (rest : List (ℕ × List Pair)) → o ≡ Some v → rows_of (push (bind o (λ v. Some (v, map_some (cut_pair m2) row))) rest) ≡ map_some (cut_pair m2) row ∷ rows_of rest
 unfolding rows_of push bind
 row_hit m2 o v row rest e = rw e
 
-row_miss : (m2 : List (ℕ × ℕ)) (o : Option ℕ) (row : List Pair) (rest : List (ℕ × List Pair)) → o ≡ none → push (bind o (λ v. some (v, map_some (cut_pair m2) row))) rest ≡ rest
+row_miss : (m2 : List (ℕ × ℕ)) (o : Option ℕ) (row : List Pair) (rest : List (ℕ × List Pair)) → o ≡ None → push (bind o (λ v. Some (v, map_some (cut_pair m2) row))) rest ≡ rest
 unfolding push bind
 row_miss m2 o row rest e = rw e
 
 -- the row of a kept class stands at its rank
-pub row_at : (m2 : List (ℕ × ℕ)) (k c₀ : ℕ) (ks : List ℕ) (rows : List (List Pair)) (c v : ℕ) → Up c₀ ks → All (λ x. x < c₀ + length rows) ks → find (numbered k ks) c ≡ some v
+pub row_at : (m2 : List (ℕ × ℕ)) (k c₀ : ℕ) (ks : List ℕ) (rows : List (List Pair)) (c v : ℕ) → Up c₀ ks → All (λ x. x < c₀ + length rows) ks → find (numbered k ks) c ≡ Some v
     → get_or (rows_of (kept_rows (numbered k ks) m2 c₀ rows)) (v - k) [] ≡ map_some (cut_pair m2) (get_or rows (c - c₀) [])
 unfolding numbered kept_rows
 row_at m2 k c₀ [] rows c v u h e = absurd (none_found k c v e)
@@ -369,9 +367,9 @@ row_at m2 k c₀ (x ∷ xs) (row ∷ rows) c v u h e =
     later : (i j i' j' : ℕ) (all : List (List Pair)) (one : List Pair) → i ≡ suc i' → j ≡ suc j' → get_or all i' [] ≡ map_some (cut_pair m2) (get_or rows j' []) → Row i j (one ∷ all)
     later i j i' j' all one p q r = rw (p, q) r
 
-    step : (t : Bool) → eqb x c₀ ≡ t → (x ≡ c₀ → find (numbered (k + 1) xs) c ≡ some v → get_or (rows_of (kept_rows (numbered (k + 1) xs) m2 (c₀ + 1) rows)) (v - (k + 1)) [] ≡ map_some (cut_pair m2) (get_or rows (c - (c₀ + 1)) []))
+    step : (t : Bool) → eqb x c₀ ≡ t → (x ≡ c₀ → find (numbered (k + 1) xs) c ≡ Some v → get_or (rows_of (kept_rows (numbered (k + 1) xs) m2 (c₀ + 1) rows)) (v - (k + 1)) [] ≡ map_some (cut_pair m2) (get_or rows (c - (c₀ + 1)) []))
         → (c₀ < x → get_or (rows_of (kept_rows m m2 (c₀ + 1) rows)) (v - k) [] ≡ map_some (cut_pair m2) (get_or rows (c - (c₀ + 1)) []))
-        → Row (v - k) (c - c₀) (rows_of (push (bind (find m c₀) (λ v. some (v, map_some (cut_pair m2) row))) (kept_rows m m2 (c₀ + 1) rows)))
+        → Row (v - k) (c - c₀) (rows_of (push (bind (find m c₀) (λ v. Some (v, map_some (cut_pair m2) row))) (kept_rows m m2 (c₀ + 1) rows)))
     step true q same more =
         let y = eqb-true x c₀ q in
         let a = row_hit m2 (find m c₀) k row (kept_rows m m2 (c₀ + 1) rows) (find_hit x k c₀ (numbered (k + 1) xs) y) in
@@ -385,7 +383,7 @@ row_at m2 k c₀ (x ∷ xs) (row ∷ rows) c v u h e =
             let z₂ : c - c₀ ≡ 0 = omega (arith, eqb-true x c r) in
             rw (z, z₂)
         inner false r y =
-            let f : find (numbered (k + 1) xs) c ≡ some v = there k c x v xs r e in
+            let f : find (numbered (k + 1) xs) c ≡ Some v = there k c x v xs r e in
             let l = found_low (k + 1) c (x + 1) v xs u.1 f in
             later (v - k) (c - c₀) (v - (k + 1)) (c - (c₀ + 1)) (rows_of (kept_rows (numbered (k + 1) xs) m2 (c₀ + 1) rows)) (map_some (cut_pair m2) row) (omega (arith, l.1)) (omega (arith, l.0)) (same y f)
     step false q same more =
@@ -420,31 +418,31 @@ rows_many f1 f2 n1 n2 (e ∷ r) = ap suc (rows_many f1 f2 n1 n2 r)
 covered_up : (g : List (ℕ × ℕ)) (cov : List ℕ) → Up 0 cov → Up 0 (map (λ (e : ℕ × ℕ). e.0) (covered_map g cov))
 unfolding covered_map
 covered_up g cov u =
-    map_some_up₀ (λ (x : ℕ). x) (λ (e : ℕ × ℕ). e.0) f some (λ a b x y l p q. let e₁ : a ≡ x = cc in let e₂ : b ≡ y = cc in omega arith) follow cov (subst (Up 0) (sym (map_same cov)) u)
+    map_some_up₀ (λ (x : ℕ). x) (λ (e : ℕ × ℕ). e.0) f Some (λ a b x y l p q. let e₁ : a ≡ x = cc in let e₂ : b ≡ y = cc in omega arith) follow cov (subst (Up 0) (sym (map_same cov)) u)
   where
     f : ℕ → Option (ℕ × ℕ)
-    f c = bind (find g c) (λ n. some (c, n))
+    f c = bind (find g c) (λ n. Some (c, n))
 
-    follow : (c : ℕ) → Opt (λ b. some c ≡ some b.0) (f c)
-    follow c = opt_bind (λ n. Unit {0}) (λ b. some c ≡ some b.0) (find g c) _ (any (find g c)) (λ n u. refl)
+    follow : (c : ℕ) → Opt (λ b. Some c ≡ Some b.0) (f c)
+    follow c = opt_bind (λ n. Unit {0}) (λ b. Some c ≡ Some b.0) (find g c) _ (any (find g c)) (λ n u. refl)
 
 pub covered_all : (P : ℕ → Type 0) (g : List (ℕ × ℕ)) (cov : List ℕ) → All P cov → All P (keys (covered_map g cov))
 unfolding covered_map map_some keys push bind
 covered_all P g [] h = tt
 covered_all P g (c ∷ cov) h = step (find g c) (covered_all P g cov h.1)
   where
-    step : (o : Option ℕ) → All P (keys (map_some (λ c. bind (find g c) (λ n. some (c, n))) cov)) → All P (keys (push (bind o (λ n. some (c, n))) (map_some (λ c. bind (find g c) (λ n. some (c, n))) cov)))
-    step none k = k
-    step (some n) k = (h.0, k)
+    step : (o : Option ℕ) → All P (keys (map_some (λ c. bind (find g c) (λ n. Some (c, n))) cov)) → All P (keys (push (bind o (λ n. Some (c, n))) (map_some (λ c. bind (find g c) (λ n. Some (c, n))) cov)))
+    step None k = k
+    step (Some n) k = (h.0, k)
 
 pub covered_values : (g : List (ℕ × ℕ)) (cov : List ℕ) → values (covered_map g cov) ≡ new_coverage g cov
 unfolding covered_map new_coverage map_some values push bind
 covered_values g [] = refl
 covered_values g (c ∷ cov) = step (find g c) (covered_values g cov)
   where
-    step : (o : Option ℕ) → values (map_some (λ c. bind (find g c) (λ n. some (c, n))) cov) ≡ map_some (find g) cov → values (push (bind o (λ n. some (c, n))) (map_some (λ c. bind (find g c) (λ n. some (c, n))) cov)) ≡ push o (map_some (find g) cov)
-    step none h = h
-    step (some n) h = ap (λ (l : List ℕ). n ∷ l) h
+    step : (o : Option ℕ) → values (map_some (λ c. bind (find g c) (λ n. Some (c, n))) cov) ≡ map_some (find g) cov → values (push (bind o (λ n. Some (c, n))) (map_some (λ c. bind (find g c) (λ n. Some (c, n))) cov)) ≡ push o (map_some (find g) cov)
+    step None h = h
+    step (Some n) h = ap (λ (l : List ℕ). n ∷ l) h
 
 insert_some : (c : ℕ) (l : List ℕ) → 0 < length (insert_up c l)
 unfolding insert_up
@@ -470,7 +468,7 @@ module _ (g : List (ℕ × ℕ)) (good : GoodMap g) where
       record {
         old = subst (Up 0) (sym (keys_map (covered_map g cov))) (covered_up g cov c.0);
         new = subst (Up 0) (sym (covered_values g cov)) (new_coverage_glyphs g good cov c).0;
-        words = all_map_some Word Words2 (λ c. bind (find g c) (λ n. some (c, n))) (λ c w. opt_bind Word Words2 (find g c) _ (find_word g c (new_words g good)) (λ n p. (w, p))) cov c.1;
+        words = all_map_some Word Words2 (λ c. bind (find g c) (λ n. Some (c, n))) (λ c w. opt_bind Word Words2 (find g c) _ (find_word g c (new_words g good)) (λ n p. (w, p))) cov c.1;
       }
 
   module _ (cov : List ℕ) (cs ds : List (ℕ × ℕ)) (f1 f2 n : ℕ) (rows : List (List Pair)) (c : Glyphs cov) (kd : Classes ds) (k : All (GoodRow (field_count f1) (field_count f2) n) rows) (wn : Word n) (wr : Word (length rows))
@@ -541,7 +539,7 @@ module _ (g : List (ℕ × ℕ)) (good : GoodMap g) where
   pub class_pairs_good : (cover : Option (List ℕ)) (first second : Option (List (ℕ × ℕ))) (f1 f2 n : ℕ) (rows : List (List Pair)) → Good (Table.class_pairs cover first second f1 f2 n rows)
       → Opt (GoodOf 4) (bind cover (λ cov. bind first (λ cs. bind second (λ ds. kept_class_pairs g (covered_map g cov) cs ds f1 f2 rows))))
   unfolding bind
-  class_pairs_good none first second f1 f2 n rows k = tt
-  class_pairs_good (some cov) none second f1 f2 n rows k = tt
-  class_pairs_good (some cov) (some cs) none f1 f2 n rows k = tt
-  class_pairs_good (some cov) (some cs) (some ds) f1 f2 n rows k = kept_class_pairs_lem cov cs ds f1 f2 n rows k.0 k.2 k.5 k.7 k.8 k.6.0 k.6.1 (covered_map g cov) refl
+  class_pairs_good None first second f1 f2 n rows k = tt
+  class_pairs_good (Some cov) None second f1 f2 n rows k = tt
+  class_pairs_good (Some cov) (Some cs) None f1 f2 n rows k = tt
+  class_pairs_good (Some cov) (Some cs) (Some ds) f1 f2 n rows k = kept_class_pairs_lem cov cs ds f1 f2 n rows k.0 k.2 k.5 k.7 k.8 k.6.0 k.6.1 (covered_map g cov) refl

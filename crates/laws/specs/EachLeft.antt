@@ -1,9 +1,8 @@
 -- Whether each part that offsets reach passes a test, as a loop over the offsets finds it.
 use Prim.Native.Nat.{ℕ, suc, ◌+◌, ◌-◌, ◌*◌, ◌≤◌, ◌<◌}
-use Rattle.std.specs.Prelude.{◌≡◌, Bool, ◌&&◌, List, [], ◌∷◌, eqb}
+use Rattle.std.specs.Prelude.{◌≡◌, Bool, ◌&&◌, List, [], ◌∷◌, eqb, None, Some}
 use Rattle.std.proofs.Math.Path.{refl}
 use Rattle.std.proofs.Math.Bool.{true, false, cond}
-use Rattle.std.proofs.Math.Option.{none, some}
 use native.Mathlib.Omega.{arith}
 use Rattle.meaning.specs.Words.{word, every}
 use Rattle.meaning.specs.Tables.{reach, reaches, drop_null}
@@ -30,7 +29,7 @@ module _ {A : Type 0} (test : A → Bool) (read : ℕ → A) (s : List ℕ) (bas
       let f : slot + 2 * (i + 1) ≡ slot + 2 * i + 2 = omega arith in
       rw (e, f) (step (eqb (word s (slot + 2 * i)) 0))
     where
-      step : (b : Bool) → every test (drop_null (cond b none (some (read (base + word s (slot + 2 * i)))) ∷ reaches read s base (slot + 2 * i + 2) (n - (i + 1))))
+      step : (b : Bool) → every test (drop_null (cond b None (Some (read (base + word s (slot + 2 * i)))) ∷ reaches read s base (slot + 2 * i + 2) (n - (i + 1))))
           ≡ cond b true (test (read (base + word s (slot + 2 * i)))) && every test (drop_null (reaches read s base (slot + 2 * i + 2) (n - (i + 1))))
       step true = refl
       step false = refl

@@ -1,8 +1,7 @@
 -- When each word of a plain layout fits 16 bits: where the offsets of coverages and class tables do, and no class table is over 131,076 bytes. A coverage always fits.
-use Rattle.std.specs.Prelude.{ℕ, suc, ◌+◌, ◌*◌, ◌≤◌, ◌<◌, ◌≡◌, refl, Bool, true, false, cond, ◌&&◌, leb, ltb, eqb}
+use Rattle.std.specs.Prelude.{ℕ, suc, ◌+◌, ◌*◌, ◌≤◌, ◌<◌, ◌≡◌, refl, Bool, true, false, cond, ◌&&◌, leb, ltb, eqb, Option, None, Some}
 use Rattle.std.proofs.Common.{sym, ◌∙◌, leb-true, leb-false, lt-ltb, eqb-true}
 use Rattle.std.proofs.Math.Path.{ap, subst}
-use Rattle.std.proofs.Math.Option.{Option, none, some}
 use mathlib.Core.List.{List, [], ◌∷◌, ◌++◌, map}
 use native.Mathlib.Omega.{arith}
 use Rattle.std.proofs.Math.ListN.{length, length-append, length-map}
@@ -135,8 +134,8 @@ classes_fit ((g, c) ∷ r) k = step (leb (6 + 2 * length array) (4 + 6 * length 
 blocks_fit : {A : Type 0} (f : A → List ℕ) (xs : List (Option A)) → All (Opt (λ a. All Word (f a))) xs → All Word (blocks (map (block f) xs))
 unfolding blocks block
 blocks_fit f [] h = tt
-blocks_fit f (none ∷ xs) h = blocks_fit f xs h.1
-blocks_fit f (some a ∷ xs) h = all_append Word (f a) (blocks (map (block f) xs)) h.0 (blocks_fit f xs h.1)
+blocks_fit f (None ∷ xs) h = blocks_fit f xs h.1
+blocks_fit f (Some a ∷ xs) h = all_append Word (f a) (blocks (map (block f) xs)) h.0 (blocks_fit f xs h.1)
 
 pub covers_words : (xs : List (Option (List ℕ))) → All (Opt Glyphs) xs → All Word (blocks (map (block coverage_words) xs))
 covers_words xs g = blocks_fit coverage_words xs (all_opt Glyphs (λ gs. All Word (coverage_words gs)) coverage_fits xs g)
@@ -148,8 +147,8 @@ Short es = length (class_words es) ≤ 65538
 pub tables_words : (cs : List (Option (List (ℕ × ℕ)))) → All (Opt Classes) cs → All (Opt Short) cs → All Word (blocks (map (block class_words) cs))
 unfolding blocks block
 tables_words [] k l = tt
-tables_words (none ∷ cs) k l = tables_words cs k.1 l.1
-tables_words (some es ∷ cs) k l = all_append Word (class_words es) (blocks (map (block class_words) cs)) ((classes_fit es k.0).0 l.0) (tables_words cs k.1 l.1)
+tables_words (None ∷ cs) k l = tables_words cs k.1 l.1
+tables_words (Some es ∷ cs) k l = all_append Word (class_words es) (blocks (map (block class_words) cs)) ((classes_fit es k.0).0 l.0) (tables_words cs k.1 l.1)
 
 -- a table by sets
 module _ {A : Type 0} (K : Kind A) (format : ℕ) (cover : Option (List ℕ)) (cs : List (Option (List (ℕ × ℕ)))) (more : List ℕ) (sets : List (Option A)) where
@@ -351,26 +350,26 @@ single_fit format cover more f m g o =
 offsets_fit : (n : ℕ) (bs : List (Option (List ℕ))) → All (Opt (λ b. 0 < length b)) bs → n + 2 * length (blocks bs) ≤ word_end → All Word (offsets n bs)
 unfolding offsets blocks
 offsets_fit n [] h l = tt
-offsets_fit n (none ∷ bs) h l = (omega arith, offsets_fit n bs h.1 l)
-offsets_fit n (some b ∷ bs) h l = let e = length-append b (blocks bs) in (omega (arith, h.0), offsets_fit (n + 2 * length b) bs h.1 (omega arith))
+offsets_fit n (None ∷ bs) h l = (omega arith, offsets_fit n bs h.1 l)
+offsets_fit n (Some b ∷ bs) h l = let e = length-append b (blocks bs) in (omega (arith, h.0), offsets_fit (n + 2 * length b) bs h.1 (omega arith))
 
 cover_some : (cover : Option (List ℕ)) → Opt Glyphs cover → Opt (λ b. 0 < length b) (block coverage_words cover)
 unfolding block
-cover_some none g = tt
-cover_some (some gs) g = (coverage_words_lem gs g).0
+cover_some None g = tt
+cover_some (Some gs) g = (coverage_words_lem gs g).0
 
 tables_some : (cs : List (Option (List (ℕ × ℕ)))) → All (Opt Classes) cs → All (Opt (λ b. 0 < length b)) (map (block class_words) cs)
 unfolding block
 tables_some [] k = tt
-tables_some (none ∷ cs) k = (tt, tables_some cs k.1)
-tables_some (some es ∷ cs) k = ((classes_words es k.0).0, tables_some cs k.1)
+tables_some (None ∷ cs) k = (tt, tables_some cs k.1)
+tables_some (Some es ∷ cs) k = ((classes_words es k.0).0, tables_some cs k.1)
 
 -- class tables among blocks that end by 65,536 are not too long
 tables_short : (n : ℕ) (cs : List (Option (List (ℕ × ℕ)))) → n + 2 * length (blocks (map (block class_words) cs)) ≤ word_end → All (Opt Short) cs
 unfolding block blocks
 tables_short n [] l = tt
-tables_short n (none ∷ cs) l = (tt, tables_short n cs l)
-tables_short n (some es ∷ cs) l = let e = length-append (class_words es) (blocks (map (block class_words) cs)) in (omega arith, tables_short n cs (omega arith))
+tables_short n (None ∷ cs) l = (tt, tables_short n cs l)
+tables_short n (Some es ∷ cs) l = let e = length-append (class_words es) (blocks (map (block class_words) cs)) in (omega arith, tables_short n cs (omega arith))
 
 cover_length : (format : ℕ) (h : List (Option (List ℕ))) (more : List ℕ) → length (cover_layout format h more) ≡ 1 + length h + length more + length (blocks h)
 unfolding cover_layout

@@ -1,8 +1,7 @@
 -- When each word of a plain layout fits, as a test: the test of its header's offsets and of the sizes of its class tables. Of a row of offsets the last is the largest.
-use Rattle.std.specs.Prelude.{ℕ, suc, ◌+◌, ◌*◌, ◌≤◌, ◌<◌, ◌≡◌, refl, Bool, false, cond, ◌&&◌, List, [], ◌∷◌, ◌++◌, map, leb, ltb, eqb}
+use Rattle.std.specs.Prelude.{ℕ, suc, ◌+◌, ◌*◌, ◌≤◌, ◌<◌, ◌≡◌, refl, Bool, false, cond, ◌&&◌, List, [], ◌∷◌, ◌++◌, map, leb, ltb, eqb, Option, None, Some}
 use Rattle.std.proofs.Common.{sym, ap, ◌∙◌, subst, arith, length-append, leb-true, le-leb, ltb-true, lt-ltb, eqb-true}
 use Rattle.std.proofs.Math.Bool.{true, and-false}
-use Rattle.std.proofs.Math.Option.{Option, none, some}
 use Rattle.std.proofs.Math.ListN.{length}
 use Rattle.std.proofs.lemmas.List.{length-map}
 use Rattle.std.proofs.lemmas.Bool.{eqb-false}
@@ -36,31 +35,31 @@ and_one false = refl
 -- class tables that are not too long, as a test
 unfoldable pub short_tables : List (Option (List (ℕ × ℕ))) → Bool
 short_tables [] = true
-short_tables (none ∷ cs) = short_tables cs
-short_tables (some es ∷ cs) = leb (length (class_words es)) 65538 && short_tables cs
+short_tables (None ∷ cs) = short_tables cs
+short_tables (Some es ∷ cs) = leb (length (class_words es)) 65538 && short_tables cs
 
 pub short_tables_lem : (cs : List (Option (List (ℕ × ℕ)))) → short_tables cs ≡ true → All (Opt Short) cs
 unfolding short_tables
 short_tables_lem [] h = tt
-short_tables_lem (none ∷ cs) h = (tt, short_tables_lem cs h)
-short_tables_lem (some es ∷ cs) h =
+short_tables_lem (None ∷ cs) h = (tt, short_tables_lem cs h)
+short_tables_lem (Some es ∷ cs) h =
     let q = both (leb (length (class_words es)) 65538) (short_tables cs) h in
     (leb-true (length (class_words es)) 65538 q.0, short_tables_lem cs q.1)
 
 pub tables_short : (cs : List (Option (List (ℕ × ℕ)))) → All (Opt Classes) cs → All Word (blocks (map (block class_words) cs)) → short_tables cs ≡ true
 unfolding short_tables blocks block
 tables_short [] k h = refl
-tables_short (none ∷ cs) k h = tables_short cs k.1 h
-tables_short (some es ∷ cs) k h =
+tables_short (None ∷ cs) k h = tables_short cs k.1 h
+tables_short (Some es ∷ cs) k h =
     let r = blocks (map (block class_words) cs) in
     and_true (leb (length (class_words es)) 65538) (short_tables cs) (le-leb (length (class_words es)) 65538 ((classes_fit es k.0).1 (all_front Word (class_words es) r h))) (tables_short cs k.1 (all_back Word (class_words es) r h))
 
 -- the first offset of blocks, and the blocks after the first
-first_small : (p : ℕ) (b : List ℕ) (bs : List (Option (List ℕ))) → All Word (offsets p (some b ∷ bs)) → p ≤ word_end
+first_small : (p : ℕ) (b : List ℕ) (bs : List (Option (List ℕ))) → All Word (offsets p (Some b ∷ bs)) → p ≤ word_end
 unfolding offsets
 first_small p b bs h = omega (arith, h.0)
 
-later_words : (b : List ℕ) (bs : List (Option (List ℕ))) → All Word (blocks (some b ∷ bs)) → All Word (blocks bs)
+later_words : (b : List ℕ) (bs : List (Option (List ℕ))) → All Word (blocks (Some b ∷ bs)) → All Word (blocks bs)
 unfolding blocks
 later_words b bs h = all_back Word b (blocks bs) h
 
@@ -70,7 +69,7 @@ module _ {A : Type 0} (K : Kind A) (format : ℕ) (cov : List ℕ) (cs : List (O
   sb = map (block K.words) sets
 
   abbrev tail : List (Option (List ℕ))
-  tail = some (coverage_words cov) ∷ map (block class_words) cs
+  tail = Some (coverage_words cov) ∷ map (block class_words) cs
 
   -- the coverage's offset: where the sets end
   abbrev pub cover_at : ℕ
@@ -93,7 +92,7 @@ module _ {A : Type 0} (K : Kind A) (format : ℕ) (cov : List ℕ) (cs : List (O
       (λ h.
       let q = both (words_fit ot) (short_tables cs) h in
       let o = fit_words ot q.0 in
-      sets_fit K format (some cov) cs more sets s f m g k bs (first_small cover_at (coverage_words cov) (map (block class_words) cs) o) o (short_tables_lem cs q.1))
+      sets_fit K format (Some cov) cs more sets s f m g k bs (first_small cover_at (coverage_words cov) (map (block class_words) cs) o) o (short_tables_lem cs q.1))
 
 -- format 3, where the counts fit: exactly if the offsets do
 pub covers_exactly : (i : List (Option (List ℕ))) (rs : List (ℕ × ℕ)) → All (Opt Glyphs) i → All Words2 rs → Word (length i) → Word (length rs)
@@ -185,15 +184,15 @@ single_exactly format cover more f m g =
 -- the largest offset of blocks that stand one after the other, the last one's; 0 if there is none
 unfoldable pub last_offset : ℕ → List (Option (List ℕ)) → ℕ
 last_offset p [] = 0
-last_offset p (none ∷ bs) = last_offset p bs
-last_offset p (some b ∷ bs) = cond (eqb (last_offset (p + 2 * length b) bs) 0) p (last_offset (p + 2 * length b) bs)
+last_offset p (None ∷ bs) = last_offset p bs
+last_offset p (Some b ∷ bs) = cond (eqb (last_offset (p + 2 * length b) bs) 0) p (last_offset (p + 2 * length b) bs)
 
 -- it is 0 or no lower than where the blocks begin
 last_low : (p : ℕ) (bs : List (Option (List ℕ))) → (last_offset p bs ≡ 0 → ⊥) → p ≤ last_offset p bs
 unfolding last_offset
 last_low p [] z = absurd (z refl)
-last_low p (none ∷ bs) z = last_low p bs z
-last_low p (some b ∷ bs) z = step (eqb (last_offset (p + 2 * length b) bs) 0) refl (last_low (p + 2 * length b) bs)
+last_low p (None ∷ bs) z = last_low p bs z
+last_low p (Some b ∷ bs) z = step (eqb (last_offset (p + 2 * length b) bs) 0) refl (last_low (p + 2 * length b) bs)
   where
     l : ℕ
     l = last_offset (p + 2 * length b) bs
@@ -206,8 +205,8 @@ last_low p (some b ∷ bs) z = step (eqb (last_offset (p + 2 * length b) bs) 0) 
 pub offsets_exactly : (p : ℕ) (bs : List (Option (List ℕ))) → words_fit (offsets p bs) ≡ ltb (last_offset p bs) 65536
 unfolding offsets last_offset words_fit every
 offsets_exactly p [] = refl
-offsets_exactly p (none ∷ bs) = offsets_exactly p bs
-offsets_exactly p (some b ∷ bs) = step (eqb l 0) refl (offsets_exactly (p + 2 * length b) bs)
+offsets_exactly p (None ∷ bs) = offsets_exactly p bs
+offsets_exactly p (Some b ∷ bs) = step (eqb l 0) refl (offsets_exactly (p + 2 * length b) bs)
   where
     l : ℕ
     l = last_offset (p + 2 * length b) bs
@@ -225,7 +224,7 @@ offsets_exactly p (some b ∷ bs) = step (eqb l 0) refl (offsets_exactly (p + 2 
 
 -- The tables that are cut, each with its coverage: where the plain layout of a good one fits.
 
-one_offset : (q : ℕ) (b : List ℕ) → words_fit (offsets q (some b ∷ [])) ≡ ltb q 65536
+one_offset : (q : ℕ) (b : List ℕ) → words_fit (offsets q (Some b ∷ [])) ≡ ltb q 65536
 unfolding offsets words_fit every
 one_offset q b = and_one (ltb q 65536)
 
@@ -235,26 +234,26 @@ no_tables = refl
 
 -- with sets and a coverage alone: exactly if the coverage's offset fits
 one_exactly : {A : Type 0} (K : Kind A) (cov : List ℕ) (more : List ℕ) (sets : List (Option A)) → All Word more → Glyphs cov → All (Opt (Back K [])) sets
-    → words_fit (sets_layout 1 (some (coverage_words cov) ∷ []) more (map (block K.words) sets)) ≡ ltb (6 + 2 * length more + 2 * length sets + 2 * length (blocks (map (block K.words) sets))) 65536
+    → words_fit (sets_layout 1 (Some (coverage_words cov) ∷ []) more (map (block K.words) sets)) ≡ ltb (6 + 2 * length more + 2 * length sets + 2 * length (blocks (map (block K.words) sets))) 65536
 one_exactly K cov more sets m g bs =
     let q = cover_at K 1 cov [] more sets in
     let e : q ≡ 6 + 2 * length more + 2 * length sets + 2 * length (blocks (map (block K.words) sets)) = omega (arith, length-map sets (block K.words)) in
-    sets_exactly K 1 cov [] more sets [] (omega arith) m g tt bs ∙ rw no_tables (and_one (words_fit (offsets q (some (coverage_words cov) ∷ []))) ∙ one_offset q (coverage_words cov) ∙ ap (λ (n : ℕ). ltb n 65536) e)
+    sets_exactly K 1 cov [] more sets [] (omega arith) m g tt bs ∙ rw no_tables (and_one (words_fit (offsets q (Some (coverage_words cov) ∷ []))) ∙ one_offset q (coverage_words cov) ∙ ap (λ (n : ℕ). ltb n 65536) e)
 
-pub by_glyph_exactly : (chained : Bool) (cov : List ℕ) (sets : List (Option (List Rule))) → Good (Table.by_glyph chained (some cov) sets)
-    → words_fit (table_words (Table.by_glyph chained (some cov) sets)) ≡ ltb (6 + 2 * 0 + 2 * length sets + 2 * length (blocks (map (block (set_words (rule_words chained))) sets))) 65536
+pub by_glyph_exactly : (chained : Bool) (cov : List ℕ) (sets : List (Option (List Rule))) → Good (Table.by_glyph chained (Some cov) sets)
+    → words_fit (table_words (Table.by_glyph chained (Some cov) sets)) ≡ ltb (6 + 2 * 0 + 2 * length sets + 2 * length (blocks (map (block (set_words (rule_words chained))) sets))) 65536
 unfolding table_words rule_set_kind block
 by_glyph_exactly chained cov sets g =
     one_exactly (rule_set_kind chained) cov [] sets tt g.0 (all_opt (All (GoodRule chained)) (Back (rule_set_kind chained) []) (rule_set_back chained []) sets g.1)
 
-pub ligatures_exactly : (cov : List ℕ) (sets : List (Option (List Ligature))) → Good (Table.ligatures (some cov) sets)
-    → words_fit (table_words (Table.ligatures (some cov) sets)) ≡ ltb (6 + 2 * 0 + 2 * length sets + 2 * length (blocks (map (block (set_words ligature_words)) sets))) 65536
+pub ligatures_exactly : (cov : List ℕ) (sets : List (Option (List Ligature))) → Good (Table.ligatures (Some cov) sets)
+    → words_fit (table_words (Table.ligatures (Some cov) sets)) ≡ ltb (6 + 2 * 0 + 2 * length sets + 2 * length (blocks (map (block (set_words ligature_words)) sets))) 65536
 unfolding table_words ligature_set_kind block
 ligatures_exactly cov sets g =
     one_exactly ligature_set_kind cov [] sets tt g.0 (all_opt (All GoodLigature) (Back ligature_set_kind []) (ligature_set_back []) sets g.1)
 
-pub pairs_exactly : (cov : List ℕ) (f1 f2 : ℕ) (sets : List (Option (List Pair))) → Good (Table.pairs_of (some cov) f1 f2 sets)
-    → words_fit (table_words (Table.pairs_of (some cov) f1 f2 sets)) ≡ ltb (6 + 2 * 2 + 2 * length sets + 2 * length (blocks (map (block pair_set_words) sets))) 65536
+pub pairs_exactly : (cov : List ℕ) (f1 f2 : ℕ) (sets : List (Option (List Pair))) → Good (Table.pairs_of (Some cov) f1 f2 sets)
+    → words_fit (table_words (Table.pairs_of (Some cov) f1 f2 sets)) ≡ ltb (6 + 2 * 2 + 2 * length sets + 2 * length (blocks (map (block pair_set_words) sets))) 65536
 unfolding table_words block
 pairs_exactly cov f1 f2 sets g =
     let a = field_count f1 in
@@ -262,14 +261,14 @@ pairs_exactly cov f1 f2 sets g =
     one_exactly (pair_set_kind a b) cov (f1 ∷ f2 ∷ []) sets (omega (arith, g.1), (omega (arith, g.2), tt)) g.0 (all_opt (GoodPairs a b) (Back (pair_set_kind a b) []) (pair_set_back a b []) sets g.3)
 
 -- by class: exactly if the last offset among coverage and class tables fits, and no class table is too long
-pub by_class_exactly : (chained : Bool) (cov : List ℕ) (b i a : Option (List (ℕ × ℕ))) (sets : List (Option (List Rule))) → Good (Table.by_class chained (some cov) b i a sets)
+pub by_class_exactly : (chained : Bool) (cov : List ℕ) (b i a : Option (List (ℕ × ℕ))) (sets : List (Option (List Rule))) → Good (Table.by_class chained (Some cov) b i a sets)
     → let cs = cond chained (b ∷ i ∷ a ∷ []) (i ∷ []) in
-    words_fit (table_words (Table.by_class chained (some cov) b i a sets)) ≡ ltb (last_offset (cover_at (rule_set_kind chained) 2 cov cs [] sets) (some (coverage_words cov) ∷ map (block class_words) cs)) 65536 && short_tables cs
+    words_fit (table_words (Table.by_class chained (Some cov) b i a sets)) ≡ ltb (last_offset (cover_at (rule_set_kind chained) 2 cov cs [] sets) (Some (coverage_words cov) ∷ map (block class_words) cs)) 65536 && short_tables cs
 unfolding table_words rule_set_kind block
 by_class_exactly chained cov b i a sets g =
     let cs = cond chained (b ∷ i ∷ a ∷ []) (i ∷ []) in
     sets_exactly (rule_set_kind chained) 2 cov cs [] sets [] (omega arith) tt g.0 (tables_of chained) (all_opt (All (GoodRule chained)) (Back (rule_set_kind chained) []) (rule_set_back chained []) sets g.4)
-    ∙ ap (λ (t : Bool). t && short_tables cs) (offsets_exactly (cover_at (rule_set_kind chained) 2 cov cs [] sets) (some (coverage_words cov) ∷ map (block class_words) cs))
+    ∙ ap (λ (t : Bool). t && short_tables cs) (offsets_exactly (cover_at (rule_set_kind chained) 2 cov cs [] sets) (Some (coverage_words cov) ∷ map (block class_words) cs))
   where
     tables_of : (chained : Bool) → All (Opt Classes) (cond chained (b ∷ i ∷ a ∷ []) (i ∷ []))
     tables_of true = (g.1, (g.2, (g.3, tt)))
@@ -307,12 +306,12 @@ class_pairs_exactly cover first second f1 f2 n rows g =
     ∙ rw (offsets_exactly at (block coverage_words cover ∷ []), offsets_exactly (at + 2 * length (blocks (block coverage_words cover ∷ []))) (map (block class_words) cs))
 
 -- single substitutions: by a delta they always fit; by a list exactly if the coverage's offset does
-pub single_delta_fits : (cov : List ℕ) (d : ℕ) → Good (Table.single_delta (some cov) d) → words_fit (table_words (Table.single_delta (some cov) d)) ≡ true
+pub single_delta_fits : (cov : List ℕ) (d : ℕ) → Good (Table.single_delta (Some cov) d) → words_fit (table_words (Table.single_delta (Some cov) d)) ≡ true
 unfolding table_words block
-single_delta_fits cov d g = single_exactly 1 (some cov) (d ∷ []) (omega arith) (g.1, tt) g.0 ∙ one_offset 6 (coverage_words cov)
+single_delta_fits cov d g = single_exactly 1 (Some cov) (d ∷ []) (omega arith) (g.1, tt) g.0 ∙ one_offset 6 (coverage_words cov)
 
-pub single_list_exactly : (cov subs : List ℕ) → Good (Table.single_list (some cov) subs) → Word (length subs) → words_fit (table_words (Table.single_list (some cov) subs)) ≡ ltb (6 + 2 * length subs) 65536
+pub single_list_exactly : (cov subs : List ℕ) → Good (Table.single_list (Some cov) subs) → Word (length subs) → words_fit (table_words (Table.single_list (Some cov) subs)) ≡ ltb (6 + 2 * length subs) 65536
 unfolding table_words block
 single_list_exactly cov subs g n =
     let e : 2 + 2 * 1 + 2 * suc (length subs) ≡ 6 + 2 * length subs = omega arith in
-    single_exactly 2 (some cov) (length subs ∷ subs) (omega arith) (n, g.1) g.0 ∙ one_offset (2 + 2 * 1 + 2 * suc (length subs)) (coverage_words cov) ∙ ap (λ (m : ℕ). ltb m 65536) e
+    single_exactly 2 (Some cov) (length subs ∷ subs) (omega arith) (n, g.1) g.0 ∙ one_offset (2 + 2 * 1 + 2 * suc (length subs)) (coverage_words cov) ∙ ap (λ (m : ℕ). ltb m 65536) e

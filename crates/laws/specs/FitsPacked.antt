@@ -1,9 +1,8 @@
 -- When each word of a packed layout fits, as a test. The blocks that are written are among all blocks, and each block is among those that are written, so that the words of all fit exactly if those that are written do.
-use Rattle.std.specs.Prelude.{ℕ, ◌+◌, ◌*◌, ◌≤◌, ◌<◌, ◌≡◌, Bool, cond, ◌&&◌, ◌||◌, ltb}
+use Rattle.std.specs.Prelude.{ℕ, ◌+◌, ◌*◌, ◌≤◌, ◌<◌, ◌≡◌, Bool, cond, ◌&&◌, ◌||◌, ltb, Option, None, Some}
 use Rattle.std.proofs.Math.Path.{refl, ap, subst}
 use Rattle.std.proofs.Common.{sym, ◌∙◌, true≢false, length-append}
 use Rattle.std.proofs.Math.Bool.{true, false}
-use Rattle.std.proofs.Math.Option.{Option, none, some}
 use mathlib.Core.List.{List, [], ◌∷◌, ◌++◌, map, map-append}
 use native.Mathlib.Omega.{arith}
 use Rattle.std.proofs.Math.ListN.{length}
@@ -68,8 +67,8 @@ words_together (d ∷ ds) h = (all_front Word d (together ds) h, words_together 
 nulls_out : (bs : List (Option (List ℕ))) → blocks bs ≡ together (drop_null bs)
 unfolding blocks together drop_null
 nulls_out [] = refl
-nulls_out (none ∷ bs) = nulls_out bs
-nulls_out (some b ∷ bs) = ap (λ (l : List ℕ). b ++ l) (nulls_out bs)
+nulls_out (None ∷ bs) = nulls_out bs
+nulls_out (Some b ∷ bs) = ap (λ (l : List ℕ). b ++ l) (nulls_out bs)
 
 -- so the words of the blocks that are written fit exactly if those of all blocks do
 module _ (bs : List (Option (List ℕ))) where
@@ -107,16 +106,16 @@ offset_small p (d ∷ ds) b h k l =
 offsets_small : (p : ℕ) (ds : List (List ℕ)) (bs : List (Option (List ℕ))) → All Small ds → All (λ b. has b ds ≡ true) (drop_null bs) → p + 2 * length (together ds) ≤ word_end → All Word (map (shared_offset p ds) bs)
 unfolding shared_offset drop_null
 offsets_small p ds [] h k l = tt
-offsets_small p ds (none ∷ bs) h k l = (omega arith, offsets_small p ds bs h k l)
-offsets_small p ds (some b ∷ bs) h k l = (offset_small p ds b h k.0 l, offsets_small p ds bs h k.1 l)
+offsets_small p ds (None ∷ bs) h k l = (omega arith, offsets_small p ds bs h k l)
+offsets_small p ds (Some b ∷ bs) h k l = (offset_small p ds b h k.0 l, offsets_small p ds bs h k.1 l)
 
 -- offsets and blocks of parts are words, if the blocks end by 65,536
 module _ {A : Type 0} (K : Kind A) where
   small_parts : (s : List ℕ) (xs : List (Option A)) → All (Opt (Back K s)) xs → All Small (drop_null (map (block K.words) xs))
   unfolding block drop_null
   small_parts s [] h = tt
-  small_parts s (none ∷ xs) h = small_parts s xs h.1
-  small_parts s (some a ∷ xs) h = ((h.0.some_words, h.0.small), small_parts s xs h.1)
+  small_parts s (None ∷ xs) h = small_parts s xs h.1
+  small_parts s (Some a ∷ xs) h = ((h.0.some_words, h.0.small), small_parts s xs h.1)
 
   pub shared_small : (s : List ℕ) (p : ℕ) (xs : List (Option A)) → All (Opt (Back K s)) xs → let bs = map (block K.words) xs in p + 2 * length (shared_blocks bs) ≤ word_end → All Word (shared_offsets p bs) × All Word (shared_blocks bs)
   unfolding shared_offsets shared_blocks
@@ -145,7 +144,7 @@ packed_is : (t : Table) → packed_words t ≡ packed (header t)
 unfolding packed_words
 packed_is t = refl
 
-one_offset : (q : ℕ) (b : List ℕ) → offsets q (some b ∷ []) ≡ q ∷ []
+one_offset : (q : ℕ) (b : List ℕ) → offsets q (Some b ∷ []) ≡ q ∷ []
 unfolding offsets
 one_offset q b = refl
 
@@ -158,7 +157,7 @@ module _ {A : Type 0} (K : Kind A) (format : ℕ) (cov : List ℕ) (cs : List (O
   cb = map (block class_words) cs
 
   abbrev hb : List (Option (List ℕ))
-  hb = some (coverage_words cov) ∷ []
+  hb = Some (coverage_words cov) ∷ []
 
   abbrev sets_at : ℕ
   sets_at = 6 + 2 * length cb + 2 * length more + 2 * length sb
@@ -172,7 +171,7 @@ module _ {A : Type 0} (K : Kind A) (format : ℕ) (cov : List ℕ) (cs : List (O
 
   -- it fits exactly if the offsets of coverage and class tables do and no class table is too long
   pub packed_sets_exactly : (s : List ℕ) → Word format → All Word more → Glyphs cov → All (Opt Classes) cs → All (Opt (Back K s)) sets
-      → words_fit (packed (sets_header format (some (coverage_words cov)) cb more sb)) ≡ ltb packed_cover_at 65536 && (words_fit (shared_offsets packed_tables_at cb) && short_tables cs)
+      → words_fit (packed (sets_header format (Some (coverage_words cov)) cb more sb)) ≡ ltb packed_cover_at 65536 && (words_fit (shared_offsets packed_tables_at cb) && short_tables cs)
   unfolding block
   packed_sets_exactly s f m g k bs =
       let oc = offsets packed_cover_at hb in
@@ -182,7 +181,7 @@ module _ {A : Type 0} (K : Kind A) (format : ℕ) (cov : List ℕ) (cs : List (O
       let w4 = shared_blocks sb ++ w5 in
       let w3 = length sb ∷ (os ++ w4) in
       let w2 = ot ++ (more ++ w3) in
-      ap words_fit (packed_sets format (some (coverage_words cov)) cb more sb)
+      ap words_fit (packed_sets format (Some (coverage_words cov)) cb more sb)
       ∙ fits_exactly (format ∷ (oc ++ w2)) (ltb packed_cover_at 65536 && (words_fit ot && short_tables cs))
       (λ h.
       let c = subst (All Word) (one_offset packed_cover_at (coverage_words cov)) (all_front Word oc w2 h.1) in
@@ -196,7 +195,7 @@ module _ {A : Type 0} (K : Kind A) (format : ℕ) (cov : List ℕ) (cs : List (O
       let l : packed_cover_at < 65536 = ltb-true packed_cover_at 65536 q.0 in
       let c3 = shared_small K s sets_at sets bs (omega arith) in
       let c = subst (All Word) (sym (one_offset packed_cover_at (coverage_words cov))) (l, tt) in
-      let wb = all_append Word (blocks hb) (shared_blocks cb) (covers_words (some cov ∷ []) (g, tt)) (shared_words cb (tables_words cs k (short_tables_lem cs r.1))) in
+      let wb = all_append Word (blocks hb) (shared_blocks cb) (covers_words (Some cov ∷ []) (g, tt)) (shared_words cb (tables_words cs k (short_tables_lem cs r.1))) in
       (f, all_append Word oc w2 c (all_append Word ot (more ++ w3) (fit_words ot r.0) (all_append Word more w3 m (omega arith, all_append Word os w4 c3.0 (all_append Word (shared_blocks sb) w5 c3.1 wb))))))
 
 no_offsets : (p : ℕ) → words_fit (shared_offsets p []) ≡ true
@@ -205,44 +204,44 @@ no_offsets p = words_fit_lem [] tt
 
 -- with sets and a coverage alone: exactly if the coverage's offset fits
 one_exactly : {A : Type 0} (K : Kind A) (cov : List ℕ) (more : List ℕ) (sets : List (Option A)) → All Word more → Glyphs cov → All (Opt (Back K [])) sets
-    → words_fit (packed (sets_header 1 (some (coverage_words cov)) [] more (map (block K.words) sets))) ≡ ltb (6 + 2 * length more + 2 * length sets + 2 * length (shared_blocks (map (block K.words) sets))) 65536
+    → words_fit (packed (sets_header 1 (Some (coverage_words cov)) [] more (map (block K.words) sets))) ≡ ltb (6 + 2 * length more + 2 * length sets + 2 * length (shared_blocks (map (block K.words) sets))) 65536
 one_exactly K cov more sets m g bs =
     let q = packed_cover_at K 1 cov [] more sets in
     let e : q ≡ 6 + 2 * length more + 2 * length sets + 2 * length (shared_blocks (map (block K.words) sets)) = omega (arith, length-map sets (block K.words)) in
     packed_sets_exactly K 1 cov [] more sets [] (omega arith) m g tt bs ∙ rw (no_tables, no_offsets (packed_tables_at K 1 cov [] more sets)) (and_one (ltb q 65536) ∙ ap (λ (n : ℕ). ltb n 65536) e)
 
-pub packed_by_glyph_exactly : (chained : Bool) (cov : List ℕ) (sets : List (Option (List Rule))) → Good (Table.by_glyph chained (some cov) sets)
-    → words_fit (packed_words (Table.by_glyph chained (some cov) sets)) ≡ ltb (6 + 2 * 0 + 2 * length sets + 2 * length (shared_blocks (map (block (set_words (rule_words chained))) sets))) 65536
+pub packed_by_glyph_exactly : (chained : Bool) (cov : List ℕ) (sets : List (Option (List Rule))) → Good (Table.by_glyph chained (Some cov) sets)
+    → words_fit (packed_words (Table.by_glyph chained (Some cov) sets)) ≡ ltb (6 + 2 * 0 + 2 * length sets + 2 * length (shared_blocks (map (block (set_words (rule_words chained))) sets))) 65536
 unfolding header rule_set_kind block
 packed_by_glyph_exactly chained cov sets g =
-    ap words_fit (packed_is (Table.by_glyph chained (some cov) sets))
+    ap words_fit (packed_is (Table.by_glyph chained (Some cov) sets))
     ∙ one_exactly (rule_set_kind chained) cov [] sets tt g.0 (all_opt (All (GoodRule chained)) (Back (rule_set_kind chained) []) (rule_set_back chained []) sets g.1)
 
-pub packed_ligatures_exactly : (cov : List ℕ) (sets : List (Option (List Ligature))) → Good (Table.ligatures (some cov) sets)
-    → words_fit (packed_words (Table.ligatures (some cov) sets)) ≡ ltb (6 + 2 * 0 + 2 * length sets + 2 * length (shared_blocks (map (block (set_words ligature_words)) sets))) 65536
+pub packed_ligatures_exactly : (cov : List ℕ) (sets : List (Option (List Ligature))) → Good (Table.ligatures (Some cov) sets)
+    → words_fit (packed_words (Table.ligatures (Some cov) sets)) ≡ ltb (6 + 2 * 0 + 2 * length sets + 2 * length (shared_blocks (map (block (set_words ligature_words)) sets))) 65536
 unfolding header ligature_set_kind block
 packed_ligatures_exactly cov sets g =
-    ap words_fit (packed_is (Table.ligatures (some cov) sets))
+    ap words_fit (packed_is (Table.ligatures (Some cov) sets))
     ∙ one_exactly ligature_set_kind cov [] sets tt g.0 (all_opt (All GoodLigature) (Back ligature_set_kind []) (ligature_set_back []) sets g.1)
 
-pub packed_pairs_exactly : (cov : List ℕ) (f1 f2 : ℕ) (sets : List (Option (List Pair))) → Good (Table.pairs_of (some cov) f1 f2 sets)
-    → words_fit (packed_words (Table.pairs_of (some cov) f1 f2 sets)) ≡ ltb (6 + 2 * 2 + 2 * length sets + 2 * length (shared_blocks (map (block pair_set_words) sets))) 65536
+pub packed_pairs_exactly : (cov : List ℕ) (f1 f2 : ℕ) (sets : List (Option (List Pair))) → Good (Table.pairs_of (Some cov) f1 f2 sets)
+    → words_fit (packed_words (Table.pairs_of (Some cov) f1 f2 sets)) ≡ ltb (6 + 2 * 2 + 2 * length sets + 2 * length (shared_blocks (map (block pair_set_words) sets))) 65536
 unfolding header block
 packed_pairs_exactly cov f1 f2 sets g =
     let a = field_count f1 in
     let b = field_count f2 in
-    ap words_fit (packed_is (Table.pairs_of (some cov) f1 f2 sets))
+    ap words_fit (packed_is (Table.pairs_of (Some cov) f1 f2 sets))
     ∙ one_exactly (pair_set_kind a b) cov (f1 ∷ f2 ∷ []) sets (omega (arith, g.1), (omega (arith, g.2), tt)) g.0 (all_opt (GoodPairs a b) (Back (pair_set_kind a b) []) (pair_set_back a b []) sets g.3)
 
 -- by class: exactly if the offsets of coverage and class tables fit, and no class table is too long
-pub packed_by_class_exactly : (chained : Bool) (cov : List ℕ) (b i a : Option (List (ℕ × ℕ))) (sets : List (Option (List Rule))) → Good (Table.by_class chained (some cov) b i a sets)
+pub packed_by_class_exactly : (chained : Bool) (cov : List ℕ) (b i a : Option (List (ℕ × ℕ))) (sets : List (Option (List Rule))) → Good (Table.by_class chained (Some cov) b i a sets)
     → let cs = cond chained (b ∷ i ∷ a ∷ []) (i ∷ []) in
-    words_fit (packed_words (Table.by_class chained (some cov) b i a sets))
+    words_fit (packed_words (Table.by_class chained (Some cov) b i a sets))
     ≡ ltb (packed_cover_at (rule_set_kind chained) 2 cov cs [] sets) 65536 && (words_fit (shared_offsets (packed_tables_at (rule_set_kind chained) 2 cov cs [] sets) (map (block class_words) cs)) && short_tables cs)
 unfolding header rule_set_kind block
 packed_by_class_exactly chained cov b i a sets g =
     let cs = cond chained (b ∷ i ∷ a ∷ []) (i ∷ []) in
-    ap words_fit (packed_is (Table.by_class chained (some cov) b i a sets))
+    ap words_fit (packed_is (Table.by_class chained (Some cov) b i a sets))
     ∙ packed_sets_exactly (rule_set_kind chained) 2 cov cs [] sets [] (omega arith) tt g.0 (tables_of chained) (all_opt (All (GoodRule chained)) (Back (rule_set_kind chained) []) (rule_set_back chained []) sets g.4)
   where
     tables_of : (chained : Bool) → All (Opt Classes) (cond chained (b ∷ i ∷ a ∷ []) (i ∷ []))
@@ -264,8 +263,8 @@ packed_by_cover_exactly i rs g n m =
 drop_append : (xs ys : List (Option (List ℕ))) → drop_null (xs ++ ys) ≡ drop_null xs ++ drop_null ys
 unfolding drop_null
 drop_append [] ys = refl
-drop_append (none ∷ xs) ys = drop_append xs ys
-drop_append (some b ∷ xs) ys = ap (λ (l : List (List ℕ)). b ∷ l) (drop_append xs ys)
+drop_append (None ∷ xs) ys = drop_append xs ys
+drop_append (Some b ∷ xs) ys = ap (λ (l : List (List ℕ)). b ∷ l) (drop_append xs ys)
 
 -- chained: the coverages of all three arrays, of which none is written twice
 module _ (b i a : List (Option (List ℕ))) (rs : List (ℕ × ℕ)) where

@@ -1,8 +1,7 @@
 -- The two readings of a table's header, plain and packed: in both each number stands in its place, and each offset leads to its block.
-use Rattle.std.specs.Prelude.{ℕ, suc, ◌+◌, ◌*◌, ◌≤◌, ◌<◌, ◌≡◌, refl, Bool, true, false, cond, eqb}
+use Rattle.std.specs.Prelude.{ℕ, suc, ◌+◌, ◌*◌, ◌≤◌, ◌<◌, ◌≡◌, refl, Bool, true, false, cond, eqb, Option, None, Some}
 use Rattle.std.proofs.Common.{sym, ap₂, ◌∙◌, subst, length-append, eq-eqb}
 use Rattle.std.proofs.Math.Path.{ap}
-use Rattle.std.proofs.Math.Option.{Option, none, some}
 use mathlib.Core.List.{List, [], ◌∷◌, ◌++◌, map, append-nil, append_assoc}
 use native.Mathlib.Omega.{arith}
 use Rattle.std.proofs.Math.ListN.{length, length-map}
@@ -19,8 +18,8 @@ use Rattle.laws.specs.Repeats.{has, each_has, placed}
 module _ (s : List ℕ) where
   -- an offset is null where there is no block, and else leads to where the block stands
   abbrev pub LeadsTo : ℕ → Option (List ℕ) → Type 0
-  LeadsTo o none = o ≡ 0
-  LeadsTo o (some b) = (0 < o) × Stands s (0 + o) b
+  LeadsTo o None = o ≡ 0
+  LeadsTo o (Some b) = (0 < o) × Stands s (0 + o) b
 
   -- words for the words of a header
   abbrev pub Shown : List ℕ → List HeaderWord → Type 0
@@ -69,10 +68,10 @@ module _ (s : List ℕ) where
   unfolding block
   split_offsets K k [] h os q = record { these = []; others = os; is = refl; does = tt; left = q }
   split_offsets K k (x ∷ xs) h [] q = absurd q
-  split_offsets K k (none ∷ xs) h (o ∷ os) q =
+  split_offsets K k (None ∷ xs) h (o ∷ os) q =
       let r = split_offsets K k xs h os q.1 in
       record { these = o ∷ r.these; others = r.others; is = ap (λ (l : List ℕ). o ∷ l) r.is; does = (q.0, r.does); left = r.left }
-  split_offsets K k (some a ∷ xs) h (o ∷ os) q =
+  split_offsets K k (Some a ∷ xs) h (o ∷ os) q =
       let r = split_offsets K k xs h os q.1 in
       record { these = o ∷ r.these; others = r.others; is = ap (λ (l : List ℕ). o ∷ l) r.is; does = (q.0.0, q.0.1, r.does); left = r.left }
 
@@ -92,7 +91,7 @@ module _ (s : List ℕ) where
 
   -- parts whose offsets are at the front of a header are read back through them
   pub parts_read : {A : Type 0} {at : ℕ} (K : Kind A) (k : BlockKind) (xs : List (Option A)) (h : List HeaderWord) → All (Opt (Back K s)) xs → Shows at (map (offset k) (parts K xs) ++ h)
-      → ((reaches (K.read s) s 0 at (length xs) ≡ xs) × (fault_through (K.fault_at s) s 0 at (length xs) ≡ none)) × Shows (at + 2 * length xs) h
+      → ((reaches (K.read s) s 0 at (length xs) ≡ xs) × (fault_through (K.fault_at s) s 0 at (length xs) ≡ None)) × Shows (at + 2 * length xs) h
   parts_read {at = at} K k xs h b r =
       let t = split_offsets K k xs h r.words r.shown in
       let w = said r.stands t.is in
@@ -101,7 +100,7 @@ module _ (s : List ℕ) where
 
   -- the same where a header ends in their offsets
   pub last_parts_read : {A : Type 0} {at : ℕ} (K : Kind A) (k : BlockKind) (xs : List (Option A)) → All (Opt (Back K s)) xs → Shows at (map (offset k) (parts K xs))
-      → ((reaches (K.read s) s 0 at (length xs) ≡ xs) × (fault_through (K.fault_at s) s 0 at (length xs) ≡ none)) × Shows (at + 2 * length xs) []
+      → ((reaches (K.read s) s 0 at (length xs) ≡ xs) × (fault_through (K.fault_at s) s 0 at (length xs) ≡ None)) × Shows (at + 2 * length xs) []
   last_parts_read {at = at} K k xs b r = parts_read K k xs [] b (subst (Shows at) (sym (append-nil (map (offset k) (parts K xs)))) r)
 
 -- Blocks of a kind.
@@ -111,12 +110,12 @@ pub blocks_of_append : (k : BlockKind) (g h : List HeaderWord) → blocks_of k (
 unfolding blocks_of push
 blocks_of_append k [] h = refl
 blocks_of_append k (number n ∷ g) h = blocks_of_append k g h
-blocks_of_append k (offset j none ∷ g) h = step (eqb (rank k) (rank j)) (blocks_of_append k g h)
+blocks_of_append k (offset j None ∷ g) h = step (eqb (rank k) (rank j)) (blocks_of_append k g h)
   where
     step : (t : Bool) → blocks_of k (g ++ h) ≡ blocks_of k g ++ blocks_of k h → cond t (blocks_of k (g ++ h)) (blocks_of k (g ++ h)) ≡ cond t (blocks_of k g) (blocks_of k g) ++ blocks_of k h
     step true i = i
     step false i = i
-blocks_of_append k (offset j (some b) ∷ g) h = step (eqb (rank k) (rank j)) (blocks_of_append k g h)
+blocks_of_append k (offset j (Some b) ∷ g) h = step (eqb (rank k) (rank j)) (blocks_of_append k g h)
   where
     step : (t : Bool) → blocks_of k (g ++ h) ≡ blocks_of k g ++ blocks_of k h → cond t (b ∷ blocks_of k (g ++ h)) (blocks_of k (g ++ h)) ≡ cond t (b ∷ blocks_of k g) (blocks_of k g) ++ blocks_of k h
     step true i = ap (λ (l : List (List ℕ)). b ∷ l) i
@@ -128,7 +127,7 @@ together_append [] ys = refl
 together_append (b ∷ xs) ys = ap (λ (l : List ℕ). b ++ l) (together_append xs ys) ∙ sym (append_assoc b (together xs) (together ys))
 
 -- a block is the first of its kind
-pub block_first : (k : BlockKind) (b : List ℕ) (h : List HeaderWord) → blocks_of k (offset k (some b) ∷ h) ≡ b ∷ blocks_of k h
+pub block_first : (k : BlockKind) (b : List ℕ) (h : List HeaderWord) → blocks_of k (offset k (Some b) ∷ h) ≡ b ∷ blocks_of k h
 unfolding blocks_of push
 block_first k b h = rw (eq-eqb (rank k) (rank k) refl)
 
@@ -161,10 +160,10 @@ module _ {s : List ℕ} (h : List HeaderWord) where
     unfolding packed_word
     packed_shown [] q = tt
     packed_shown (number n ∷ g) q = (refl, packed_shown g (written_rest h (number n) g q))
-    packed_shown (offset k none ∷ g) q = (refl, packed_shown g (written_rest h (offset k none) g q))
-    packed_shown (offset k (some b) ∷ g) q =
+    packed_shown (offset k None ∷ g) q = (refl, packed_shown g (written_rest h (offset k None) g q))
+    packed_shown (offset k (Some b) ∷ g) q =
         let found = (subst (All (λ b. has b (packed_blocks h k) ≡ true)) (block_first k b g) (q k)).0 in
-        (placed (packed_start h k) (packed_blocks h k) b (packed_late h z k) (w k) found, packed_shown g (written_rest h (offset k (some b)) g q))
+        (placed (packed_start h k) (packed_blocks h k) b (packed_late h z k) (w k) found, packed_shown g (written_rest h (offset k (Some b)) g q))
 
   -- where the packed reading of a header stands, that header is shown
   pub packed_shows : 0 < length h → Stands s 0 (packed h) → Shows s 0 h
@@ -186,8 +185,8 @@ plain_start h class_table = 2 * length h + 2 * length (together (blocks_of set h
 -- a word of header h as it is written, after the words `before` of it
 unfoldable pub plain_word : List HeaderWord → List HeaderWord → HeaderWord → ℕ
 plain_word h before (number n) = n
-plain_word h before (offset k none) = 0
-plain_word h before (offset k (some b)) = plain_start h k + 2 * length (together (blocks_of k before))
+plain_word h before (offset k None) = 0
+plain_word h before (offset k (Some b)) = plain_start h k + 2 * length (together (blocks_of k before))
 
 -- the words of it that follow
 unfoldable pub plain_from : List HeaderWord → List HeaderWord → List HeaderWord → List ℕ
@@ -225,10 +224,10 @@ module _ (s : List ℕ) (h : List HeaderWord) where
   unfolding plain_from plain_word together
   plain_shown z before [] q = tt
   plain_shown z before (number n ∷ g) q = (refl, plain_shown z (before ++ (number n ∷ [])) g (follow_rest before (number n) g q))
-  plain_shown z before (offset k none ∷ g) q = (refl, plain_shown z (before ++ (offset k none ∷ [])) g (follow_rest before (offset k none) g q))
-  plain_shown z before (offset k (some b) ∷ g) q =
+  plain_shown z before (offset k None ∷ g) q = (refl, plain_shown z (before ++ (offset k None ∷ [])) g (follow_rest before (offset k None) g q))
+  plain_shown z before (offset k (Some b) ∷ g) q =
       let w = front b (together (blocks_of k g)) (said (q k) (ap together (block_first k b g))) in
-      ((omega (arith, plain_late h z k), w), plain_shown z (before ++ (offset k (some b) ∷ [])) g (follow_rest before (offset k (some b)) g q))
+      ((omega (arith, plain_late h z k), w), plain_shown z (before ++ (offset k (Some b) ∷ [])) g (follow_rest before (offset k (Some b)) g q))
 
 module _ {s : List ℕ} (h : List HeaderWord) where
   plain_blocks : Stands s (0 + 2 * length h) (together (blocks_of set h) ++ (together (blocks_of coverage h) ++ together (blocks_of class_table h))) → (k : BlockKind) → Stands s (0 + plain_start h k) (together (blocks_of k h))

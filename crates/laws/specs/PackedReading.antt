@@ -1,9 +1,8 @@
 -- The packed layout of each form of table, written out, as the plain ones are in `Layout`.
-use Rattle.std.specs.Prelude.{ℕ, ◌+◌, ◌*◌, ◌≡◌, true}
+use Rattle.std.specs.Prelude.{ℕ, ◌+◌, ◌*◌, ◌≡◌, true, Option, None, Some}
 use Rattle.std.proofs.Math.Path.{refl, ap, ap₂}
 use Rattle.std.proofs.Common.{◌∙◌, arith, eq-eqb}
 use Rattle.std.proofs.Math.Bool.{false}
-use Rattle.std.proofs.Math.Option.{Option, none, some}
 use mathlib.Core.List.{List, [], ◌∷◌, ◌++◌, map, map-append, append-nil, append_assoc}
 use Rattle.std.proofs.Math.ListN.{length, length-append, length-map}
 use Rattle.std.proofs.Math.Dec.{eqb}
@@ -18,8 +17,8 @@ use Rattle.laws.specs.PlainReading.{other_kind, no_blocks, past_other, past_numb
 
 -- the offset of a block that there may be, among others that stand from p on
 unfoldable pub shared_offset : ℕ → List (List ℕ) → Option (List ℕ) → ℕ
-shared_offset p ds none = 0
-shared_offset p ds (some b) = offset_in p ds b
+shared_offset p ds None = 0
+shared_offset p ds (Some b) = offset_in p ds b
 
 -- the offsets of blocks of one kind, and those of them that are written, from p on
 unfoldable pub shared_offsets : ℕ → List (Option (List ℕ)) → List ℕ
@@ -31,8 +30,8 @@ shared_blocks bs = together (first_of_each (drop_null bs))
 own_kind : (k : BlockKind) (bs : List (Option (List ℕ))) → blocks_of k (map (offset k) bs) ≡ drop_null bs
 unfolding blocks_of push drop_null
 own_kind k [] = refl
-own_kind k (none ∷ bs) = rw (eq-eqb (rank k) (rank k) refl) (own_kind k bs)
-own_kind k (some b ∷ bs) = rw (eq-eqb (rank k) (rank k) refl) (ap (λ (l : List (List ℕ)). b ∷ l) (own_kind k bs))
+own_kind k (None ∷ bs) = rw (eq-eqb (rank k) (rank k) refl) (own_kind k bs)
+own_kind k (Some b ∷ bs) = rw (eq-eqb (rank k) (rank k) refl) (ap (λ (l : List (List ℕ)). b ∷ l) (own_kind k bs))
 
 first_own : (k : BlockKind) (bs : List (Option (List ℕ))) (g : List HeaderWord) → blocks_of k g ≡ [] → blocks_of k (map (offset k) bs ++ g) ≡ drop_null bs
 first_own k bs g e = blocks_of_append k (map (offset k) bs) g ∙ ap₂ ◌++◌ (own_kind k bs) e ∙ append-nil (drop_null bs)
@@ -40,13 +39,13 @@ first_own k bs g e = blocks_of_append k (map (offset k) bs) g ∙ ap₂ ◌++◌
 -- one block: its offset and its words are those of the plain layout
 one_offset : (p : ℕ) (b : Option (List ℕ)) → shared_offsets p (b ∷ []) ≡ offsets p (b ∷ [])
 unfolding shared_offsets shared_offset drop_null first_of_each without offset_in offsets
-one_offset p none = refl
-one_offset p (some b) = rw (same_list b) refl
+one_offset p None = refl
+one_offset p (Some b) = rw (same_list b) refl
 
 one_block : (b : Option (List ℕ)) → shared_blocks (b ∷ []) ≡ blocks (b ∷ [])
 unfolding shared_blocks drop_null first_of_each without together blocks
-one_block none = refl
-one_block (some b) = refl
+one_block None = refl
+one_block (Some b) = refl
 
 module _ (h : List HeaderWord) where
   number_words : (ns : List ℕ) → map (packed_word h) (map number ns) ≡ ns
@@ -57,8 +56,8 @@ module _ (h : List HeaderWord) where
   offset_words : (k : BlockKind) (p : ℕ) (ds : List (List ℕ)) (bs : List (Option (List ℕ))) → packed_start h k ≡ p → packed_blocks h k ≡ ds → map (packed_word h) (map (offset k) bs) ≡ map (shared_offset p ds) bs
   unfolding packed_word shared_offset
   offset_words k p ds [] e f = refl
-  offset_words k p ds (none ∷ bs) e f = ap (λ (l : List ℕ). 0 ∷ l) (offset_words k p ds bs e f)
-  offset_words k p ds (some b ∷ bs) e f = ap₂ ◌∷◌ (ap₂ (λ (q : ℕ) (l : List (List ℕ)). offset_in q l b) e f) (offset_words k p ds bs e f)
+  offset_words k p ds (None ∷ bs) e f = ap (λ (l : List ℕ). 0 ∷ l) (offset_words k p ds bs e f)
+  offset_words k p ds (Some b ∷ bs) e f = ap₂ ◌∷◌ (ap₂ (λ (q : ℕ) (l : List (List ℕ)). offset_in q l b) e f) (offset_words k p ds bs e f)
 
 -- the reading, from what it is made of
 packed_by : (h : List HeaderWord) {top sets covers tables : List ℕ} → map (packed_word h) h ≡ top → together (packed_blocks h set) ≡ sets → together (packed_blocks h coverage) ≡ covers → together (packed_blocks h class_table) ≡ tables

@@ -1,9 +1,8 @@
 -- The plain layout of a table is the plain reading of its header.
-use Rattle.std.specs.Prelude.{ℕ, ◌+◌, ◌*◌, ◌<◌, ◌≡◌, true, cond}
+use Rattle.std.specs.Prelude.{ℕ, ◌+◌, ◌*◌, ◌<◌, ◌≡◌, true, cond, Option, None, Some}
 use Rattle.std.proofs.Math.Path.{refl, sym, ap, ap₂}
 use Rattle.std.proofs.Common.{◌∙◌, arith, eq-eqb}
 use Rattle.std.proofs.Math.Bool.{false}
-use Rattle.std.proofs.Math.Option.{Option, none, some}
 use mathlib.Core.List.{List, [], ◌∷◌, ◌++◌, map, append-nil, append_assoc}
 use Rattle.std.proofs.Math.ListN.{length, length-append, length-map}
 use Rattle.std.proofs.Math.Dec.{eqb}
@@ -19,8 +18,8 @@ use Rattle.laws.specs.Headers.{blocks_of_append, together_append, plain_start, p
 same_kind : (k : BlockKind) (bs : List (Option (List ℕ))) → together (blocks_of k (map (offset k) bs)) ≡ blocks bs
 unfolding blocks_of push together blocks
 same_kind k [] = refl
-same_kind k (none ∷ bs) = rw (eq-eqb (rank k) (rank k) refl) (same_kind k bs)
-same_kind k (some b ∷ bs) = rw (eq-eqb (rank k) (rank k) refl) (ap (λ (l : List ℕ). b ++ l) (same_kind k bs))
+same_kind k (None ∷ bs) = rw (eq-eqb (rank k) (rank k) refl) (same_kind k bs)
+same_kind k (Some b ∷ bs) = rw (eq-eqb (rank k) (rank k) refl) (ap (λ (l : List ℕ). b ++ l) (same_kind k bs))
 
 pub other_kind : (k j : BlockKind) (bs : List (Option (List ℕ))) → eqb (rank k) (rank j) ≡ false → blocks_of k (map (offset j) bs) ≡ []
 unfolding blocks_of
@@ -71,14 +70,14 @@ module _ (h : List HeaderWord) where
       → plain_from h before (map (offset k) bs ++ g) ≡ offsets p bs ++ plain_from h (before ++ map (offset k) bs) g
   unfolding plain_from plain_word offsets blocks
   from_offsets k p before [] g e = ap (λ (f : List HeaderWord). plain_from h f g) (sym (append-nil before))
-  from_offsets k p before (none ∷ bs) g e =
-      let n : reach k (offset k none ∷ []) ≡ 0 = ap (λ (l : List ℕ). 2 * length l) (same_kind k (none ∷ [])) in
-      ap (λ (l : List ℕ). 0 ∷ l) (from_offsets k p (before ++ (offset k none ∷ [])) bs g (omega (arith, e, n, reach_append k before (offset k none ∷ [])))
-      ∙ ap (λ (f : List HeaderWord). offsets p bs ++ plain_from h f g) (append_assoc before (offset k none ∷ []) (map (offset k) bs)))
-  from_offsets k p before (some b ∷ bs) g e =
-      let n : reach k (offset k (some b) ∷ []) ≡ 2 * length (b ++ []) = ap (λ (l : List ℕ). 2 * length l) (same_kind k (some b ∷ [])) in
-      ap₂ (λ (o : ℕ) (l : List ℕ). o ∷ l) (sym e) (from_offsets k (p + 2 * length b) (before ++ (offset k (some b) ∷ [])) bs g (omega (arith, e, n, length-append b [], reach_append k before (offset k (some b) ∷ [])))
-      ∙ ap (λ (f : List HeaderWord). offsets (p + 2 * length b) bs ++ plain_from h f g) (append_assoc before (offset k (some b) ∷ []) (map (offset k) bs)))
+  from_offsets k p before (None ∷ bs) g e =
+      let n : reach k (offset k None ∷ []) ≡ 0 = ap (λ (l : List ℕ). 2 * length l) (same_kind k (None ∷ [])) in
+      ap (λ (l : List ℕ). 0 ∷ l) (from_offsets k p (before ++ (offset k None ∷ [])) bs g (omega (arith, e, n, reach_append k before (offset k None ∷ [])))
+      ∙ ap (λ (f : List HeaderWord). offsets p bs ++ plain_from h f g) (append_assoc before (offset k None ∷ []) (map (offset k) bs)))
+  from_offsets k p before (Some b ∷ bs) g e =
+      let n : reach k (offset k (Some b) ∷ []) ≡ 2 * length (b ++ []) = ap (λ (l : List ℕ). 2 * length l) (same_kind k (Some b ∷ [])) in
+      ap₂ (λ (o : ℕ) (l : List ℕ). o ∷ l) (sym e) (from_offsets k (p + 2 * length b) (before ++ (offset k (Some b) ∷ [])) bs g (omega (arith, e, n, length-append b [], reach_append k before (offset k (Some b) ∷ [])))
+      ∙ ap (λ (f : List HeaderWord). offsets (p + 2 * length b) bs ++ plain_from h f g) (append_assoc before (offset k (Some b) ∷ []) (map (offset k) bs)))
 
   -- where a header ends in them
   last_numbers : (before : List HeaderWord) (ns : List ℕ) → plain_from h before (map number ns) ≡ ns

@@ -3,9 +3,7 @@
 
 ghost use Rattle.std.specs.Prelude.{◌≡◌, ◌+◌, ◌-◌, ◌*◌, ◌<◌};
 ghost use Rattle.meaning.specs.Fault.{ligature_fault};
-ghost use Rattle.faults.specs.Fault.{fault_of};
 
-use faults::Fault;
 use wire::{inside, word_at};
 
 // How many components a ligature with this count lists: all but the first; a count of 0 lists none.
@@ -19,16 +17,17 @@ fn listed(count: usize) -> usize
 }
 
 // Where the ligature at `at` is faulty: it is if its glyph, its count or its components do not lie inside the source.
-pub fn check_ligature(src: &[u8], at: usize) -> Fault
+#[tactic(auto, unfolding(meaning::specs::Fault::ligature_fault, meaning::specs::Fault::part_fault))]
+pub fn check_ligature(src: &[u8], at: usize) -> Option<usize>
     requires { at < 0x8000_0000_0000 }
-    ensures { result ≡ fault_of (ligature_fault src.now at) }
+    ensures { result ≡ ligature_fault src.now at }
 {
     if !inside(src, at, 4) {
-        return Fault::At(at);
+        return Some(at);
     }
     let n = listed(word_at(src, at + 2));
     if !inside(src, at + 4, 2 * n) {
-        return Fault::At(at);
+        return Some(at);
     }
-    Fault::Sound
+    None
 }

@@ -1,8 +1,7 @@
 // Sets of ligatures: what is left of them, written into the area in one walk.
 #![tactic(auto)]
 
-ghost use Rattle.std.specs.Prelude.{◌≡◌, ◌≤◌, ◌<◌, length};
-ghost use Rattle.std.proofs.Math.Option.{none};
+ghost use Rattle.std.specs.Prelude.{◌≡◌, ◌≤◌, ◌<◌, length, None};
 ghost use Rattle.meaning.specs.Tables.{ligature_set};
 ghost use Rattle.meaning.specs.Fault.{ligature_fault, set_fault};
 ghost use Rattle.meaning.specs.Cut.{cut_ligatures};
@@ -31,7 +30,7 @@ pub fn write_ligatures(
     area: &mut [u8],
     pos: usize,
 ) -> usize
-    requires { (set_fault (ligature_fault src.now) src.now at ≡ none) × (length src.now ≤ limit) × Inside t.now glyphs × (pos ≤ length area.old) × Dead (ligature_left (entries_in t.now glyphs) src.now) dead.old }
+    requires { (set_fault (ligature_fault src.now) src.now at ≡ None) × (length src.now ≤ limit) × Inside t.now glyphs × (pos ≤ length area.old) × Dead (ligature_left (entries_in t.now glyphs) src.now) dead.old }
     ensures { Leaves area.old pos (block (set_words ligature_words) (cut_ligatures (entries_in t.now glyphs) (ligature_set src.now at))) (set_most ligature_words (cut_ligatures (entries_in t.now glyphs) (ligature_set src.now at)) src.now) area.new result × Dead (ligature_left (entries_in t.now glyphs) src.now) dead.new }
 {
     let n = word_inside(src, at);
@@ -41,10 +40,8 @@ pub fn write_ligatures(
     }
     let mut k = 0;
     let mut p = first;
-    let mut i = 0;
-    while i < n {
+    for i in 0..n {
         let off = word_inside(src, at + 2 + 2 * i);
-        i += 1;
         if off == 0 {
             continue;
         }
@@ -52,11 +49,12 @@ pub fn write_ligatures(
         if area.len() < q {
             return q;
         }
-        if q != 0 {
-            put(area, pos + 2 + 2 * k, p - pos);
-            k += 1;
-            p = q;
+        if q == 0 {
+            continue;
         }
+        put(area, pos + 2 + 2 * k, p - pos);
+        k += 1;
+        p = q;
     }
     close_set(area, pos, k, first, p)
 }

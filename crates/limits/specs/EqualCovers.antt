@@ -1,7 +1,6 @@
 -- A context of format 3 with equal coverages: how many words it has, plain and packed, and whether each fits.
-use Rattle.std.specs.Prelude.{ℕ, zero, suc, ◌+◌, ◌*◌, ◌≤◌, ◌<◌, ◌≡◌, refl, true, false, List, [], ◌∷◌, ◌++◌, map, length, replicate, ltb}
+use Rattle.std.specs.Prelude.{ℕ, zero, suc, ◌+◌, ◌*◌, ◌≤◌, ◌<◌, ◌≡◌, refl, true, false, List, [], ◌∷◌, ◌++◌, map, length, replicate, ltb, Some}
 use Rattle.std.proofs.Common.{arith, suc-mul, ap, ◌∙◌, length-append, lt-ltb, le-leb, ne_eqb}
-use Rattle.std.proofs.Math.Option.{some}
 use Rattle.std.proofs.lemmas.List.{length-replicate, length-map}
 use Rattle.meaning.specs.Words.{up_from, every, twos}
 use Rattle.meaning.specs.Tables.{Table, drop_null}
@@ -60,7 +59,7 @@ cover_length n = rw (evens_length 0 n, evens_runs 0 n, le-leb (4 + 2 * n) (4 + 6
 
 -- The table: n coverages of g even glyphs each, and m records.
 abbrev pub even_covers : ℕ → ℕ → ℕ → Table
-even_covers n g m = Table.by_cover false [] (replicate n (some (evens 0 g))) [] (replicate m (0, 1))
+even_covers n g m = Table.by_cover false [] (replicate n (Some (evens 0 g))) [] (replicate m (0, 1))
 
 -- what holds of one holds of each of n equal ones
 pub all_equal : {A : Type 0} (P : A → Type 0) (n : ℕ) (a : A) → P a → All P (replicate n a)
@@ -69,32 +68,32 @@ all_equal P (suc n) a h = (h, all_equal P n a h)
 
 -- the table can be written
 covers_good : (n g m : ℕ) → 2 * g ≤ 65536 → Good (even_covers n g m)
-covers_good n g m h = (tt, all_equal (Opt Glyphs) n (some (evens 0 g)) (evens_up 0 0 g (omega arith), evens_words 0 g (omega arith)), tt, all_equal Words2 m (0, 1) (omega arith, omega arith), λ e. (refl, refl))
+covers_good n g m h = (tt, all_equal (Opt Glyphs) n (Some (evens 0 g)) (evens_up 0 0 g (omega arith), evens_words 0 g (omega arith)), tt, all_equal Words2 m (0, 1) (omega arith, omega arith), λ e. (refl, refl))
 
 -- the blocks of its coverages
-equal_blocks : (n : ℕ) (gs : List ℕ) → map (block coverage_words) (replicate n (some gs)) ≡ replicate n (some (coverage_words gs))
+equal_blocks : (n : ℕ) (gs : List ℕ) → map (block coverage_words) (replicate n (Some gs)) ≡ replicate n (Some (coverage_words gs))
 unfolding block
 equal_blocks zero gs = refl
 equal_blocks (suc n) gs = rw (equal_blocks n gs)
 
 -- The plain layout: how many words n equal blocks have.
-equal_length : (n : ℕ) (b : List ℕ) → length (blocks (replicate n (some b))) ≡ n * length b
+equal_length : (n : ℕ) (b : List ℕ) → length (blocks (replicate n (Some b))) ≡ n * length b
 unfolding blocks
 equal_length zero b = omega arith
-equal_length (suc n) b = omega (arith, length-append b (blocks (replicate n (some b))), equal_length n b, suc-mul n (length b))
+equal_length (suc n) b = omega (arith, length-append b (blocks (replicate n (Some b))), equal_length n b, suc-mul n (length b))
 
 -- those of the table
 pub covers_length : (n g m : ℕ) → length (table_words (even_covers n g m)) ≡ 3 + n + 2 * m + n * (g + 2)
 unfolding covers_layout table_words
 covers_length n g m =
     let b = coverage_words (evens 0 g) in
-    let bs = replicate n (some b) in
+    let bs = replicate n (Some b) in
     let rs : List (ℕ × ℕ) = replicate m (0, 1) in
     let p = 6 + 2 * length bs + 4 * length rs in
-    rw (equal_blocks n (evens 0 g), ← cover_length g) (omega (arith, length-append (offsets p bs) (twos rs ++ blocks bs), length-append (twos rs) (blocks bs), offsets_length p bs, twos_length rs, equal_length n b, length-replicate n (some b), length-replicate {A = ℕ × ℕ} m (0, 1)))
+    rw (equal_blocks n (evens 0 g), ← cover_length g) (omega (arith, length-append (offsets p bs) (twos rs ++ blocks bs), length-append (twos rs) (blocks bs), offsets_length p bs, twos_length rs, equal_length n b, length-replicate n (Some b), length-replicate {A = ℕ × ℕ} m (0, 1)))
 
 -- the last of n + 1 equal blocks is behind n others
-equal_last : (p n : ℕ) (b : List ℕ) → 0 < p → last_offset p (replicate (suc n) (some b)) ≡ p + n * (2 * length b)
+equal_last : (p n : ℕ) (b : List ℕ) → 0 < p → last_offset p (replicate (suc n) (Some b)) ≡ p + n * (2 * length b)
 unfolding last_offset
 equal_last p zero b h = omega arith
 equal_last p (suc n) b h =
@@ -105,18 +104,18 @@ equal_last p (suc n) b h =
 -- each word fits exactly if the last offset does: the bytes of the header and of all coverages but one
 pub covers_fit : (n g m : ℕ) → suc n < 65536 → 2 * g ≤ 65536 → m < 65536 → words_fit (table_words (even_covers (suc n) g m)) ≡ ltb (6 + 2 * suc n + 4 * m + n * (2 * (g + 2))) 65536
 covers_fit n g m hn hg hm =
-    let i = replicate (suc n) (some (evens 0 g)) in
+    let i = replicate (suc n) (Some (evens 0 g)) in
     let b = coverage_words (evens 0 g) in
-    let bs = replicate (suc n) (some b) in
+    let bs = replicate (suc n) (Some b) in
     let rs : List (ℕ × ℕ) = replicate m (0, 1) in
     let records : length rs ≡ m = length-replicate {A = ℕ × ℕ} m (0, 1) in
     let p = 6 + 2 * length bs + 4 * length rs in
-    let last : last_offset p bs ≡ 6 + 2 * suc n + 4 * m + n * (2 * length b) = omega (arith, equal_last p n b (omega arith), length-replicate (suc n) (some b), records) in
-    by_cover_exactly i rs (covers_good (suc n) g m hg) (omega (arith, length-replicate (suc n) (some (evens 0 g)))) (omega (arith, records))
+    let last : last_offset p bs ≡ 6 + 2 * suc n + 4 * m + n * (2 * length b) = omega (arith, equal_last p n b (omega arith), length-replicate (suc n) (Some b), records) in
+    by_cover_exactly i rs (covers_good (suc n) g m hg) (omega (arith, length-replicate (suc n) (Some (evens 0 g)))) (omega (arith, records))
     ∙ ap (λ l. ltb (last_offset (6 + 2 * length l + 4 * length rs) l) 65536) (equal_blocks (suc n) (evens 0 g)) ∙ rw (last, cover_length g)
 
 -- The packed layout: of n + 1 equal blocks one is written.
-written_once : (n : ℕ) (b : List ℕ) → first_of_each (drop_null (replicate (suc n) (some b))) ≡ b ∷ []
+written_once : (n : ℕ) (b : List ℕ) → first_of_each (drop_null (replicate (suc n) (Some b))) ≡ b ∷ []
 unfolding drop_null without first_of_each
 written_once zero b = refl
 written_once (suc n) b = ap (λ l. b ∷ without b l) (written_once n b) ∙ rw (same_list b)
@@ -126,17 +125,17 @@ pub packed_length : (n g m : ℕ) → length (packed_words (even_covers (suc n) 
 unfolding packed_words shared_offsets shared_blocks
 packed_length n g m =
     let b = coverage_words (evens 0 g) in
-    let bs = replicate (suc n) (some b) in
+    let bs = replicate (suc n) (Some b) in
     let rs : List (ℕ × ℕ) = replicate m (0, 1) in
     let p = 6 + 2 * length bs + 4 * length rs in
     let os = shared_offsets p bs in
     let once : length (shared_blocks bs) ≡ length (b ++ []) = ap (λ l. length (together l)) (written_once n b) in
-    ap length (packed_covers [] (map (block coverage_words) (replicate (suc n) (some (evens 0 g)))) [] rs)
+    ap length (packed_covers [] (map (block coverage_words) (replicate (suc n) (Some (evens 0 g)))) [] rs)
     ∙ ap (λ l. length (3 ∷ length l ∷ length rs ∷ (shared_offsets (6 + 2 * length l + 4 * length rs) l ++ (twos rs ++ shared_blocks l)))) (equal_blocks (suc n) (evens 0 g))
-    ∙ omega (arith, length-append os (twos rs ++ shared_blocks bs), length-append (twos rs) (shared_blocks bs), length-map bs (shared_offset p (first_of_each (drop_null bs))), length-replicate (suc n) (some b), twos_length rs, length-replicate {A = ℕ × ℕ} m (0, 1), once, length-append b [], cover_length g)
+    ∙ omega (arith, length-append os (twos rs ++ shared_blocks bs), length-append (twos rs) (shared_blocks bs), length-map bs (shared_offset p (first_of_each (drop_null bs))), length-replicate (suc n) (Some b), twos_length rs, length-replicate {A = ℕ × ℕ} m (0, 1), once, length-append b [], cover_length g)
 
 -- each offset is that of the one block, and fits if it does
-shared_fit : (p n : ℕ) (b : List ℕ) → p < 65536 → words_fit (map (shared_offset p (b ∷ [])) (replicate n (some b))) ≡ true
+shared_fit : (p n : ℕ) (b : List ℕ) → p < 65536 → words_fit (map (shared_offset p (b ∷ [])) (replicate n (Some b))) ≡ true
 unfolding every words_fit offset_in shared_offset
 shared_fit p zero b h = refl
 shared_fit p (suc n) b h = rw (same_list b, lt-ltb p 65536 h) (shared_fit p n b h)
@@ -145,13 +144,13 @@ shared_fit p (suc n) b h = rw (same_list b, lt-ltb p 65536 h) (shared_fit p n b 
 pub packed_fit : (n g m : ℕ) → 2 * g ≤ 65536 → 6 + 2 * suc n + 4 * m < 65536 → words_fit (packed_words (even_covers (suc n) g m)) ≡ true
 unfolding shared_offsets
 packed_fit n g m hg h =
-    let i = replicate (suc n) (some (evens 0 g)) in
+    let i = replicate (suc n) (Some (evens 0 g)) in
     let b = coverage_words (evens 0 g) in
-    let bs = replicate (suc n) (some b) in
+    let bs = replicate (suc n) (Some b) in
     let rs : List (ℕ × ℕ) = replicate m (0, 1) in
     let records : length rs ≡ m = length-replicate {A = ℕ × ℕ} m (0, 1) in
     let p = 6 + 2 * length bs + 4 * length rs in
-    packed_by_cover_exactly i rs (covers_good (suc n) g m hg) (omega (arith, length-replicate (suc n) (some (evens 0 g)))) (omega (arith, records))
+    packed_by_cover_exactly i rs (covers_good (suc n) g m hg) (omega (arith, length-replicate (suc n) (Some (evens 0 g)))) (omega (arith, records))
     ∙ ap (λ l. words_fit (shared_offsets (6 + 2 * length l + 4 * length rs) l)) (equal_blocks (suc n) (evens 0 g))
     ∙ ap (λ ds. words_fit (map (shared_offset p ds) bs)) (written_once n b)
-    ∙ shared_fit p (suc n) b (omega (arith, length-replicate (suc n) (some b), records))
+    ∙ shared_fit p (suc n) b (omega (arith, length-replicate (suc n) (Some b), records))

@@ -1,7 +1,6 @@
 -- Jobs with more bytes lent: the program prints the same, but for `refused 10`.
-use Rattle.std.specs.Prelude.{ℕ, ◌+◌, ◌≡◌, refl, Bool, true, false, cond, ◌&&◌, ◌||◌, not, length, drop, replicate, ltb, eqb}
+use Rattle.std.specs.Prelude.{ℕ, ◌+◌, ◌≡◌, refl, Bool, true, false, cond, ◌&&◌, ◌||◌, not, length, drop, replicate, ltb, eqb, Option, None, Some}
 use Rattle.std.proofs.Common.{arith, sym, ◌∙◌, true≢false, length-append, ltb-false, le-ltb}
-use Rattle.std.proofs.Math.Option.{Option, none, some}
 use mathlib.Core.List.{List, [], ◌∷◌, ◌++◌, map, head-eq_of_cons-eq, tail-eq_of_cons-eq}
 use Rattle.std.proofs.lemmas.List.{replicate-append-replicate}
 use Rattle.std.proofs.Math.Seq.{take-append_seam}
@@ -65,8 +64,8 @@ same_into a b ws = same_cond (too_big ws) (same_refused a (a ++ b) 9) (same_laid
 
 same_written : (packing : ℕ) (a b : List ℕ) (t : Option Table) → Same (written_in packing a t) (written_in packing (a ++ b) t)
 unfolding written_in
-same_written packing a b none = same_refused a (a ++ b) 8
-same_written packing a b (some t) = same_into a b (words_in packing t)
+same_written packing a b None = same_refused a (a ++ b) 8
+same_written packing a b (Some t) = same_into a b (words_in packing t)
 
 -- the call tests nothing of the buffer before it writes
 same_call : (kind form packing : ℕ) (s g l a b : List ℕ) → Same (subset kind form packing s g l a) (subset kind form packing s g l (a ++ b))

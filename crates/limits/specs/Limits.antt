@@ -1,7 +1,6 @@
 -- Layouts, sources and jobs at their limits. A fact about a long list is proved of lists of every length, and what is computed at the limit is a number or a short list.
-use Rattle.std.specs.Prelude.{ℕ, zero, suc, ◌+◌, ◌*◌, ◌≡◌, refl, Bool, true, false, List, [], ◌∷◌, ◌++◌, map, length, take, replicate}
+use Rattle.std.specs.Prelude.{ℕ, zero, suc, ◌+◌, ◌*◌, ◌≡◌, refl, Bool, true, false, List, [], ◌∷◌, ◌++◌, map, length, take, replicate, Some}
 use Rattle.std.proofs.Common.{arith, ap, ◌∙◌}
-use Rattle.std.proofs.Math.Option.{some}
 use Rattle.std.proofs.lemmas.List.{length-replicate}
 use Rattle.meaning.specs.Words.{every, up_from, bytes2, flat}
 use Rattle.meaning.specs.Tables.{Rule, Table}
@@ -22,7 +21,7 @@ use Rattle.limits.specs.Behind.{before_behind, good_behind, good_behind_lem}
 -- Layouts. What survives is a context of format 3 with as many equal coverages, each of as many even glyphs, and as many records.
 unfoldable pub repeated : ℕ → ℕ → ℕ → Table
 unfolding up_from
-repeated coverages glyphs records = Table.by_cover false [] (replicate coverages (some (map (λ i. 2 * i) (up_from 0 glyphs)))) [] (replicate records (0, 1))
+repeated coverages glyphs records = Table.by_cover false [] (replicate coverages (Some (map (λ i. 2 * i) (up_from 0 glyphs)))) [] (replicate records (0, 1))
 
 -- the last coverage at 65,534 is not too big: a header of 510 bytes, 127 coverages of 512 before it, and itself
 pub last_offset_fits : too_big (table_words (repeated 128 254 62)) ≡ false
@@ -30,12 +29,12 @@ unfolding limit repeated
 last_offset_fits = not_big (table_words (repeated 128 254 62)) 33023 (covers_length 128 254 62) refl (covers_fit 127 254 62 (omega arith) (omega arith) (omega arith))
 
 -- the last coverage at 65,536 is: a header of 766 bytes and 127 coverages of 510 before it
-pub last_offset_past : (written [] (some (repeated 128 253 126))).number ≡ 9
+pub last_offset_past : (written [] (Some (repeated 128 253 126))).number ≡ 9
 unfolding written repeated
 last_offset_past = unfit_is_9 [] (table_words (repeated 128 253 126)) (covers_fit 127 253 126 (omega arith) (omega arith) (omega arith))
 
 -- 9 and 10 measure the layout that is asked for: packed, the same 128 equal coverages of 253 even glyphs are one coverage, and 1,276 bytes are needed
-pub packed_is_measured : ((written_in 1 [] (some (repeated 128 253 126))).number ≡ 10) × ((written_in 1 [] (some (repeated 128 253 126))).len ≡ 1276)
+pub packed_is_measured : ((written_in 1 [] (Some (repeated 128 253 126))).number ≡ 10) × ((written_in 1 [] (Some (repeated 128 253 126))).len ≡ 1276)
 unfolding limit words_in written_in repeated
 packed_is_measured =
     let ws = packed_words (repeated 128 253 126) in
@@ -46,9 +45,9 @@ packed_is_measured =
 unfoldable pub two_long : Table
 two_long =
     let rule : Rule = record { back = []; count = 2; input = 3 ∷ []; ahead = []; records = replicate 8188 (0, 0) } in
-    Table.by_glyph false (some (1 ∷ 3 ∷ [])) (some (rule ∷ []) ∷ some (rule ∷ []) ∷ [])
+    Table.by_glyph false (Some (1 ∷ 3 ∷ [])) (Some (rule ∷ []) ∷ Some (rule ∷ []) ∷ [])
 
-pub over_65536_needed : ((written (replicate 65536 7) (some two_long)).number ≡ 10) × ((written [] (some two_long)).len ≡ 65542) × ((written (replicate 65542 7) (some two_long)).number ≡ 0)
+pub over_65536_needed : ((written (replicate 65536 7) (Some two_long)).number ≡ 10) × ((written [] (Some two_long)).len ≡ 65542) × ((written (replicate 65542 7) (Some two_long)).number ≡ 0)
 unfolding limit written two_long
 over_65536_needed =
     let ws = table_words two_long in

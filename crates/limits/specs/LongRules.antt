@@ -1,7 +1,6 @@
 -- A context of format 1 with two long rules: how many words it has, and whether each fits.
-use Rattle.std.specs.Prelude.{ℕ, ◌+◌, ◌*◌, ◌≡◌, refl, false, List, [], ◌∷◌, ◌++◌, map, length, replicate, ltb}
+use Rattle.std.specs.Prelude.{ℕ, ◌+◌, ◌*◌, ◌≡◌, refl, false, List, [], ◌∷◌, ◌++◌, map, length, replicate, ltb, Option, Some}
 use Rattle.std.proofs.Common.{arith, ap, ◌∙◌, length-append}
-use Rattle.std.proofs.Math.Option.{Option, some}
 use Rattle.std.proofs.lemmas.List.{length-replicate}
 use Rattle.meaning.specs.Words.{twos}
 use Rattle.meaning.specs.Tables.{Rule, Table}
@@ -18,10 +17,10 @@ long_rule n = record { back = []; count = 2; input = 3 ∷ []; ahead = []; recor
 
 -- two sets of one such rule each, and the table with them
 abbrev two_sets : ℕ → List (Option (List Rule))
-two_sets n = some (long_rule n ∷ []) ∷ some (long_rule n ∷ []) ∷ []
+two_sets n = Some (long_rule n ∷ []) ∷ Some (long_rule n ∷ []) ∷ []
 
 abbrev pub two_rules : ℕ → Table
-two_rules n = Table.by_glyph false (some (1 ∷ 3 ∷ [])) (two_sets n)
+two_rules n = Table.by_glyph false (Some (1 ∷ 3 ∷ [])) (two_sets n)
 
 -- how many words one set has
 set_length : (n : ℕ) → length (set_words (rule_words false) (long_rule n ∷ [])) ≡ 2 * n + 5

@@ -2,7 +2,7 @@
 use Prim.Native.Nat.{ℕ, ◌+◌, ◌-◌, ◌*◌, ◌/◌, ◌%◌, ◌≤◌, ◌<◌}
 use mathlib.Core.Path.{◌≡◌, sym, ap, ◌∙◌}
 use mathlib.Core.Bool.{true, false}
-use mathlib.Core.Option.{none, some}
+use Rattle.std.specs.Prelude.{None, Some}
 use mathlib.Core.List.{List, ◌∷◌}
 use native.Mathlib.Omega.{arith}
 use Rattle.meaning.specs.Words.{word, words, is_some}
@@ -28,13 +28,13 @@ module _ {t : List ℕ} {m : Map} {s : List ℕ} {at n : ℕ} where
     pub listing_hit : e / 65536 ≡ glyph → true ≡ answered (folded t m) (words s at n)
     unfolding answered is_some
     listing_hit g =
-        let o : folded t m glyph ≡ some (e % 65536) = ap (λ (x : ℕ). answer_in x glyph) (sym f) ∙ answer_own e glyph g in
+        let o : folded t m glyph ≡ Some (e % 65536) = ap (λ (x : ℕ). answer_in x glyph) (sym f) ∙ answer_own e glyph g in
         rw o at from_here
 
     pub listing_turn : (e / 65536 ≡ glyph → ⊥) → Listing t m s at n (i + 1)
     unfolding answered is_some
     listing_turn g =
-        let o : folded t m glyph ≡ none = ap (λ (x : ℕ). answer_in x glyph) (sym f) ∙ answer_other e glyph g in
+        let o : folded t m glyph ≡ None = ap (λ (x : ℕ). answer_in x glyph) (sym f) ∙ answer_other e glyph g in
         record { within = omega arith; left = rw o at from_here }
 
   pub listing_end : {i : ℕ} → Listing t m s at n i → n ≤ i → false ≡ answered (folded t m) (words s at n)

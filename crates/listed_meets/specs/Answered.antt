@@ -1,6 +1,5 @@
 -- Whether a map has a glyph of a coverage.
-use Rattle.std.specs.Prelude.{ℕ, ◌≡◌, refl, Bool, true, false, ◌||◌, List, [], ◌∷◌}
-use Rattle.std.proofs.Math.Option.{Option, none, some}
+use Rattle.std.specs.Prelude.{ℕ, ◌≡◌, refl, Bool, true, false, ◌||◌, List, [], ◌∷◌, Option, None, Some}
 use Rattle.meaning.specs.Words.{find, is_some, push, map_some}
 use Rattle.meaning.specs.Cut.{unless_empty, new_coverage}
 
@@ -22,5 +21,5 @@ answered_left g [] = refl
 answered_left g (c ∷ cov) = step (find g c) (answered_left g cov)
   where
     step : (o : Option ℕ) → answered (find g) cov ≡ is_some (unless_empty (new_coverage g cov)) → is_some o || answered (find g) cov ≡ is_some (unless_empty (push o (new_coverage g cov)))
-    step none e = e
-    step (some n) e = refl
+    step None e = e
+    step (Some n) e = refl

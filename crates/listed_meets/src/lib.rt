@@ -15,13 +15,11 @@ pub fn meets_list(src: &[u8], at: usize, n: usize, m: Map, t: &[u32]) -> bool
     requires { (at + 2 * n ≤ length src.now) × Inside t.now m }
     ensures { result ≡ answered (folded t.now m) (words src.now at n) }
 {
-    let mut i = 0;
-    while i < n {
+    for i in 0..n {
         let glyph = word_inside(src, at + 2 * i);
         if entry(t, m, glyph) / 65536 == glyph {
             return true;
         }
-        i += 1;
     }
     false
 }

@@ -5,43 +5,69 @@ ghost use Rattle.std.specs.Prelude.{◌≡◌, true, ◌*◌, ◌/◌, ◌<◌, 
 ghost use Rattle.meaning.specs.Words.{word};
 ghost use Rattle.replaying.specs.Listed.{listed, good_list, lookup_refusal, first_refusal};
 ghost use Rattle.lookup_list.specs.Ready.{source_at};
-ghost use Rattle.lookup_checks.specs.Checks.{refusal_by};
+ghost use Rattle.lookup_checks.specs.Checks.{number_of, place_of, refusal_by};
 
 use checks::{check, other_format};
-use faults::Fault;
 use lookup_list::{long_at, part};
 use records::records_within;
 use room::LIMIT;
 use wire::word_at;
 
-// What the checks say: the number and the place of a refusal, or that all is fine.
-#[derive(Clone, Copy)]
-pub enum Checked {
-    Refused(usize, usize),
-    Fine,
+// Why a lookup is refused, in the order in which it is tried. With `Malformed` comes the lowest start among the faulty parts.
+#[derive(Clone, Copy, Debug, PartialEq, Eq)]
+pub enum LookupRefusal {
+    LongSource,
+    BadFormat,
+    Malformed(usize),
+    PastRule,
+}
+
+impl LookupRefusal {
+    // The documents' number of the refusal.
+    pub fn number(self) -> usize
+        ensures { result ≡ number_of self }
+    {
+        match self {
+            LookupRefusal::LongSource => 4,
+            LookupRefusal::BadFormat => 5,
+            LookupRefusal::Malformed(_) => 6,
+            LookupRefusal::PastRule => 12,
+        }
+    }
+
+    // And its place, which is 0 for all but `Malformed`.
+    pub fn place(self) -> usize
+        ensures { result ≡ place_of self }
+    {
+        match self {
+            LookupRefusal::Malformed(place) => place,
+            _ => 0,
+        }
+    }
 }
 
 // What is wrong with a lookup: over the limit, a format that its kind has not, malformed, or a record past its rule.
-fn check_lookup(kind: usize, src: &[u8]) -> Checked
+#[tactic(auto, unfolding(replaying::specs::Listed::lookup_refusal, replaying::specs::Listed::malformed, replaying::specs::Listed::or_else, meaning::specs::Subset::limit))]
+fn check_lookup(kind: usize, src: &[u8]) -> Result<(), LookupRefusal>
     ensures { refusal_by result ≡ lookup_refusal kind src.now }
 {
     if LIMIT < src.len() {
-        return Checked::Refused(4, 0);
+        return Err(LookupRefusal::LongSource);
     }
     if other_format(kind, src) {
-        return Checked::Refused(5, 0);
+        return Err(LookupRefusal::BadFormat);
     }
-    if let Fault::At(place) = check(kind, src) {
-        return Checked::Refused(6, place);
+    if let Some(place) = check(kind, src) {
+        return Err(LookupRefusal::Malformed(place));
     }
     if !records_within(kind, src) {
-        return Checked::Refused(12, 0);
+        return Err(LookupRefusal::PastRule);
     }
-    Checked::Fine
+    Ok(())
 }
 
 // The same of a lookup of a good list, by its place from 0.
-fn check_listed(list: &[u8], buffer: &[u8], lookup: usize) -> Checked
+fn check_listed(list: &[u8], buffer: &[u8], lookup: usize) -> Result<(), LookupRefusal>
     requires { (good_list list.now buffer.now ≡ true) × (lookup < length list.now / 10) }
     ensures { refusal_by result ≡ lookup_refusal (word list.now (10 * lookup)) (source_at list.now buffer.now lookup) }
 {
@@ -54,17 +80,12 @@ fn check_listed(list: &[u8], buffer: &[u8], lookup: usize) -> Checked
 }
 
 // What is wrong with the first faulty lookup of a good list.
-pub fn check_lookups(list: &[u8], buffer: &[u8]) -> Checked
+pub fn check_lookups(list: &[u8], buffer: &[u8]) -> Result<(), LookupRefusal>
     requires { good_list list.now buffer.now ≡ true }
     ensures { refusal_by result ≡ first_refusal buffer.now (listed list.now) }
 {
-    let many = list.len() / 10;
-    let mut lookup = 0;
-    while lookup < many {
-        if let Checked::Refused(number, place) = check_listed(list, buffer, lookup) {
-            return Checked::Refused(number, place);
-        }
-        lookup += 1;
+    for lookup in 0..list.len() / 10 {
+        check_listed(list, buffer, lookup)?;
     }
-    Checked::Fine
+    Ok(())
 }

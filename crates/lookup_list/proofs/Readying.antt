@@ -2,7 +2,7 @@
 use Prim.Native.Nat.{ℕ, zero, suc, ◌+◌, ◌-◌, ◌*◌, ◌/◌, ◌%◌, ◌≤◌, ◌<◌}
 use mathlib.Core.Path.{◌≡◌, refl, sym, ◌∙◌}
 use mathlib.Core.Bool.{Bool, true, false, cond, ◌&&◌, ◌||◌, not, true≢false}
-use mathlib.Core.Option.{Option, none, some}
+use Rattle.std.specs.Prelude.{Option, None, Some}
 use mathlib.Core.List.{List}
 use native.Mathlib.Omega.{arith}
 use lib.ListN.{length}
@@ -32,12 +32,12 @@ entries_every test list at (suc n) (suc k) h l =
     let e : at + 10 * suc k ≡ at + 10 + 10 * k = omega arith in
     rw e (entries_every test list (at + 10) n k (both (test (entry_at list at)) _ h).1 (omega arith))
 
-neither : (p q : Option (ℕ × ℕ)) → or_else p q ≡ none → (p ≡ none) × (q ≡ none)
+neither : (p q : Option (ℕ × ℕ)) → or_else p q ≡ None → (p ≡ None) × (q ≡ None)
 unfolding or_else
-neither none q h = (refl, h)
-neither (some a) q h = no (cc)
+neither None q h = (refl, h)
+neither (Some a) q h = no (cc)
 
-entries_fine : (buffer list : List ℕ) (at n k : ℕ) → first_refusal buffer (entries_from list at n) ≡ none → k < n → lookup_refusal (entry_at list (at + 10 * k)).kind (source_of buffer (entry_at list (at + 10 * k))) ≡ none
+entries_fine : (buffer list : List ℕ) (at n k : ℕ) → first_refusal buffer (entries_from list at n) ≡ None → k < n → lookup_refusal (entry_at list (at + 10 * k)).kind (source_of buffer (entry_at list (at + 10 * k))) ≡ None
 unfolding first_refusal entries_from
 entries_fine buffer list at zero k h l = absurd (omega arith)
 entries_fine buffer list at (suc n) zero h l =
@@ -48,18 +48,18 @@ entries_fine buffer list at (suc n) (suc k) h l =
     rw e (entries_fine buffer list (at + 10) n k (neither (lookup_refusal (entry_at list at).kind (source_of buffer (entry_at list at))) _ h).1 (omega arith))
 
 -- a lookup that is not refused is sound
-fine_sound : (kind : ℕ) (s : List ℕ) → lookup_refusal kind s ≡ none → fault kind s ≡ none
+fine_sound : (kind : ℕ) (s : List ℕ) → lookup_refusal kind s ≡ None → fault kind s ≡ None
 unfolding lookup_refusal malformed
 fine_sound kind s h = go (ltb limit (length s)) (inside s 0 2 && not (has_format kind (word s 0))) (fault kind s) h
   where
-    go : (x y : Bool) (o : Option ℕ) → cond x (some (4, 0)) (cond y (some (5, 0)) (or_else (malformed o) (cond (records_within (table kind s)) none (some (12, 0))))) ≡ none → o ≡ none
+    go : (x y : Bool) (o : Option ℕ) → cond x (Some (4, 0)) (cond y (Some (5, 0)) (or_else (malformed o) (cond (records_within (table kind s)) None (Some (12, 0))))) ≡ None → o ≡ None
     go true y o h = no (cc)
     go false true o h = no (cc)
-    go false false none h = refl
-    go false false (some p) h = no (neither_some p (cond (records_within (table kind s)) none (some (12, 0))) h)
+    go false false None h = refl
+    go false false (Some p) h = no (neither_some p (cond (records_within (table kind s)) None (Some (12, 0))) h)
       where
-        neither_some : (p : ℕ) (q : Option (ℕ × ℕ)) → or_else (malformed (some p)) q ≡ none → ◌≡◌ {A = ℕ} 0 1
-        neither_some p q h = let z = (neither (malformed (some p)) q h).0 in cc
+        neither_some : (p : ℕ) (q : Option (ℕ × ℕ)) → or_else (malformed (Some p)) q ≡ None → ◌≡◌ {A = ℕ} 0 1
+        neither_some p q h = let z = (neither (malformed (Some p)) q h).0 in cc
 
 -- a kind that may be listed
 kind_known : (kind : ℕ) → eqb kind 1 || (eqb kind 2 || eqb kind 5) ≡ true → (kind ≡ 5 → ⊥) → (kind ≡ 2 → ⊥) → kind ≡ 1
@@ -100,7 +100,7 @@ module _ (list buffer : List ℕ) (h : good_list list buffer ≡ true) where
       omega (arith, e, f)
 
   -- `list_ready`: a good list whose lookups are not refused can be asked
-  pub list_ready : first_refusal buffer (listed list) ≡ none → Ready list buffer
+  pub list_ready : first_refusal buffer (listed list) ≡ None → Ready list buffer
   unfolding listed good_entry entry_at part_at source_of source_at
   list_ready f = record {
     short = list_short;
@@ -111,7 +111,7 @@ module _ (list buffer : List ℕ) (h : good_list list buffer ≡ true) where
     };
   }
     where
-      fine : (k : ℕ) → k < length list / 10 → lookup_refusal (word list (10 * k)) (source_at list buffer k) ≡ none
+      fine : (k : ℕ) → k < length list / 10 → lookup_refusal (word list (10 * k)) (source_at list buffer k) ≡ None
       fine k l =
           let e : 0 + 10 * k ≡ 10 * k = omega arith in
           rw e at (entries_fine buffer list 0 (length list / 10) k f l)

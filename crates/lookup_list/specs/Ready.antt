@@ -1,6 +1,5 @@
 -- When the lookups of a list can be asked.
-use Rattle.std.specs.Prelude.{ℕ, ◌+◌, ◌*◌, ◌/◌, ◌≤◌, ◌<◌, ◌≡◌, List, length}
-use Rattle.std.proofs.Math.Option.{none}
+use Rattle.std.specs.Prelude.{ℕ, ◌+◌, ◌*◌, ◌/◌, ◌≤◌, ◌<◌, ◌≡◌, List, length, None}
 use Rattle.meaning.specs.Words.{word}
 use Rattle.meaning.specs.Fault.{fault}
 use Rattle.meaning.specs.Job.{long, part_at, bytes_of}
@@ -8,7 +7,7 @@ use Rattle.meaning.specs.Job.{long, part_at, bytes_of}
 -- a sound lookup of a kind that can be listed
 pub record Lookup (kind : ℕ) (s : List ℕ) : Type 0 where
   pub known : (kind ≡ 5 → ⊥) → (kind ≡ 2 → ⊥) → kind ≡ 1
-  pub sound : fault kind s ≡ none
+  pub sound : fault kind s ≡ None
 
 -- the bytes of a lookup of the list
 unfoldable pub source_at : List ℕ → List ℕ → ℕ → List ℕ

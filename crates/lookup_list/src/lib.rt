@@ -61,12 +61,10 @@ pub fn good_list(list: &[u8], buffer: &[u8]) -> bool
     if LIST_LIMIT < many {
         return false;
     }
-    let mut k = 0;
-    while k < many {
+    for k in 0..many {
         if !good_entry(list, buffer, 10 * k) {
             return false;
         }
-        k += 1;
     }
     true
 }

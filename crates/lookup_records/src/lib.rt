@@ -1,8 +1,7 @@
 // Records of lookups, renumbered straight into the area: those whose lookup stays.
 #![tactic(auto)]
 
-ghost use Rattle.std.proofs.Math.Option.{some};
-ghost use Rattle.std.specs.Prelude.{◌∷◌, ◌+◌, ◌-◌, ◌*◌, ◌<◌, ◌≤◌, length};
+ghost use Rattle.std.specs.Prelude.{◌∷◌, ◌+◌, ◌-◌, ◌*◌, ◌<◌, ◌≤◌, length, Some};
 ghost use Rattle.meaning.specs.Words.{entries, twos, find};
 ghost use Rattle.meaning.specs.Cut.{cut_records};
 ghost use Rattle.cell_maps.specs.Cells.{Inside};
@@ -12,7 +11,7 @@ ghost use Rattle.numbers.specs.Leaves.{Leaves};
 
 use area::{over, put, put_two};
 use cell_maps::Map;
-use fold::{Found, find};
+use fold::find;
 use wire::word_inside;
 
 // Those of the `n` records from `at` on whose lookup stays, with its new number, from `pos` on, where there is room for all `n`; the place after them.
@@ -29,13 +28,11 @@ pub fn write_records(
     ensures { Extends area.old pos (twos (cut_records (entries_in t.now m) (entries src.now at n))) area.new result }
 {
     let mut p = pos;
-    let mut i = 0;
-    while i < n {
+    for i in 0..n {
         let old = word_inside(src, at + 4 * i + 2);
-        if let Found::New(new) = find(t, m, old) {
+        if let Some(new) = find(t, m, old) {
             p = put_two(area, p, word_inside(src, at + 4 * i), new);
         }
-        i += 1;
     }
     p
 }
@@ -51,7 +48,7 @@ pub fn write_counted_records(
     pos: usize,
 ) -> usize
     requires { (at + 4 * n ≤ length src.now) × Inside t.now m × (pos ≤ length area.old) }
-    ensures { Leaves area.old pos (some (length (cut_records (entries_in t.now m) (entries src.now at n)) ∷ twos (cut_records (entries_in t.now m) (entries src.now at n)))) (2 + 4 * n) area.new result }
+    ensures { Leaves area.old pos (Some (length (cut_records (entries_in t.now m) (entries src.now at n)) ∷ twos (cut_records (entries_in t.now m) (entries src.now at n)))) (2 + 4 * n) area.new result }
 {
     if area.len() < pos + 2 + 4 * n {
         return over(area);

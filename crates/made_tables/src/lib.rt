@@ -10,11 +10,9 @@ fn put_offsets(out: &mut [u8], n: usize, first: usize, step: usize)
     requires { (n ≤ 65536) × (first ≤ 196608) × (step ≤ 65536) }
 {
     let mut offset = first;
-    let mut i = 0;
-    while i < n {
+    for i in 0..n {
         put(out, 6 + 2 * i, offset);
         offset += step;
-        i += 1;
     }
 }
 
@@ -23,10 +21,8 @@ fn put_cover(out: &mut [u8], at: usize, n: usize, first: usize)
     requires { (at < 0x1_0000_0000_0000) × (n ≤ 65536) × (first ≤ 65536) }
 {
     put_entry(out, at, 1, n);
-    let mut i = 0;
-    while i < n {
+    for i in 0..n {
         put(out, at + 4 + 2 * i, first + 2 * i);
-        i += 1;
     }
 }
 
@@ -35,11 +31,9 @@ fn put_covers(out: &mut [u8], at: usize, times: usize, n: usize, first: usize)
     requires { (at ≤ 196608) × (times ≤ 65536) × (n ≤ 65536) × (first ≤ 65536) }
 {
     let mut p = at;
-    let mut i = 0;
-    while i < times {
+    for _i in 0..times {
         put_cover(out, p, n, first);
         p += 4 + 2 * n;
-        i += 1;
     }
 }
 
@@ -47,10 +41,8 @@ fn put_covers(out: &mut [u8], at: usize, times: usize, n: usize, first: usize)
 pub fn put_map(out: &mut [u8], n: usize)
     requires { n ≤ 65536 }
 {
-    let mut i = 0;
-    while i < n {
+    for i in 0..n {
         put_entry(out, 4 * i, 1 + 2 * i, 2 + 2 * i);
-        i += 1;
     }
 }
 
@@ -85,10 +77,8 @@ pub fn put_result(out: &mut [u8], places: usize, n: usize)
 pub fn put_same(out: &mut [u8], n: usize)
     requires { n ≤ 65536 }
 {
-    let mut i = 0;
-    while i < n {
+    for i in 0..n {
         put_entry(out, 4 * i, i, i);
-        i += 1;
     }
 }
 
@@ -96,11 +86,9 @@ pub fn put_same(out: &mut [u8], n: usize)
 pub fn put_rules(out: &mut [u8], at: usize, n: usize)
     requires { (at ≤ 65536) × (n ≤ 65536) }
 {
-    let mut i = 0;
-    while i < n {
+    for i in 0..n {
         put(out, at + 2 * i, 2 + 2 * n + 6 * i);
         put_record(out, at + 2 * n + 6 * i, 2, 0, i);
-        i += 1;
     }
 }
 
@@ -120,10 +108,8 @@ pub fn put_pairs(out: &mut [u8], at: usize, n: usize)
     requires { (at < 0x1_0000_0000) × (n ≤ 65536) }
 {
     put(out, at, n);
-    let mut i = 0;
-    while i < n {
+    for i in 0..n {
         put_entry(out, at + 2 + 4 * i, i, advance(i));
-        i += 1;
     }
 }
 
@@ -136,11 +122,9 @@ pub fn put_pair_table(out: &mut [u8], n: usize, step: usize, cover: usize)
     put_record(out, cover, 2, 1, 0);
     put(out, cover + 8, 0);
     let mut p = 10 + 2 * n;
-    let mut i = 0;
-    while i < n {
+    for i in 0..n {
         put(out, 10 + 2 * i, p);
         p += step;
-        i += 1;
     }
 }
 
@@ -149,11 +133,9 @@ pub fn put_pair_sets(out: &mut [u8], at: usize, n: usize)
     requires { (at ≤ 65536) × (n ≤ 256) }
 {
     let mut p = at;
-    let mut i = 0;
-    while i < n {
+    for _i in 0..n {
         put_pairs(out, p, n);
         p += 2 + 4 * n;
-        i += 1;
     }
 }
 
@@ -171,10 +153,8 @@ pub fn put_list(out: &mut [u8], n: usize)
     requires { (0 < n) × (n ≤ 65536) }
 {
     put_record(out, 0, 2, 6 + 2 * n, n);
-    let mut i = 1;
-    while i < n {
+    for i in 1..n {
         put(out, 4 + 2 * i, i);
-        i += 1;
     }
     put_record(out, 4 + 2 * n, 65535, 2, 1);
     put_record(out, 10 + 2 * n, 0, n - 1, 0);

@@ -35,8 +35,7 @@ pub fn good_runs(m: &[u8]) -> bool
     }
     let mut old = 0;
     let mut new = 0;
-    let mut i = 0;
-    while i < m.len() / 6 {
+    for i in 0..m.len() / 6 {
         let first = word_inside(m, 6 * i);
         let becomes = word_inside(m, 6 * i + 2);
         let n = word_inside(m, 6 * i + 4);
@@ -45,7 +44,6 @@ pub fn good_runs(m: &[u8]) -> bool
         }
         old = first + n;
         new = becomes + n;
-        i += 1;
     }
     true
 }

@@ -27,8 +27,7 @@ fn good_pairs(m: &[u8]) -> bool
     }
     let mut low = 0;
     let mut least = 0;
-    let mut i = 0;
-    while i < m.len() / 4 {
+    for i in 0..m.len() / 4 {
         let old = word_inside(m, 4 * i);
         let new = word_inside(m, 4 * i + 2);
         if old < low {
@@ -39,7 +38,6 @@ fn good_pairs(m: &[u8]) -> bool
         }
         low = old + 1;
         least = new + 1;
-        i += 1;
     }
     true
 }

@@ -2,7 +2,7 @@
 use Prim.Native.Nat.{ℕ, zero, suc, ◌+◌, ◌-◌, ◌*◌, ◌≤◌, ◌<◌}
 use mathlib.Core.Path.{◌≡◌, refl, sym, ap, ◌∙◌}
 use mathlib.Core.Bool.{Bool, true, false, cond, ◌&&◌}
-use mathlib.Core.Option.{Option, none, some}
+use Rattle.std.specs.Prelude.{Option, None, Some}
 use mathlib.Core.List.{List, [], ◌∷◌}
 use native.Mathlib.Omega.{arith}
 use lib.ListN.{length, drop}
@@ -19,7 +19,6 @@ use Rattle.holding.specs.Held.{held, runs_on}
 use Rattle.holding.specs.Fitting.{parts_fit, FineParts}
 use Rattle.matching.specs.Fitting.{held_by, SoundTables, reach_fits, Told}
 use Rattle.holding.specs.declared.How.{How}
-use Rattle.matching.specs.declared.Matched.TheVariants.{Nothing, Rule}
 
 -- a rule's input has one number fewer than it counts
 input_length : (chained : Bool) (s : List ℕ) (at : ℕ) → length (rule chained s at).input ≡ (rule chained s at).count - 1
@@ -103,16 +102,16 @@ module _ {chained : Bool} {s : List ℕ} {h : How} {set : ℕ} {text : List ℕ}
 
   module _ {i off : ℕ} (k : Choosing chained s h set text place n i) (l : i < n) (e : off ≡ word s (set + 2 + 2 * i)) {b : Bool} (f : b ≡ reach_fits chained s h set off text place) where
     one : fit_left chained s h set text place (set + 2 + 2 * i) (n - i)
-        ≡ cond b (some ((rule chained s (set + off)).count, (rule chained s (set + off)).records)) (fit_left chained s h set text place (set + 2 + 2 * (i + 1)) (n - (i + 1)))
+        ≡ cond b (Some ((rule chained s (set + off)).count, (rule chained s (set + off)).records)) (fit_left chained s h set text place (set + 2 + 2 * (i + 1)) (n - (i + 1)))
     unfolding reaches reach drop_null first_fit reach_fits
     one =
         let a : n - i ≡ suc (n - (i + 1)) = omega arith in
         let c : set + 2 + 2 * (i + 1) ≡ set + 2 + 2 * i + 2 = omega arith in
         rw (a, c, ← e, f) (step (eqb off 0))
       where
-        step : (z : Bool) → first_fit (held_by s h) (drop_null (cond z none (some (rule chained s (set + off))) ∷ reaches (rule chained s) s set (set + 2 + 2 * i + 2) (n - (i + 1)))) (backward text place) (drop (suc place) text)
+        step : (z : Bool) → first_fit (held_by s h) (drop_null (cond z None (Some (rule chained s (set + off))) ∷ reaches (rule chained s) s set (set + 2 + 2 * i + 2) (n - (i + 1)))) (backward text place) (drop (suc place) text)
             ≡ cond (cond z false (rule_fits (held_by s h) (rule chained s (set + off)) (backward text place) (drop (suc place) text)))
-            (some ((rule chained s (set + off)).count, (rule chained s (set + off)).records)) (fit_left chained s h set text place (set + 2 + 2 * i + 2) (n - (i + 1)))
+            (Some ((rule chained s (set + off)).count, (rule chained s (set + off)).records)) (fit_left chained s h set text place (set + 2 + 2 * i + 2) (n - (i + 1)))
         step true = refl
         step false = refl
 
@@ -120,14 +119,14 @@ module _ {chained : Bool} {s : List ℕ} {h : How} {set : ℕ} {text : List ℕ}
     choosing_turn z = record { within = omega arith; small = k.small; left = sym (rw z at one) ∙ k.left }
 
     pub choosing_found : b ≡ true → {r : RuleParts} → IsRule chained s (set + off) r → set < 65536 → off < 65536
-        → Told s (first_fit (held_by s h) (rule_set chained s set) (backward text place) (drop (suc place) text)) (Rule r.count r.records.at r.records.len)
+        → Told s (first_fit (held_by s h) (rule_set chained s set) (backward text place) (drop (suc place) text)) (Some (record { input_len = r.count; records = r.records }))
     choosing_found z {r} t u v = record {
       says = rw (t.count, t.records) (sym (rw z at one) ∙ k.left);
       small = (count_small t, omega (arith, t.near_records.close), t.near_records.short);
     }
 
   pub choosing_end : {i : ℕ} → Choosing chained s h set text place n i → n ≤ i
-      → Told s (first_fit (held_by s h) (rule_set chained s set) (backward text place) (drop (suc place) text)) Nothing
+      → Told s (first_fit (held_by s h) (rule_set chained s set) (backward text place) (drop (suc place) text)) None
   unfolding reaches drop_null first_fit
   choosing_end {i} k l =
       let a : n - i ≡ 0 = omega arith in

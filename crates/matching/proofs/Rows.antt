@@ -2,7 +2,7 @@
 use Prim.Native.Nat.{ℕ, zero, suc, ◌+◌, ◌*◌, ◌≤◌, ◌<◌}
 use mathlib.Core.Path.{◌≡◌, refl, sym, ap, ◌∙◌}
 use mathlib.Core.Bool.{Bool, true, false, cond, ◌&&◌, true≢false}
-use mathlib.Core.Option.{Option, none, some}
+use Rattle.std.specs.Prelude.{Option, None, Some}
 use mathlib.Core.List.{List, [], ◌∷◌}
 use mathlib.Core.Logic.{inl, inr}
 use native.Mathlib.Omega.{arith}
@@ -27,23 +27,22 @@ use Rattle.matching.specs.Formats.{SoundCover, SoundClasses, match_at, glyph_con
 use Rattle.matching.specs.Rows.{SoundRow, IsCovers}
 use Rattle.holding.specs.declared.How.{How}
 use Rattle.matching.specs.declared.Matched.{Matched}
-use Rattle.matching.specs.declared.Matched.TheVariants.{Nothing, Rule}
 use Rattle.matching.proofs.Fitting.{drop_more}
 use Rattle.matching.proofs.Formats.{told_none, told_same}
 
 -- A row of coverages without a fault is sound.
-row_sound : (s : List ℕ) (slot n : ℕ) → fault_through (coverage_fault s) s 0 slot n ≡ none → SoundRow s (record { at = slot; len = n })
+row_sound : (s : List ℕ) (slot n : ℕ) → fault_through (coverage_fault s) s 0 slot n ≡ None → SoundRow s (record { at = slot; len = n })
 unfolding fault_through coverage_fault
 row_sound s slot zero h i l z = absurd (omega arith)
 row_sound s slot (suc n) h zero l z =
     let e : slot + 2 * 0 ≡ slot = omega arith in
     let z' : word s slot ≡ 0 → ⊥ = rw e at z in
-    let q = (lowest_none (cond (eqb (word s slot) 0) none (coverage_fault s (0 + word s slot))) (fault_through (coverage_fault s) s 0 (slot + 2) n) h).0 in
+    let q = (lowest_none (cond (eqb (word s slot) 0) None (coverage_fault s (0 + word s slot))) (fault_through (coverage_fault s) s 0 (slot + 2) n) h).0 in
     let r = rw (ne_eqb (word s slot) 0 z', zero-add (word s slot)) at q in
-    rw e (part_sound (word s slot) (coverage_sound s (word s slot)) none r).0
+    rw e (part_sound (word s slot) (coverage_sound s (word s slot)) None r).0
 row_sound s slot (suc n) h (suc i) l z =
     let e : slot + 2 * suc i ≡ slot + 2 + 2 * i = omega arith in
-    let q = (lowest_none (cond (eqb (word s slot) 0) none (coverage_fault s (0 + word s slot))) (fault_through (coverage_fault s) s 0 (slot + 2) n) h).1 in
+    let q = (lowest_none (cond (eqb (word s slot) 0) None (coverage_fault s (0 + word s slot))) (fault_through (coverage_fault s) s 0 (slot + 2) n) h).1 in
     rw e (row_sound s (slot + 2) n q i (omega arith) (rw e at z))
 
 no_row : (s : List ℕ) (at : ℕ) → SoundRow s (record { at = at; len = 0 })
@@ -114,7 +113,7 @@ drop_here (g ∷ text) zero h = refl
 drop_here (g ∷ text) (suc k) h = drop_here text k (omega arith)
 
 module _ {chained : Bool} {s : List ℕ} {r : RuleParts} (k : IsCovers chained s r) where
-  pub covers_fine : covers_fault chained s ≡ none → FineParts s as_covers r
+  pub covers_fine : covers_fault chained s ≡ None → FineParts s as_covers r
   covers_fine h =
       let q = k.sound h in
       record {
@@ -125,7 +124,7 @@ module _ {chained : Bool} {s : List ℕ} {r : RuleParts} (k : IsCovers chained s
       }
 
   module _ (text : List ℕ) (place : ℕ) (l : place < length text) where
-    covers_match : match_at (cover_context chained s) text place ≡ cond (parts_fit s as_covers r text place place) (some (r.count, entries s r.records.at r.records.len)) none
+    covers_match : match_at (cover_context chained s) text place ≡ cond (parts_fit s as_covers r text place place) (Some (r.count, entries s r.records.at r.records.len)) None
     unfolding match parts_fit runs_on
     covers_match =
         rw (
@@ -139,13 +138,13 @@ module _ {chained : Bool} {s : List ℕ} {r : RuleParts} (k : IsCovers chained s
           k.count,
         )
 
-    pub covers_told : {b : Bool} → b ≡ parts_fit s as_covers r text place place → b ≡ true → Told s (match_at (cover_context chained s) text place) (Rule r.count r.records.at r.records.len)
+    pub covers_told : {b : Bool} → b ≡ parts_fit s as_covers r text place place → b ≡ true → Told s (match_at (cover_context chained s) text place) (Some (record { input_len = r.count; records = r.records }))
     covers_told e h = record {
       says = sym (covers_match ∙ rw (← e, h));
       small = (omega (arith, k.count, k.near_input.short), omega (arith, k.near_records.close), k.near_records.short);
     }
 
-    pub covers_none : {b : Bool} → b ≡ parts_fit s as_covers r text place place → b ≡ false → Told s (match_at (cover_context chained s) text place) Nothing
+    pub covers_none : {b : Bool} → b ≡ parts_fit s as_covers r text place place → b ≡ false → Told s (match_at (cover_context chained s) text place) None
     covers_none e h = told_none (covers_match ∙ rw (← e, h))
 
 -- Format 2: the class tables of a plain and of a chained context.
@@ -169,7 +168,7 @@ module _ (s : List ℕ) where
     ahead = λ q. rw g (h 8 (inr (refl, inr refl)));
   }
 
-  module _ (text : List ℕ) (place : ℕ) {m : Matched} where
+  module _ (text : List ℕ) (place : ℕ) {m : Option Matched} where
     pub plain_classes : {w : ℕ} → w ≡ word s 4 → Told s (match_at (classes_at false s (record { sort = 1; back = 0; input = w; ahead = 0 }) 6) text place) m → Told s (match_at (class_context false s) text place) m
     unfolding class_context table_at
     plain_classes e t = rw (← class_at s 4 e) t
@@ -180,54 +179,54 @@ module _ (s : List ℕ) where
     chained_classes e f g t = rw (← class_at s 4 e, ← class_at s 6 f, ← class_at s 8 g) t
 
 -- The three formats: what the parts of a context without a fault are, and what each format answers.
-class_sound : (s : List ℕ) (at : ℕ) → classes_fault s at ≡ none → classes_sound s at ≡ true
+class_sound : (s : List ℕ) (at : ℕ) → classes_fault s at ≡ None → classes_sound s at ≡ true
 unfolding classes_fault
-class_sound s at h = (part_sound at (classes_sound s at) none h).0
+class_sound s at h = (part_sound at (classes_sound s at) None h).0
 
-pub offset_sound : (s : List ℕ) (fault_at : ℕ → Option ℕ) (test : ℕ → Bool) → ((at : ℕ) → fault_at at ≡ none → test at ≡ true) → (slot n : ℕ) → fault_through fault_at s 0 slot (suc n) ≡ none
-    → ((word s slot ≡ 0 → ⊥) → test (word s slot) ≡ true) × (fault_through fault_at s 0 (slot + 2) n ≡ none)
+pub offset_sound : (s : List ℕ) (fault_at : ℕ → Option ℕ) (test : ℕ → Bool) → ((at : ℕ) → fault_at at ≡ None → test at ≡ true) → (slot n : ℕ) → fault_through fault_at s 0 slot (suc n) ≡ None
+    → ((word s slot ≡ 0 → ⊥) → test (word s slot) ≡ true) × (fault_through fault_at s 0 (slot + 2) n ≡ None)
 unfolding fault_through
 offset_sound s fault_at test k slot n h =
-    let q = lowest_none (cond (eqb (word s slot) 0) none (fault_at (0 + word s slot))) (fault_through fault_at s 0 (slot + 2) n) h in
+    let q = lowest_none (cond (eqb (word s slot) 0) None (fault_at (0 + word s slot))) (fault_through fault_at s 0 (slot + 2) n) h in
     (λ z. k (word s slot) (rw (ne_eqb (word s slot) 0 z, zero-add (word s slot)) at q.0), q.1)
 
-pub cover_fine : (s : List ℕ) (at : ℕ) → coverage_fault s at ≡ none → coverage_sound s at ≡ true
+pub cover_fine : (s : List ℕ) (at : ℕ) → coverage_fault s at ≡ None → coverage_sound s at ≡ true
 unfolding coverage_fault
-cover_fine s at h = (part_sound at (coverage_sound s at) none h).0
+cover_fine s at h = (part_sound at (coverage_sound s at) None h).0
 
 module _ (chained : Bool) (s string : List ℕ) (n place : ℕ) where
   abbrev text : List ℕ
   text = words string 0 n
 
-  pub context_past : n ≤ place → Told s (at_place (match (context chained s)) [] text place) Nothing
+  pub context_past : n ≤ place → Told s (at_place (match (context chained s)) [] text place) None
   context_past h = told_none (no_place (match (context chained s)) text place (omega (arith, words_length string 0 n)))
 
-  module _ (h : context_fault chained s ≡ none) (l : place < n) {format : ℕ} (e : format ≡ word s 0) where
+  module _ (h : context_fault chained s ≡ None) (l : place < n) {format : ℕ} (e : format ≡ word s 0) where
     here : at_place (match (context chained s)) [] text place ≡ match_at (context chained s) text place
     here = at_place_lem (match (context chained s)) text place (omega (arith, words_length string 0 n))
 
-    pub context_glyphs : format ≡ 1 → {m : Matched} → Told s (match_at (glyph_context chained s) text place) m → Told s (at_place (match (context chained s)) [] text place) m
+    pub context_glyphs : format ≡ 1 → {m : Option Matched} → Told s (match_at (glyph_context chained s) text place) m → Told s (at_place (match (context chained s)) [] text place) m
     unfolding context
     context_glyphs f t = told_same (here ∙ rw (← e, eq-eqb format 1 f)) t
 
-    pub context_classes : (format ≡ 1 → ⊥) → format ≡ 2 → {m : Matched} → Told s (match_at (class_context chained s) text place) m → Told s (at_place (match (context chained s)) [] text place) m
+    pub context_classes : (format ≡ 1 → ⊥) → format ≡ 2 → {m : Option Matched} → Told s (match_at (class_context chained s) text place) m → Told s (at_place (match (context chained s)) [] text place) m
     unfolding context
     context_classes f g t = told_same (here ∙ rw (← e, ne_eqb format 1 f, eq-eqb format 2 g)) t
 
-    pub context_covers : (format ≡ 1 → ⊥) → (format ≡ 2 → ⊥) → {m : Matched} → Told s (match_at (cover_context chained s) text place) m → Told s (at_place (match (context chained s)) [] text place) m
+    pub context_covers : (format ≡ 1 → ⊥) → (format ≡ 2 → ⊥) → {m : Option Matched} → Told s (match_at (cover_context chained s) text place) m → Told s (at_place (match (context chained s)) [] text place) m
     unfolding context
     context_covers f g t = told_same (here ∙ rw (← e, ne_eqb format 1 f, ne_eqb format 2 g)) t
 
 module _ (s : List ℕ) {format : ℕ} (e : format ≡ word s 0) where
-  pub glyphs_fine : (chained : Bool) → context_fault chained s ≡ none → format ≡ 1 → SoundCover s
+  pub glyphs_fine : (chained : Bool) → context_fault chained s ≡ None → format ≡ 1 → SoundCover s
   unfolding context_fault
   glyphs_fine chained h f = (offset_sound s (coverage_fault s) (coverage_sound s) (cover_fine s) 2 0 (header_good s _ 0 4 _ (rw (← e, eq-eqb format 1 f) at h)).1).0
 
-  pub covers_fault_lem : (chained : Bool) → context_fault chained s ≡ none → (format ≡ 1 → ⊥) → (format ≡ 2 → ⊥) → covers_fault chained s ≡ none
+  pub covers_fault_lem : (chained : Bool) → context_fault chained s ≡ None → (format ≡ 1 → ⊥) → (format ≡ 2 → ⊥) → covers_fault chained s ≡ None
   unfolding context_fault
   covers_fault_lem chained h f g = rw (← e, ne_eqb format 1 f, ne_eqb format 2 g) at h
 
-  pub classes_fine : (chained : Bool) → context_fault chained s ≡ none → (format ≡ 1 → ⊥) → format ≡ 2 → SoundCover s × SoundClasses chained s
+  pub classes_fine : (chained : Bool) → context_fault chained s ≡ None → (format ≡ 1 → ⊥) → format ≡ 2 → SoundCover s × SoundClasses chained s
   unfolding context_fault
   classes_fine true h f g =
       let q = header_good s _ 3 10 _ (rw (← e, ne_eqb format 1 f, eq-eqb format 2 g) at h) in

@@ -1,6 +1,5 @@
 -- When a rule fits at a place, and what is told of the rule that matches.
-use Rattle.std.specs.Prelude.{ℕ, suc, ◌+◌, ◌≤◌, ◌<◌, ◌≡◌, Bool, false, cond, List, drop, eqb}
-use Rattle.std.proofs.Math.Option.{Option, none, some}
+use Rattle.std.specs.Prelude.{ℕ, suc, ◌+◌, ◌≤◌, ◌<◌, ◌≡◌, Bool, false, cond, List, drop, eqb, Option, option_map, IfSome}
 use Rattle.meaning.specs.Words.{entries}
 use Rattle.meaning.specs.Tables.{rule}
 use Rattle.meaning.specs.Matching.{Holds, rule_fits}
@@ -9,7 +8,6 @@ use Rattle.class_stretches.specs.Tables.{NullOrSound}
 use Rattle.holding.specs.Held.{held}
 use Rattle.holding.specs.declared.How.{How}
 use Rattle.matching.specs.declared.Matched.{Matched}
-use Rattle.matching.specs.declared.Matched.TheVariants.{Nothing, Rule}
 
 -- how a rule's three sequences are held
 unfoldable pub held_by : List ℕ → How → Holds
@@ -26,17 +24,15 @@ pub record SoundTables (s : List ℕ) (h : How) : Type 0 where
 unfoldable pub reach_fits : Bool → List ℕ → How → ℕ → ℕ → List ℕ → ℕ → Bool
 reach_fits chained s h base off text place = cond (eqb off 0) false (rule_fits (held_by s h) (rule chained s (base + off)) (backward text place) (drop (suc place) text))
 
--- the input length and the records of what matched
-abbrev pub told_by : List ℕ → Matched → Option (ℕ × List (ℕ × ℕ))
-told_by s Nothing = none
-told_by s (Rule n at len) = some (n, entries s at len)
+-- the input length and the records of a rule that matched
+abbrev pub told_by : List ℕ → Matched → ℕ × List (ℕ × ℕ)
+told_by s m = (m.input_len, entries s m.records.at m.records.len)
 
 -- its numbers are small
 abbrev pub Small : Matched → Type 0
-Small Nothing = Unit {0}
-Small (Rule n at len) = (n ≤ 65536) × (at < 0x1_0000_0000) × (len < 65536)
+Small m = (m.input_len ≤ 65536) × (m.records.at < 0x1_0000_0000) × (m.records.len < 65536)
 
 -- r tells what matched
-pub record Told (s : List ℕ) (o : Option (ℕ × List (ℕ × ℕ))) (r : Matched) : Type 0 where
-  pub says : told_by s r ≡ o
-  pub small : Small r
+pub record Told (s : List ℕ) (o : Option (ℕ × List (ℕ × ℕ))) (r : Option Matched) : Type 0 where
+  pub says : option_map (told_by s) r ≡ o
+  pub small : IfSome r Small

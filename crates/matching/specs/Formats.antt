@@ -1,6 +1,5 @@
 -- Contexts by their format.
-use Rattle.std.specs.Prelude.{ℕ, suc, ◌+◌, ◌≡◌, Bool, true, List, ◌⊎◌, get_or, drop}
-use Rattle.std.proofs.Math.Option.{Option, none}
+use Rattle.std.specs.Prelude.{ℕ, suc, ◌+◌, ◌≡◌, Bool, true, List, ◌⊎◌, get_or, drop, Option, None}
 use Rattle.meaning.specs.Words.{word, bind}
 use Rattle.meaning.specs.Parts.{coverage, coverage_sound}
 use Rattle.meaning.specs.Tables.{Table, reach, reaches, rule_set}
@@ -21,7 +20,7 @@ SoundCover s = (word s 2 ≡ 0 → ⊥) → coverage_sound s (word s 2) ≡ true
 -- the first rule that fits in the set number i of those whose count stands at `slot`
 unfoldable pub set_fit : Bool → List ℕ → How → ℕ → ℕ → List ℕ → ℕ → Option (ℕ × List (ℕ × ℕ))
 set_fit chained s h slot i text place =
-    bind (get_or (reaches (rule_set chained s) s 0 (slot + 2) (word s slot)) i none) (λ rs. first_fit (held_by s h) rs (backward text place) (drop (suc place) text))
+    bind (get_or (reaches (rule_set chained s) s 0 (slot + 2) (word s slot)) i None) (λ rs. first_fit (held_by s h) rs (backward text place) (drop (suc place) text))
 
 -- format 1
 abbrev pub glyph_context : Bool → List ℕ → Table

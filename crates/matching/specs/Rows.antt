@@ -1,6 +1,5 @@
 -- Where the coverages of a context of format 3 stand.
-use Rattle.std.specs.Prelude.{ℕ, ◌+◌, ◌*◌, ◌<◌, ◌≡◌, Bool, true, List}
-use Rattle.std.proofs.Math.Option.{Option, none}
+use Rattle.std.specs.Prelude.{ℕ, ◌+◌, ◌*◌, ◌<◌, ◌≡◌, Bool, true, List, Option, None}
 use Rattle.meaning.specs.Words.{word, entries}
 use Rattle.meaning.specs.Parts.{coverage, coverage_sound}
 use Rattle.meaning.specs.Tables.{Table, reaches, cover_context}
@@ -21,7 +20,7 @@ SoundRow s row = (i : ℕ) → i < row.len → (word s (row.at + 2 * i) ≡ 0 �
 pub record IsCovers (chained : Bool) (s : List ℕ) (r : RuleParts) : Type 0 where
   pub is : cover_context chained s ≡ Table.by_cover chained (covers_of s r.back) (covers_of s r.input) (covers_of s r.ahead) (entries s r.records.at r.records.len)
   pub count : r.count ≡ r.input.len
-  pub sound : covers_fault chained s ≡ none → SoundRow s r.back × SoundRow s r.input × SoundRow s r.ahead
+  pub sound : covers_fault chained s ≡ None → SoundRow s r.back × SoundRow s r.input × SoundRow s r.ahead
   pub near_back : Near 0 r.back
   pub near_input : Near 0 r.input
   pub near_ahead : Near 0 r.ahead

@@ -1,8 +1,7 @@
 // Matching contexts, plain and chained, at a place of a string. A string is `n` glyphs in a slice, two bytes a glyph.
 #![tactic(auto)]
 
-ghost use Rattle.std.specs.Prelude.{◌≡◌, true, false, [], suc, ◌<◌, drop};
-ghost use Rattle.std.proofs.Math.Option.{none};
+ghost use Rattle.std.specs.Prelude.{◌≡◌, true, false, [], suc, ◌<◌, drop, None};
 ghost use Rattle.meaning.specs.Words.{words};
 ghost use Rattle.meaning.specs.Tables.{rule_set, class_context, cover_context, context};
 ghost use Rattle.meaning.specs.Fault.{covers_fault, context_fault};
@@ -13,16 +12,16 @@ ghost use Rattle.matching.specs.Formats.{SoundCover, SoundClasses, set_fit, matc
 ghost use Rattle.matching.specs.Rows.{IsCovers};
 
 use class_stretches::class_of;
-use coverage_index::{Covered, index_of};
+use coverage_index::index_of;
 use holding::{How, covers, parts_fit};
 use rules::{Row, RuleParts, rule_parts};
 use wire::word_at;
 
-// What matches at a place: nothing, or a rule's input length, where its records start, and how many they are.
+// A rule that matched: its input length, and where its records stand.
 #[derive(Clone, Copy)]
-pub enum Matched {
-    Nothing,
-    Rule(usize, usize, usize),
+pub struct Matched {
+    pub input_len: usize,
+    pub records: Row,
 }
 
 // Whether the rule that an offset from `base` reaches fits at a place; a null offset reaches none.
@@ -55,21 +54,22 @@ fn first_rule(
     string: &[u8],
     n: usize,
     place: usize,
-) -> Matched
+) -> Option<Matched>
     requires { SoundTables src.now how × (set < 0x1_0000) × (place < n) × (n < 0x1_0000_0000) }
     ensures { Told src.now (first_fit (held_by src.now how) (rule_set chained src.now set) (backward (words string.now 0 n) place) (drop (suc place) (words string.now 0 n))) result }
 {
     let count = word_at(src, set);
-    let mut i = 0;
-    while i < count {
+    for i in 0..count {
         let off = word_at(src, set + 2 + 2 * i);
         if rule_fits(chained, src, how, set, off, string, n, place) {
             let r = rule_parts(chained, src, set + off);
-            return Matched::Rule(r.count, r.records.at, r.records.len);
+            return Some(Matched {
+                input_len: r.count,
+                records: r.records,
+            });
         }
-        i += 1;
     }
-    Matched::Nothing
+    None
 }
 
 // The first rule that fits at a place in the set number `i` of those whose count stands at `slot`; a null set has none.
@@ -82,31 +82,31 @@ fn match_set(
     string: &[u8],
     n: usize,
     place: usize,
-) -> Matched
+) -> Option<Matched>
     requires { SoundTables src.now how × (slot < 65536) × (place < n) × (n < 0x1_0000_0000) }
     ensures { Told src.now (set_fit chained src.now how slot i (words string.now 0 n) place) result }
 {
     if word_at(src, slot) <= i {
-        return Matched::Nothing;
+        return None;
     }
     let set = word_at(src, slot + 2 + 2 * i);
     if set == 0 {
-        return Matched::Nothing;
+        return None;
     }
     first_rule(chained, src, how, set, string, n, place)
 }
 
 // Format 1: the set of the glyph's coverage index.
-fn match_glyphs(chained: bool, src: &[u8], string: &[u8], n: usize, place: usize) -> Matched
+fn match_glyphs(chained: bool, src: &[u8], string: &[u8], n: usize, place: usize) -> Option<Matched>
     requires { SoundCover src.now × (place < n) × (n < 0x1_0000_0000) }
     ensures { Told src.now (match_at (glyph_context chained src.now) (words string.now 0 n) place) result }
 {
     let cover = word_at(src, 2);
     if cover == 0 {
-        return Matched::Nothing;
+        return None;
     }
-    let Covered::At(i) = index_of(src, cover, word_at(string, 2 * place)) else {
-        return Matched::Nothing;
+    let Some(i) = index_of(src, cover, word_at(string, 2 * place)) else {
+        return None;
     };
     let how = How {
         sort: 0,
@@ -126,16 +126,16 @@ fn match_classes(
     string: &[u8],
     n: usize,
     place: usize,
-) -> Matched
+) -> Option<Matched>
     requires { SoundCover src.now × SoundTables src.now how × (how.sort ≡ 1) × (slot < 65536) × (place < n) × (n < 0x1_0000_0000) }
     ensures { Told src.now (match_at (classes_at chained src.now how slot) (words string.now 0 n) place) result }
 {
     if how.input == 0 {
-        return Matched::Nothing;
+        return None;
     }
     let glyph = word_at(string, 2 * place);
     if !covers(src, word_at(src, 2), glyph) {
-        return Matched::Nothing;
+        return None;
     }
     let class = class_of(src, how.input, glyph);
     match_set(chained, src, how, slot, class, string, n, place)
@@ -197,8 +197,8 @@ pub fn cover_parts(chained: bool, src: &[u8]) -> RuleParts
 }
 
 // Format 3: one sequence of coverages, which the glyph at the place begins.
-fn match_covers(chained: bool, src: &[u8], string: &[u8], n: usize, place: usize) -> Matched
-    requires { (covers_fault chained src.now ≡ none) × (place < n) × (n < 0x1_0000_0000) }
+fn match_covers(chained: bool, src: &[u8], string: &[u8], n: usize, place: usize) -> Option<Matched>
+    requires { (covers_fault chained src.now ≡ None) × (place < n) × (n < 0x1_0000_0000) }
     ensures { Told src.now (match_at (cover_context chained src.now) (words string.now 0 n) place) result }
 {
     let r = cover_parts(chained, src);
@@ -209,13 +209,22 @@ fn match_covers(chained: bool, src: &[u8], string: &[u8], n: usize, place: usize
         ahead: 0,
     };
     if parts_fit(src, how, r, string, n, place, place) {
-        return Matched::Rule(r.count, r.records.at, r.records.len);
+        return Some(Matched {
+            input_len: r.count,
+            records: r.records,
+        });
     }
-    Matched::Nothing
+    None
 }
 
 // Format 2, with the class tables of a plain or a chained context.
-fn match_by_class(chained: bool, src: &[u8], string: &[u8], n: usize, place: usize) -> Matched
+fn match_by_class(
+    chained: bool,
+    src: &[u8],
+    string: &[u8],
+    n: usize,
+    place: usize,
+) -> Option<Matched>
     requires { SoundCover src.now × SoundClasses chained src.now × (place < n) × (n < 0x1_0000_0000) }
     ensures { Told src.now (match_at (class_context chained src.now) (words string.now 0 n) place) result }
 {
@@ -238,12 +247,18 @@ fn match_by_class(chained: bool, src: &[u8], string: &[u8], n: usize, place: usi
 }
 
 // What a context, plain or chained, matches at a place of a string; nothing past its end.
-pub fn match_context(chained: bool, src: &[u8], string: &[u8], n: usize, place: usize) -> Matched
-    requires { (context_fault chained src.now ≡ none) × (n < 0x1_0000_0000) }
+pub fn match_context(
+    chained: bool,
+    src: &[u8],
+    string: &[u8],
+    n: usize,
+    place: usize,
+) -> Option<Matched>
+    requires { (context_fault chained src.now ≡ None) × (n < 0x1_0000_0000) }
     ensures { Told src.now (at_place (match (context chained src.now)) [] (words string.now 0 n) place) result }
 {
     if n <= place {
-        return Matched::Nothing;
+        return None;
     }
     let format = word_at(src, 0);
     if format == 1 {

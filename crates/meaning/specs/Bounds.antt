@@ -1,6 +1,5 @@
 -- The bounds that request 13 sets, each by what is short to compute or as a fact over all sources or tables. The crate `limits` has layouts, sources and jobs of the full sizes.
-use Rattle.std.specs.Prelude.{ℕ, ◌+◌, ◌*◌, ◌≡◌, refl, true, false, List, [], ◌∷◌, length, take, leb, ltb}
-use Rattle.std.proofs.Math.Option.{some}
+use Rattle.std.specs.Prelude.{ℕ, ◌+◌, ◌*◌, ◌≡◌, refl, true, false, List, [], ◌∷◌, length, take, leb, ltb, Some}
 use Rattle.meaning.specs.Layout.{runs, spread, class_words}
 use Rattle.meaning.specs.Words.{word, inside}
 use Rattle.meaning.specs.Tables.{Table}
@@ -33,6 +32,6 @@ unfolding class_words
 smaller_form_first g c r h = rw h
 
 -- 9 and 10 measure the layout that is asked for; `packed_is_measured` in `limits` has a table that is too big in the plain layout and small in the packed one
-pub measured : (packing : ℕ) (out : List ℕ) (t : Table) → written_in packing out (some t) ≡ laid_into out (words_in packing t)
+pub measured : (packing : ℕ) (out : List ℕ) (t : Table) → written_in packing out (Some t) ≡ laid_into out (words_in packing t)
 unfolding written_in
 measured packing out t = refl

@@ -1,7 +1,6 @@
 -- The packed layout: a block that is equal in bytes and kind to an earlier one is not written again, and the header points to the earlier one. Otherwise the order is the plain one.
 -- (`unfolding packed_words` opens all that it is made of, so that it computes; the definitions before it open nothing but themselves.)
-use Rattle.std.specs.Prelude.{ℕ, ◌+◌, ◌*◌, Bool, true, false, cond, List, [], ◌∷◌, ◌++◌, map, length, eqb}
-use Rattle.std.proofs.Math.Option.{Option, none, some}
+use Rattle.std.specs.Prelude.{ℕ, ◌+◌, ◌*◌, Bool, true, false, cond, List, [], ◌∷◌, ◌++◌, map, length, eqb, Option, None, Some}
 use Rattle.meaning.specs.Words.{eq_list, twos, push}
 use Rattle.meaning.specs.Tables.{Table}
 use Rattle.meaning.specs.Layout.{block, rule_words, ligature_words, set_words, pair_set_words, coverage_words, class_words, row_words, layout}
@@ -100,8 +99,8 @@ packed_start h class_table = 2 * length h + 2 * length (together (packed_blocks 
 -- a word of the header as it is written
 unfoldable pub packed_word : List HeaderWord → HeaderWord → ℕ
 packed_word h (number n) = n
-packed_word h (offset k none) = 0
-packed_word h (offset k (some b)) = offset_in (packed_start h k) (packed_blocks h k) b
+packed_word h (offset k None) = 0
+packed_word h (offset k (Some b)) = offset_in (packed_start h k) (packed_blocks h k) b
 
 -- the header, then its blocks
 unfoldable pub packed : List HeaderWord → List ℕ

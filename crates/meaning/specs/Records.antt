@@ -1,7 +1,6 @@
 -- Records that point past their rule: the source is refused as 12 if a rule or a context of format 3 has one, retained or not.
 -- (`unfolding records_within` opens all that it is made of, so that it computes; the definitions before it open nothing but themselves.)
-use Rattle.std.specs.Prelude.{ℕ, Bool, true, ◌&&◌, List, length, ltb}
-use Rattle.std.proofs.Math.Option.{Option}
+use Rattle.std.specs.Prelude.{ℕ, Bool, true, ◌&&◌, List, length, ltb, Option}
 use Rattle.meaning.specs.Words.{every}
 use Rattle.meaning.specs.Tables.{Rule, Table, drop_null}
 

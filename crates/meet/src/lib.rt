@@ -11,7 +11,7 @@ ghost use Rattle.range_meets.specs.Met.{Met, Meets};
 ghost use Rattle.range_meets.specs.Walks.{MeetsList, MeetsEntries};
 
 use cell_maps::Map;
-use coverage_index::{Covered, index_of};
+use coverage_index::index_of;
 use fold::entry;
 use meet_ranges::meet_ranges;
 use wire::word_inside;
@@ -26,15 +26,13 @@ pub fn meet_list(src: &[u8], at: usize, n: usize, m: Map, t: &mut [u32], to: usi
     ensures { Met (folded t.old m) (words src.now at n) t.old to t.new result }
 {
     let mut k = 0;
-    let mut i = 0;
-    while i < n {
+    for i in 0..n {
         let glyph = word_inside(src, at + 2 * i);
         let e = entry(t, m, glyph);
         t[to + k] = (i * 65536 + e % 65536) as u32;
         if e / 65536 == glyph {
             k += 1;
         }
-        i += 1;
     }
     k
 }
@@ -45,16 +43,11 @@ fn meet_entries(src: &[u8], at: usize, glyphs: &[u8], t: &mut [u32], to: usize) 
     ensures { Met (find (map_entries glyphs.now)) (coverage src.now at) t.old to t.new result }
 {
     let mut k = 0;
-    let mut e = 0;
-    while e < glyphs.len() / 4 {
-        match index_of(src, at, word_inside(glyphs, 4 * e)) {
-            Covered::At(i) => {
-                t[to + k] = (i * 65536 + word_inside(glyphs, 4 * e + 2)) as u32;
-                k += 1;
-            }
-            Covered::Not => {}
+    for e in 0..glyphs.len() / 4 {
+        if let Some(i) = index_of(src, at, word_inside(glyphs, 4 * e)) {
+            t[to + k] = (i * 65536 + word_inside(glyphs, 4 * e + 2)) as u32;
+            k += 1;
         }
-        e += 1;
     }
     k
 }

@@ -26,8 +26,7 @@ pub fn meet_ranges(
 {
     let mut e = 0;
     let mut k = 0;
-    let mut i = 0;
-    while i < n {
+    for i in 0..n {
         if glyphs.len() / 4 <= e {
             return k;
         }
@@ -38,7 +37,6 @@ pub fn meet_ranges(
         let met = meet_range(glyphs, from, first, last, index, t, to + k);
         e = from + met;
         k += met;
-        i += 1;
     }
     k
 }

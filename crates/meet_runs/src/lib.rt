@@ -31,15 +31,13 @@ fn meet_span(
 {
     let mut x = first;
     let mut k = 0;
-    let mut e = from;
-    while e < glyphs.len() / 6 {
+    for e in from..glyphs.len() / 6 {
         if last < word_inside(glyphs, 6 * e) {
             return k;
         }
         let met = meet_run(glyphs, e, x, last, index + (x - first), t, to + k);
         x = met.next;
         k += met.count;
-        e += 1;
     }
     k
 }
@@ -51,14 +49,12 @@ fn meet_ranges(src: &[u8], at: usize, n: usize, glyphs: &[u8], t: &mut [u32], to
 {
     let mut e = 0;
     let mut k = 0;
-    let mut i = 0;
-    while i < n {
+    for i in 0..n {
         let first = word_inside(src, at + 6 * i);
         let last = word_inside(src, at + 6 * i + 2);
         let index = word_inside(src, at + 6 * i + 4);
         e = reach(glyphs, 6, e, first);
         k += meet_span(glyphs, e, first, last, index, t, to + k);
-        i += 1;
     }
     k
 }

@@ -2,7 +2,7 @@
 use Prim.Native.Nat.{ℕ, ◌+◌, ◌*◌, ◌/◌, ◌≤◌, ◌<◌}
 use mathlib.Core.Path.{◌≡◌, sym, ap, ◌∙◌}
 use mathlib.Core.Bool.{Bool, true}
-use mathlib.Core.Option.{Option, none, some}
+use Rattle.std.specs.Prelude.{Option, None, Some}
 use mathlib.Core.List.{List, [], ◌∷◌}
 use mathlib.Core.Logic.{◌⊎◌, inl, inr}
 use native.Mathlib.Omega.{arith}
@@ -77,9 +77,9 @@ unfolding met push bind
 met_most f i [] = omega arith
 met_most f i (c ∷ cov) = step (f c) (met_most f (i + 1) cov)
   where
-    step : (o : Option ℕ) → length (met f (i + 1) cov) ≤ length cov → length (push (bind o (λ n. some (i, n))) (met f (i + 1) cov)) ≤ length (c ∷ cov)
-    step none h = omega arith
-    step (some n) h = omega arith
+    step : (o : Option ℕ) → length (met f (i + 1) cov) ≤ length cov → length (push (bind o (λ n. Some (i, n))) (met f (i + 1) cov)) ≤ length (c ∷ cov)
+    step None h = omega arith
+    step (Some n) h = omega arith
 
 -- `meet`: a listed map, and runs by the format of the coverage.
 module _ {form : ℕ} {s : List ℕ} {at : ℕ} {glyphs : List ℕ} {m : Map} {t : List ℕ} {to : ℕ} (a : MeetsGlyphs form s at glyphs m t to) where

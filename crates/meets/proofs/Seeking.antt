@@ -2,7 +2,7 @@
 use Prim.Native.Nat.{ℕ, zero, suc, ◌+◌, ◌-◌, ◌*◌, ◌≤◌, ◌<◌}
 use mathlib.Core.Path.{◌≡◌, refl, sym, ap, ◌∙◌}
 use mathlib.Core.Bool.{Bool, true, false, ◌&&◌, ◌||◌, true≢false}
-use mathlib.Core.Option.{Option, none, some}
+use Rattle.std.specs.Prelude.{Option, None, Some}
 use mathlib.Core.List.{List, [], ◌∷◌, ◌++◌}
 use native.Mathlib.Decide.{dec_lt}
 use native.Mathlib.Omega.{arith}
@@ -20,7 +20,7 @@ use Rattle.listed_meets.specs.Answered.{answered}
 use Rattle.noted_runs.specs.Walks.{SeeksRanges}
 
 -- numbers in a row of which none, or one, has an answer
-row_none : (f : ℕ → Option ℕ) (a n : ℕ) (cov : List ℕ) → ((x : ℕ) → a ≤ x → x < a + n → f x ≡ none) → answered f (up_from a n ++ cov) ≡ answered f cov
+row_none : (f : ℕ → Option ℕ) (a n : ℕ) (cov : List ℕ) → ((x : ℕ) → a ≤ x → x < a + n → f x ≡ None) → answered f (up_from a n ++ cov) ≡ answered f cov
 unfolding answered up_from is_some
 row_none f a zero cov h = refl
 row_none f a (suc n) cov h = rw (h a (omega arith) (omega arith)) (row_none f (a + 1) n cov (λ x l g. h x (omega arith) (omega arith)))
@@ -38,7 +38,7 @@ row_hit f a (suc n) cov x l g e = step (is_some (f a)) refl (dec_lt a x) (λ k. 
         absurd (true≢false (sym e ∙ ap (λ (y : ℕ). is_some (f y)) (sym s) ∙ q))
 
 -- ranges that ascend, from a number on from which none has an answer
-ranges_none : (f : ℕ → Option ℕ) (low : ℕ) (rs : List (ℕ × ℕ × ℕ)) → ranges_ascend low rs ≡ true → ((x : ℕ) → low ≤ x → f x ≡ none) → answered f (range_glyphs rs) ≡ false
+ranges_none : (f : ℕ → Option ℕ) (low : ℕ) (rs : List (ℕ × ℕ × ℕ)) → ranges_ascend low rs ≡ true → ((x : ℕ) → low ≤ x → f x ≡ None) → answered f (range_glyphs rs) ≡ false
 unfolding answered ranges_ascend range_glyphs span
 ranges_none f low [] u h = refl
 ranges_none f low ((a, z, x) ∷ rs) u h =
@@ -86,7 +86,7 @@ module _ {s : List ℕ} {at n form : ℕ} {m : List ℕ} (a : SeeksRanges s at n
 
     module _ {f : ℕ} (r : Reached form m first f) where
       -- a glyph from the range on, before the next run, has no pair
-      gone : (x : ℕ) → first ≤ x → (f < run_count form m → x < old_of form m f) → find (glyph_entries form m) x ≡ none
+      gone : (x : ℕ) → first ≤ x → (f < run_count form m → x < old_of form m f) → find (glyph_entries form m) x ≡ None
       gone x l b = none_found a.map x r.within (λ k q. omega (arith, r.passed k q)) b
 
       -- no run is left

@@ -33,8 +33,7 @@ fn meets_ranges(src: &[u8], at: usize, n: usize, glyphs: &[u8], form: usize) -> 
     ensures { result ≡ answered (find (glyph_entries form glyphs.now)) (range_glyphs (triples src.now at n)) }
 {
     let mut e = 0;
-    let mut i = 0;
-    while i < n {
+    for i in 0..n {
         let first = word_inside(src, at + 6 * i);
         let last = word_inside(src, at + 6 * i + 2);
         e = reach(glyphs, form, e, first);
@@ -44,7 +43,6 @@ fn meets_ranges(src: &[u8], at: usize, n: usize, glyphs: &[u8], form: usize) -> 
         if run_at(glyphs, form, e).old <= last {
             return true;
         }
-        i += 1;
     }
     false
 }

@@ -1,7 +1,7 @@
 -- Members that are written one after the other, and the set that is made of them.
 use Prim.Native.Nat.{ℕ, ◌+◌, ◌-◌, ◌*◌, ◌≤◌}
 use mathlib.Core.Path.{◌≡◌, refl, sym, ap, ap₂, ◌∙◌}
-use mathlib.Core.Option.{Option, some}
+use Rattle.std.specs.Prelude.{Option, Some}
 use mathlib.Core.List.{List, [], ◌∷◌, ◌++◌, append-nil}
 use native.Mathlib.Omega.{arith}
 use lib.ListN.{length, length-append}
@@ -23,7 +23,7 @@ use Rattle.member_sets.specs.Sets.{Unclosed, set_of, ClosedSet}
 -- blocks of lists put together
 pub members_append : (xs ys : List (List ℕ)) → members (xs ++ ys) ≡ members xs ++ members ys
 members_append [] ys = refl
-members_append (x ∷ xs) ys = ap (λ (l : List (Option (List ℕ))). some x ∷ l) (members_append xs ys)
+members_append (x ∷ xs) ys = ap (λ (l : List (Option (List ℕ))). Some x ∷ l) (members_append xs ys)
 
 pub members_blocks : (xs ys : List (List ℕ)) → blocks (members (xs ++ ys)) ≡ blocks (members xs) ++ blocks (members ys)
 members_blocks xs ys = ap blocks (members_append xs ys) ∙ blocks_append (members xs) (members ys)

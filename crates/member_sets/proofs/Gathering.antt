@@ -1,7 +1,7 @@
 -- What a loop over the members of a set keeps, for members of any sort.
 use Prim.Native.Nat.{ℕ, ◌+◌, ◌-◌, ◌*◌, ◌≤◌, ◌<◌}
 use mathlib.Core.Path.{◌≡◌, refl, sym, ap, ◌∙◌}
-use mathlib.Core.Option.{Option, none, some}
+use Rattle.std.specs.Prelude.{Option, None, Some}
 use mathlib.Core.List.{List, [], ◌∷◌, ◌++◌, map, append_assoc, append-nil}
 use native.Mathlib.Omega.{arith}
 use lib.ListN.{length, length-append}
@@ -16,15 +16,15 @@ use Rattle.member_sets.specs.Sets.{Unclosed, set_of, ClosedSet, set_most, blocks
 use Rattle.member_sets.proofs.Closing.{unclosed_all, unclosed_kept, unclosed_one, members_blocks}
 
 -- a member that goes, and one that is left, before others
-push_gone : {A : Type 0} (f : A → List ℕ) (o : Option A) (r : List A) → block f o ≡ none → push o r ≡ r
+push_gone : {A : Type 0} (f : A → List ℕ) (o : Option A) (r : List A) → block f o ≡ None → push o r ≡ r
 unfolding block push
-push_gone f none r e = refl
-push_gone f (some a) r e = absurd (none_some e refl)
+push_gone f None r e = refl
+push_gone f (Some a) r e = absurd (none_some e refl)
 
-push_left : {A : Type 0} (f : A → List ℕ) (o : Option A) (r : List A) {ws : List ℕ} → block f o ≡ some ws → map f (push o r) ≡ ws ∷ map f r
+push_left : {A : Type 0} (f : A → List ℕ) (o : Option A) (r : List A) {ws : List ℕ} → block f o ≡ Some ws → map f (push o r) ≡ ws ∷ map f r
 unfolding block push
-push_left f none r e = absurd (none_some refl e)
-push_left f (some a) r {ws} e =
+push_left f None r e = absurd (none_some refl e)
+push_left f (Some a) r {ws} e =
     let s : f a ≡ ws = cc in
     ap (λ (w : List ℕ). w ∷ map f r) s
 

@@ -1,8 +1,7 @@
 -- Sets of members: what stands in the area while they are written, and what is left of a set.
-use Rattle.std.specs.Prelude.{ℕ, ◌+◌, ◌-◌, ◌*◌, ◌≤◌, ◌≡◌, length}
+use Rattle.std.specs.Prelude.{ℕ, ◌+◌, ◌-◌, ◌*◌, ◌≤◌, ◌≡◌, length, Option, None, Some}
 use Rattle.std.proofs.Math.Path.{refl, ap}
 use Rattle.std.proofs.Common.{sym, ◌∙◌, arith}
-use Rattle.std.proofs.Math.Option.{Option, none, some}
 use mathlib.Core.List.{List, [], ◌∷◌, ◌++◌, map}
 use Rattle.std.proofs.Math.ListN.{length-map}
 use Rattle.meaning.specs.Words.{flat}
@@ -39,7 +38,7 @@ module _ {A : Type 0} (f : A → List ℕ) where
   -- members as blocks
   pub blocks_are : (xs : List A) → members (map f xs) ≡ member_blocks f xs
   blocks_are [] = refl
-  blocks_are (x ∷ xs) = ap (λ (l : List (Option (List ℕ))). some (f x) ∷ l) (blocks_are xs)
+  blocks_are (x ∷ xs) = ap (λ (l : List (Option (List ℕ))). Some (f x) ∷ l) (blocks_are xs)
 
   -- the words of a set are those of its members' words
   pub set_is : (xs : List A) → set_of (map f xs) ≡ set_words f xs
@@ -49,4 +48,4 @@ module _ {A : Type 0} (f : A → List ℕ) where
   pub set_left : (xs : List A) → block set_of (unless_empty (map f xs)) ≡ block (set_words f) (unless_empty xs)
   unfolding block unless_empty
   set_left [] = refl
-  set_left (x ∷ xs) = ap some (set_is (x ∷ xs))
+  set_left (x ∷ xs) = ap Some (set_is (x ∷ xs))

@@ -29,14 +29,12 @@ pub fn crowded(src: &[u8], slots: usize, n: usize) -> bool
     }
     let most = src.len() / 8;
     let mut members = 0;
-    let mut i = 0;
-    while i < n {
+    for i in 0..n {
         let at = word_at(src, slots + 2 * i);
         members += word_at(src, at);
         if most < members {
             return true;
         }
-        i += 1;
     }
     false
 }

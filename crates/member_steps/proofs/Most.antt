@@ -2,12 +2,12 @@
 use Prim.Native.Nat.{ℕ, suc, ◌+◌, ◌-◌, ◌*◌, ◌≤◌, ◌<◌}
 use mathlib.Core.Path.{◌≡◌, refl, sym, ap, ◌∙◌}
 use mathlib.Core.Bool.{Bool, true, false, cond, true≢false}
-use mathlib.Core.Option.{none, some}
+use Rattle.std.specs.Prelude.{None, Some}
 use mathlib.Core.List.{List, ◌∷◌}
 use native.Mathlib.Omega.{arith}
 use native.Mathlib.Decide.{dec_lt}
 use native.Mathlib.Nat.{zero-add}
-use lib.ListN.{length, replicate}
+use lib.ListN.{replicate}
 use lib.Dec.{eqb}
 use borrow.Author.Tests.{lt-ltb, le-ltb, eqb-true, eqb-false, eq-eqb, ne_eqb}
 use Rattle.meaning.specs.Words.{word}
@@ -96,7 +96,7 @@ module _ {A : Type 0} {f : A → ℕ} {read : ℕ → A} {s : List ℕ} {base sl
     abbrev rest : ℕ
     rest = largest f (drop_null (reaches read s base (slot + 2 * (i + 1)) (n - (i + 1))))
 
-    turn : larger top (largest f (drop_null (cond (eqb off 0) none (some (read (base + off))) ∷ reaches read s base (slot + 2 * (i + 1)) (n - (i + 1)))))
+    turn : larger top (largest f (drop_null (cond (eqb off 0) None (Some (read (base + off))) ∷ reaches read s base (slot + 2 * (i + 1)) (n - (i + 1)))))
         ≡ larger first (largest f (drop_null (reaches read s base slot n)))
     unfolding reach reaches
     turn =
@@ -123,48 +123,46 @@ module _ {A : Type 0} {f : A → ℕ} {read : ℕ → A} {s : List ℕ} {base sl
       sym (larger_zero top) ∙ (rw e at k.left)
 
 -- What the loop over the rules of the set at `set` keeps: the most so far, and the marks of what was counted.
-pub record InSet (chained : Bool) (s steps : List ℕ) (set n first : ℕ) (marks₀ : List ℕ) (top i : ℕ) (marks : List ℕ) : Type 0 where
+pub record InSet (chained : Bool) (s steps : List ℕ) (set n first top i : ℕ) (marks : List ℕ) : Type 0 where
   pub topping : Topping (rule_steps steps) (rule chained s) s set (set + 2) n first top i
   pub counted : Counted chained s steps top marks
-  pub long : length marks ≡ length marks₀
 
-module _ {chained : Bool} {s steps : List ℕ} {at n first : ℕ} {marks₀ : List ℕ} where
-  pub set_all : Counted chained s steps first marks₀ → InSet chained s steps at n first marks₀ first 0 marks₀
-  set_all k = record { topping = topping_all; counted = k; long = refl }
+module _ {chained : Bool} {s steps : List ℕ} {at n first : ℕ} where
+  pub set_all : {marks : List ℕ} → Counted chained s steps first marks → InSet chained s steps at n first first 0 marks
+  set_all k = record { topping = topping_all; counted = k }
 
-  module _ {top i off : ℕ} {marks : List ℕ} (k : InSet chained s steps at n first marks₀ top i marks) (h : i < n) (e : off ≡ word s (at + 2 + 2 * i)) where
-    pub set_null : off ≡ 0 → InSet chained s steps at n first marks₀ top (i + 1) marks
-    set_null z = record { topping = topping_null k.topping h e z; counted = k.counted; long = k.long }
+  module _ {top i off : ℕ} {marks : List ℕ} (k : InSet chained s steps at n first top i marks) (h : i < n) (e : off ≡ word s (at + 2 + 2 * i)) where
+    pub set_null : off ≡ 0 → InSet chained s steps at n first top (i + 1) marks
+    set_null z = record { topping = topping_null k.topping h e z; counted = k.counted }
 
-    pub set_rule : (off ≡ 0 → ⊥) → {r : ℕ} {next : List ℕ} → (r ≡ larger top (rule_steps steps (rule chained s (at + off)))) × Counted chained s steps r next → length next ≡ length marks
-        → InSet chained s steps at n first marks₀ r (i + 1) next
-    set_rule z g l = record { topping = topping_part k.topping h e z g.0; counted = g.1; long = l ∙ k.long }
+    pub set_rule : (off ≡ 0 → ⊥) → {r : ℕ} {next : List ℕ} → (r ≡ larger top (rule_steps steps (rule chained s (at + off)))) × Counted chained s steps r next
+        → InSet chained s steps at n first r (i + 1) next
+    set_rule z g = record { topping = topping_part k.topping h e z g.0; counted = g.1 }
 
-  pub set_end : {top i : ℕ} {marks : List ℕ} → InSet chained s steps at n first marks₀ top i marks → n ≤ i → n ≡ word s at
+  pub set_end : {top i : ℕ} {marks : List ℕ} → InSet chained s steps at n first top i marks → n ≤ i → n ≡ word s at
       → (top ≡ larger first (largest (rule_steps steps) (rule_set chained s at))) × Counted chained s steps top marks
   unfolding rule_set
   set_end k h e = (rw (← e) (topping_end k.topping h), k.counted)
 
 -- What the loop over the sets keeps.
-pub record InSets (chained : Bool) (s steps : List ℕ) (slot n : ℕ) (marks₀ : List ℕ) (top i : ℕ) (marks : List ℕ) : Type 0 where
+pub record InSets (chained : Bool) (s steps : List ℕ) (slot n top i : ℕ) (marks : List ℕ) : Type 0 where
   pub topping : Topping (largest (rule_steps steps)) (rule_set chained s) s 0 slot n 0 top i
   pub counted : Counted chained s steps top marks
-  pub long : length marks ≡ length marks₀
 
-module _ {chained : Bool} {s steps : List ℕ} {slot n : ℕ} {marks₀ : List ℕ} where
-  pub sets_all : Counted chained s steps 0 marks₀ → InSets chained s steps slot n marks₀ 0 0 marks₀
-  sets_all k = record { topping = topping_all; counted = k; long = refl }
+module _ {chained : Bool} {s steps : List ℕ} {slot n : ℕ} where
+  pub sets_all : {marks : List ℕ} → Counted chained s steps 0 marks → InSets chained s steps slot n 0 0 marks
+  sets_all k = record { topping = topping_all; counted = k }
 
-  module _ {top i off : ℕ} {marks : List ℕ} (k : InSets chained s steps slot n marks₀ top i marks) (h : i < n) (e : off ≡ word s (slot + 2 * i)) where
-    pub sets_null : off ≡ 0 → InSets chained s steps slot n marks₀ top (i + 1) marks
-    sets_null z = record { topping = topping_null k.topping h e z; counted = k.counted; long = k.long }
+  module _ {top i off : ℕ} {marks : List ℕ} (k : InSets chained s steps slot n top i marks) (h : i < n) (e : off ≡ word s (slot + 2 * i)) where
+    pub sets_null : off ≡ 0 → InSets chained s steps slot n top (i + 1) marks
+    sets_null z = record { topping = topping_null k.topping h e z; counted = k.counted }
 
-    pub sets_set : (off ≡ 0 → ⊥) → {r : ℕ} {next : List ℕ} → (r ≡ larger top (largest (rule_steps steps) (rule_set chained s off))) × Counted chained s steps r next → length next ≡ length marks
-        → InSets chained s steps slot n marks₀ r (i + 1) next
-    sets_set z g l =
-        record { topping = topping_part k.topping h e z (g.0 ∙ ap (λ (p : ℕ). larger top (largest (rule_steps steps) (rule_set chained s p))) (sym (zero-add off))); counted = g.1; long = l ∙ k.long }
+    pub sets_set : (off ≡ 0 → ⊥) → {r : ℕ} {next : List ℕ} → (r ≡ larger top (largest (rule_steps steps) (rule_set chained s off))) × Counted chained s steps r next
+        → InSets chained s steps slot n r (i + 1) next
+    sets_set z g =
+        record { topping = topping_part k.topping h e z (g.0 ∙ ap (λ (p : ℕ). larger top (largest (rule_steps steps) (rule_set chained s p))) (sym (zero-add off))); counted = g.1 }
 
-  pub sets_end : {top i : ℕ} {marks : List ℕ} → InSets chained s steps slot n marks₀ top i marks → n ≤ i → top ≡ sets_steps steps (reaches (rule_set chained s) s 0 slot n)
+  pub sets_end : {top i : ℕ} {marks : List ℕ} → InSets chained s steps slot n top i marks → n ≤ i → top ≡ sets_steps steps (reaches (rule_set chained s) s 0 slot n)
   unfolding sets_steps
   sets_end k h = topping_end k.topping h ∙ zero_larger (largest (largest (rule_steps steps)) (drop_null (reaches (rule_set chained s) s 0 slot n)))
     where

@@ -51,11 +51,9 @@ pub fn record_steps(src: &[u8], at: usize, n: usize, steps: &[usize]) -> usize
     ensures { result ≡ record_steps steps.now (entries src.now at n) }
 {
     let mut sum = 0;
-    let mut i = 0;
-    while i < n {
+    for i in 0..n {
         let one = steps_of(steps, word_at(src, at + 4 * i + 2));
         sum = add_steps(sum, one);
-        i += 1;
     }
     sum
 }

@@ -1,11 +1,9 @@
 -- Two calls on one source, the second of which keeps more: their numbers, and what they answer where both are kept.
-use Rattle.std.specs.Prelude.{ℕ, ◌≡◌, Bool, cond, not, ◌⊎◌, List, [], map, length, take, drop, ltb}
+use Rattle.std.specs.Prelude.{ℕ, ◌≡◌, Bool, cond, not, ◌⊎◌, List, [], map, length, take, drop, ltb, Option, Some, option_map}
 use Rattle.std.proofs.Math.Path.{refl}
 use Rattle.std.proofs.Common.{sym, ◌∙◌, ap, ap₂, true≢false}
 use Rattle.std.proofs.Math.Bool.{true, false}
 use Rattle.std.proofs.Math.Logic.{inl, inr}
-use Rattle.std.proofs.Math.Option
-use Rattle.std.proofs.Math.Option.{Option, some}
 use Rattle.std.proofs.lemmas.Bool.{not-true, not-false}
 use Rattle.meaning.specs.Words.{bind, values}
 use Rattle.meaning.specs.Tables.{Table, table}
@@ -123,7 +121,7 @@ module _ (c d : Call) (more : KeepsMore c d) (bytes-c : BytesOf c) (bytes-d : By
   good : GoodMap h
   good = good_glyph_map_lem d.form d.glyphs bytes-d.glyphs passes.glyphs_good
 
-  left_d : cut h m (table d.kind d.source) ≡ some (small_says d)
+  left_d : cut h m (table d.kind d.source) ≡ Some (small_says d)
   left_d = (reads_back d bytes-d kept-d).0
 
   same : says d ≡ says c
@@ -139,7 +137,7 @@ module _ (c d : Call) (more : KeepsMore c d) (bytes-c : BytesOf c) (bytes-d : By
         (alike_map (SameMatch l m matches) matches (cut_match l) (cut_match m)
         (λ x e. record { input = refl; records = x.1; of_source = e; of_first = refl; of_second = refl; less = records_within l m (retained_more l m more.lookups) x.1 }))
 
-    pub places_more : Option.map (λ a. a.0) (at_place (match (small_says c)) [] (map (new g) string) i) ≡ Option.map (λ a. a.0) (at_place (match (small_says d)) [] (map (new h) string) i)
+    pub places_more : option_map (λ a. a.0) (at_place (match (small_says c)) [] (map (new g) string) i) ≡ option_map (λ a. a.0) (at_place (match (small_says d)) [] (map (new h) string) i)
     places_more =
         alike_same (SameMatch l m matches) (λ a. a.0) (λ a. a.0) (λ a b s. s.input)
         (at_place (match (small_says c)) [] (map (new g) string) i) (at_place (match (small_says d)) [] (map (new h) string) i) matches_more
@@ -148,7 +146,7 @@ module _ (c d : Call) (more : KeepsMore c d) (bytes-c : BytesOf c) (bytes-d : By
     formed = at_place (λ before x after. ligate (says c) x after) [] string i
 
     -- the second table forms what the source forms, by the first map's condition
-    second_forms : c.kind ≡ 3 → Closed g (says c) → at_place (λ before x after. ligate (small_says d) x after) [] (map (new h) string) i ≡ Option.map (cut_ligated h) formed
+    second_forms : c.kind ≡ 3 → Closed g (says c) → at_place (λ before x after. ligate (small_says d) x after) [] (map (new h) string) i ≡ option_map (cut_ligated h) formed
     unfolding bind
     second_forms k closed =
         rw (left_d, same) at
@@ -161,7 +159,7 @@ module _ (c d : Call) (more : KeepsMore c d) (bytes-c : BytesOf c) (bytes-d : By
         (alike_map (SameLigature g h formed) formed (cut_ligated g) (cut_ligated h)
         (λ x e. record { count = refl; glyph = x.0; of_source = e; of_first = known g x.0 (kept x e); of_second = known h x.0 (wider x.0 (kept x e)) }))
       where
-        kept : (x : ℕ × ℕ) → formed ≡ some x → Retained g x.0
+        kept : (x : ℕ × ℕ) → formed ≡ Some x → Retained g x.0
         kept x e = rw e at (formed_kept g (says c) closed [] string i r)
 
   pub substitutes_more : c.kind ≡ 5 → (x : ℕ) → Retained g x → SubstituteRetained g (says c) x
@@ -171,13 +169,13 @@ module _ (c d : Call) (more : KeepsMore c d) (bytes-c : BytesOf c) (bytes-d : By
       (alike_map (SameSubstitute g h (substitute (says c) x)) (substitute (says c) x) (new g) (new h)
       (λ y e. record { glyph = y; of_source = e; of_first = known g y (kept y e); of_second = known h y (wider y (kept y e)) }))
     where
-      kept : (y : ℕ) → substitute (says c) x ≡ some y → Retained g y
+      kept : (y : ℕ) → substitute (says c) x ≡ Some y → Retained g y
       kept y e = rw e at closed
 
       both : SubstituteRetained h (says d) x
       both = rw same (opt_map (Retained g) (Retained h) wider (substitute (says c) x) closed)
 
-      second : substitute (small_says d) (new h x) ≡ Option.map (new h) (substitute (says c) x)
+      second : substitute (small_says d) (new h x) ≡ option_map (new h) (substitute (says c) x)
       second = rw same at (single_same d bytes-d kept-d (more.kind ∙ k) x (wider x rx) both)
 
   pub pairs_more : c.kind ≡ 4 → (x y : ℕ) → Retained g x → Retained g y → adjust (small_says c) (new g x) (new g y) ≡ adjust (small_says d) (new h x) (new h y)

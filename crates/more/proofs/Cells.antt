@@ -1,9 +1,8 @@
 -- Value fields of pairs by class: which stay, said without `cut`, and that `cut` keeps just these.
-use Rattle.std.specs.Prelude.{ℕ, ◌+◌, ◌≡◌, Bool, false, cond, ◌&&◌, eqb}
+use Rattle.std.specs.Prelude.{ℕ, ◌+◌, ◌≡◌, Bool, false, cond, ◌&&◌, eqb, Option, None, Some}
 use Rattle.std.proofs.Math.Path.{refl, sym, ap₂}
 use Rattle.std.proofs.Common.{◌∙◌, ap}
 use Rattle.std.proofs.Math.Bool.{◌||◌}
-use Rattle.std.proofs.Math.Option.{Option, none, some}
 use mathlib.Core.List.{List, [], ◌∷◌}
 use Rattle.meaning.specs.Words.{keys, find, is_some, bind, push, map_some, member}
 use Rattle.meaning.specs.Parts.{class_of, listed, class_in}
@@ -42,9 +41,9 @@ unfolding keys covered_map retained map_some bind push is_some
 covered_keys g [] = refl
 covered_keys g (c ∷ cov) = go (find g c) (covered_keys g cov)
   where
-    go : (o : Option ℕ) → keys (covered_map g cov) ≡ retained g cov → keys (push (bind o (λ n. some (c, n))) (covered_map g cov)) ≡ push (cond (is_some o) (some c) none) (retained g cov)
-    go none e = e
-    go (some n) e = ap (λ (r : List ℕ). c ∷ r) e
+    go : (o : Option ℕ) → keys (covered_map g cov) ≡ retained g cov → keys (push (bind o (λ n. Some (c, n))) (covered_map g cov)) ≡ push (cond (is_some o) (Some c) None) (retained g cov)
+    go None e = e
+    go (Some n) e = ap (λ (r : List ℕ). c ∷ r) e
 
 first_left : (g : List (ℕ × ℕ)) (cov : List ℕ) (cs : List (ℕ × ℕ)) (c : ℕ) → is_some (find (class_map (covered_map g cov) cs) c) ≡ first_class_kept g cov cs c
 unfolding class_map first_class_kept
@@ -69,15 +68,15 @@ module _ (get : Pair → List ℕ) (f k : ℕ) (same : (p : Pair) (n : ℕ) → 
   nothing (p ∷ r) = nothing r
 
   row_used : (c : ℕ) (row : List Pair) (o : Option ℕ) → is_some o ≡ first c
-      → not_null_and in_set (bind o (λ n. some (n, map_some (cut_pair m2) row))) ≡ some_of (λ p. (first c && second p.second) && nonzero get f k p) row
+      → not_null_and in_set (bind o (λ n. Some (n, map_some (cut_pair m2) row))) ≡ some_of (λ p. (first c && second p.second) && nonzero get f k p) row
   unfolding not_null_and bind is_some is_retained
-  row_used c row none e = sym (some_same _ (λ p. false) (λ p. rw (← e)) row ∙ nothing row)
-  row_used c row (some n) e = cut_some get f k m2 same row ∙ some_same _ _ (λ p. rw (← e, keys_same m2 p.second, h2 p.second)) row
+  row_used c row None e = sym (some_same _ (λ p. false) (λ p. rw (← e)) row ∙ nothing row)
+  row_used c row (Some n) e = cut_some get f k m2 same row ∙ some_same _ _ (λ p. rw (← e, keys_same m2 p.second, h2 p.second)) row
 
   rows_used : (c : ℕ) (rows : List (List Pair)) → some_of in_set (kept_rows m1 m2 c rows) ≡ some_cell (λ c p. (first c && second p.second) && nonzero get f k p) c rows
   unfolding kept_rows some_cell some_of
   rows_used c [] = refl
-  rows_used c (row ∷ rows) = push_some get f k (bind (find m1 c) (λ n. some (n, map_some (cut_pair m2) row))) (kept_rows m1 m2 (c + 1) rows) ∙ ap₂ ◌||◌ (row_used c row (find m1 c) (h1 c)) (rows_used (c + 1) rows)
+  rows_used c (row ∷ rows) = push_some get f k (bind (find m1 c) (λ n. Some (n, map_some (cut_pair m2) row))) (kept_rows m1 m2 (c + 1) rows) ∙ ap₂ ◌||◌ (row_used c row (find m1 c) (h1 c)) (rows_used (c + 1) rows)
 
   cells_used : (rows : List (List Pair)) → used get f k (kept_rows m1 m2 0 rows) ≡ some_cell (λ c p. (first c && second p.second) && nonzero get f k p) 0 rows
   cells_used rows = used_some get f k (kept_rows m1 m2 0 rows) ∙ rows_used 0 rows

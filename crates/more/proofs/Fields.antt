@@ -1,9 +1,8 @@
 -- Value fields of pair tables: which stay, said without `cut`, and that `cut` keeps just these.
-use Rattle.std.specs.Prelude.{ℕ, ◌≡◌, Bool, ◌&&◌, not, eqb}
+use Rattle.std.specs.Prelude.{ℕ, ◌≡◌, Bool, ◌&&◌, not, eqb, Option, None, Some}
 use Rattle.std.proofs.Math.Path.{refl, sym, ap, ap₂}
 use Rattle.std.proofs.Common.{◌∙◌}
 use Rattle.std.proofs.Math.Bool.{true, false, ◌||◌, or_assoc}
-use Rattle.std.proofs.Math.Option.{Option, none, some}
 use mathlib.Core.List.{List, [], ◌∷◌}
 use Rattle.meaning.specs.Words.{find, is_some, bind, push, map_some}
 use Rattle.meaning.specs.Tables.{Pair, field}
@@ -37,8 +36,8 @@ module _ (get : Pair → List ℕ) (f k : ℕ) where
 
   pub push_some : (o : Option (ℕ × List Pair)) (r : List (ℕ × List Pair)) → some_of in_set (push o r) ≡ not_null_and in_set o || some_of in_set r
   unfolding some_of push not_null_and
-  push_some none r = refl
-  push_some (some e) r = refl
+  push_some None r = refl
+  push_some (Some e) r = refl
 
   module _ (g : List (ℕ × ℕ)) (same : (p : Pair) (n : ℕ) → get (record { second = n; first_values = p.first_values; second_values = p.second_values }) ≡ get p) where
     -- cut pairs keep their values
@@ -51,34 +50,34 @@ module _ (get : Pair → List ℕ) (f k : ℕ) where
         rest = map_some (cut_pair g) ps
 
         go : (o : Option ℕ) → some_of (nonzero get f k) rest ≡ some_of (λ p. is_retained g p.second && nonzero get f k p) ps
-            → some_of (nonzero get f k) (push (bind o (λ n. some (record { second = n; first_values = p.first_values; second_values = p.second_values }))) rest)
+            → some_of (nonzero get f k) (push (bind o (λ n. Some (record { second = n; first_values = p.first_values; second_values = p.second_values }))) rest)
             ≡ is_some o && nonzero get f k p || some_of (λ p. is_retained g p.second && nonzero get f k p) ps
-        go none i = i
-        go (some n) i = ap₂ ◌||◌ (ap (λ (vs : List ℕ). not (eqb (field f vs k) 0)) (same p n)) i
+        go None i = i
+        go (Some n) i = ap₂ ◌||◌ (ap (λ (vs : List ℕ). not (eqb (field f vs k) 0)) (same p n)) i
 
     -- a set that is kept, or not
-    kept_some : (n : ℕ) (ys : List Pair) → not_null_and in_set (bind (unless_empty ys) (λ y. some (n, y))) ≡ some_of (nonzero get f k) ys
+    kept_some : (n : ℕ) (ys : List Pair) → not_null_and in_set (bind (unless_empty ys) (λ y. Some (n, y))) ≡ some_of (nonzero get f k) ys
     unfolding not_null_and bind unless_empty some_of
     kept_some n [] = refl
     kept_some n (y ∷ ys) = refl
 
     set_some : (o : Option ℕ) (s : Option (List Pair))
-        → not_null_and in_set (bind o (λ n. bind s (λ x. bind (cut_pairs g x) (λ y. some (n, y))))) ≡ is_some o && not_null_and (λ ps. some_of (nonzero get f k) (map_some (cut_pair g) ps)) s
+        → not_null_and in_set (bind o (λ n. bind s (λ x. bind (cut_pairs g x) (λ y. Some (n, y))))) ≡ is_some o && not_null_and (λ ps. some_of (nonzero get f k) (map_some (cut_pair g) ps)) s
     unfolding not_null_and bind cut_pairs is_some
-    set_some none s = refl
-    set_some (some n) none = refl
-    set_some (some n) (some ps) = kept_some n (map_some (cut_pair g) ps)
+    set_some None s = refl
+    set_some (Some n) None = refl
+    set_some (Some n) (Some ps) = kept_some n (map_some (cut_pair g) ps)
 
     set_used : (c : ℕ) (s : Option (List Pair))
-        → not_null_and in_set (bind (find g c) (λ n. bind s (λ x. bind (cut_pairs g x) (λ y. some (n, y))))) ≡ set_kept (λ c p. pair_survives g c p && nonzero get f k p) g c s
+        → not_null_and in_set (bind (find g c) (λ n. bind s (λ x. bind (cut_pairs g x) (λ y. Some (n, y))))) ≡ set_kept (λ c p. pair_survives g c p && nonzero get f k p) g c s
     unfolding not_null_and set_kept is_retained pair_survives
     set_used c s =
         set_some (find g c) s ∙ ap (λ (t : Bool). t && not_null_and (λ ps. some_of (nonzero get f k) (map_some (cut_pair g) ps)) s) (sym (keys_same g c)) ∙ go (is_retained g c) refl s
       where
         go : (t : Bool) → is_retained g c ≡ t → (s : Option (List Pair))
             → t && not_null_and (λ ps. some_of (nonzero get f k) (map_some (cut_pair g) ps)) s ≡ t && not_null_and (some_of (λ p. pair_survives g c p && nonzero get f k p)) s
-        go true e none = refl
-        go true e (some ps) = cut_some ps ∙ some_same _ _ (λ p. rw e) ps
+        go true e None = refl
+        go true e (Some ps) = cut_some ps ∙ some_same _ _ (λ p. rw e) ps
         go false e s = refl
 
     sets_used : (cov : List ℕ) (sets : List (Option (List Pair))) → some_of in_set (kept_sets (cut_pairs g) g cov sets) ≡ field_survives get f k g cov sets
@@ -86,7 +85,7 @@ module _ (get : Pair → List ℕ) (f k : ℕ) where
     sets_used [] sets = refl
     sets_used (c ∷ cov) [] = refl
     sets_used (c ∷ cov) (s ∷ sets) =
-        push_some (bind (find g c) (λ n. bind s (λ x. bind (cut_pairs g x) (λ y. some (n, y))))) (kept_sets (cut_pairs g) g cov sets)
+        push_some (bind (find g c) (λ n. bind s (λ x. bind (cut_pairs g x) (λ y. Some (n, y))))) (kept_sets (cut_pairs g) g cov sets)
         ∙ ap₂ ◌||◌ (set_used c s) (sets_used cov sets)
 
     pub used_exactly : (cov : List ℕ) (sets : List (Option (List Pair))) → used get f k (kept_sets (cut_pairs g) g cov sets) ≡ field_survives get f k g cov sets

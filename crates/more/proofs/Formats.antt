@@ -1,9 +1,8 @@
 -- The value formats that a cut leaves: they have just the fields that stay, and in the second 0x0004 may stand in where none does.
-use Rattle.std.specs.Prelude.{ℕ, ◌+◌, ◌≡◌, Bool, ◌&&◌, not, ◌⊎◌, eqb}
+use Rattle.std.specs.Prelude.{ℕ, ◌+◌, ◌≡◌, Bool, ◌&&◌, not, ◌⊎◌, eqb, Option, None, Some}
 use Rattle.std.proofs.Math.Path.{refl, ap, subst}
 use Rattle.std.proofs.Common.{sym, ◌∙◌, true≢false, inl, inr, eqb-true}
 use Rattle.std.proofs.Math.Bool.{true, false, cond}
-use Rattle.std.proofs.Math.Option.{Option, none, some}
 use mathlib.Core.List.{List, [], ◌∷◌}
 use Rattle.meaning.specs.Words.{word, bind}
 use Rattle.meaning.specs.Parts.{coverage, classes}
@@ -86,7 +85,7 @@ second_has f ks stays h = go (not (eqb f 0)) (eqb (new_format (λ p. p.second_va
     go false b e = inl just
 
 module _ (g : List (ℕ × ℕ)) (cov : List ℕ) (f1 f2 : ℕ) where
-  pairs_left_lem : (sets : List (Option (List Pair))) (ks : List (ℕ × List Pair)) → kept_sets (cut_pairs g) g cov sets ≡ ks → Opt (KeepsFields g (Table.pairs_of (some cov) f1 f2 sets)) (kept_pairs f1 f2 ks)
+  pairs_left_lem : (sets : List (Option (List Pair))) (ks : List (ℕ × List Pair)) → kept_sets (cut_pairs g) g cov sets ≡ ks → Opt (KeepsFields g (Table.pairs_of (Some cov) f1 f2 sets)) (kept_pairs f1 f2 ks)
   unfolding kept_pairs first_format second_format field_stays not_null_and
   pairs_left_lem sets [] e = tt
   pairs_left_lem sets (p ∷ ks) e =
@@ -96,7 +95,7 @@ module _ (g : List (ℕ × ℕ)) (cov : List ℕ) (f1 f2 : ℕ) where
       }
 
   class_pairs_left : (cs ds : List (ℕ × ℕ)) (n : ℕ) (rows : List (List Pair)) (h : List (ℕ × ℕ)) → covered_map g cov ≡ h
-      → Opt (KeepsFields g (Table.class_pairs (some cov) (some cs) (some ds) f1 f2 n rows)) (kept_class_pairs g h cs ds f1 f2 rows)
+      → Opt (KeepsFields g (Table.class_pairs (Some cov) (Some cs) (Some ds) f1 f2 n rows)) (kept_class_pairs g h cs ds f1 f2 rows)
   unfolding kept_class_pairs first_format second_format field_stays not_null_and
   class_pairs_left cs ds n rows [] e = tt
   class_pairs_left cs ds n rows (p ∷ h) e =
@@ -112,16 +111,16 @@ module _ (g : List (ℕ × ℕ)) (cov : List ℕ) (f1 f2 : ℕ) where
 module _ (g l : List (ℕ × ℕ)) where
   pairs_formats : (cover : Option (List ℕ)) (f1 f2 : ℕ) (sets : List (Option (List Pair))) → let t = Table.pairs_of cover f1 f2 sets in Opt (KeepsFields g t) (cut g l t)
   unfolding cut bind
-  pairs_formats none f1 f2 sets = tt
-  pairs_formats (some cov) f1 f2 sets = pairs_left_lem g cov f1 f2 sets (kept_sets (cut_pairs g) g cov sets) refl
+  pairs_formats None f1 f2 sets = tt
+  pairs_formats (Some cov) f1 f2 sets = pairs_left_lem g cov f1 f2 sets (kept_sets (cut_pairs g) g cov sets) refl
 
   class_pairs_formats : (cover : Option (List ℕ)) (first second : Option (List (ℕ × ℕ))) (f1 f2 n : ℕ) (rows : List (List Pair))
       → let t = Table.class_pairs cover first second f1 f2 n rows in Opt (KeepsFields g t) (cut g l t)
   unfolding cut bind
-  class_pairs_formats none first second f1 f2 n rows = tt
-  class_pairs_formats (some cov) none second f1 f2 n rows = tt
-  class_pairs_formats (some cov) (some cs) none f1 f2 n rows = tt
-  class_pairs_formats (some cov) (some cs) (some ds) f1 f2 n rows = class_pairs_left g cov f1 f2 cs ds n rows (covered_map g cov) refl
+  class_pairs_formats None first second f1 f2 n rows = tt
+  class_pairs_formats (Some cov) None second f1 f2 n rows = tt
+  class_pairs_formats (Some cov) (Some cs) None f1 f2 n rows = tt
+  class_pairs_formats (Some cov) (Some cs) (Some ds) f1 f2 n rows = class_pairs_left g cov f1 f2 cs ds n rows (covered_map g cov) refl
 
   -- what is left of what a source of kind 4 says, in either format
   pub formats_left : (kind : ℕ) → kind ≡ 4 → (s : List ℕ) → Opt (KeepsFields g (table kind s)) (cut g l (table kind s))

@@ -4,9 +4,7 @@
 -- `Then`, `Also`, `Wider`, `slot_kept`, `first_class_kept`, `second_class_kept` and `cell_survives` (Wider.antt), `field_survives` (Fields.antt), `cell_field_survives` (Cells.antt),
 -- `field_stays`, `StandIn`, `KeepsFields` and `MoreFields` (Formats.antt), `Alike`, `SameMatch`, `SameLigature` and `SameSubstitute` (Alike.antt),
 -- `KeepsMore` and `LaidOut` (Both.antt), and `GoodMaps` (Tested.antt in `promises`), each a few lines. Needed.antt has the smallest calls that show that each condition is needed.
-use Rattle.std.specs.Prelude.{ℕ, ◌≡◌, Bool, ◌⊎◌, List, [], map}
-use Rattle.std.proofs.Math.Option
-use Rattle.std.proofs.Math.Option.{Option, some}
+use Rattle.std.specs.Prelude.{ℕ, ◌≡◌, Bool, ◌⊎◌, List, [], map, Option, Some, option_map}
 use Rattle.meaning.specs.Tables.{Rule, Table}
 use Rattle.meaning.specs.Matching.{at_place, match, ligate, adjust, second_format, skips, substitute}
 use Rattle.laws.specs.Stands.{All}
@@ -71,9 +69,9 @@ module _ (g h : List (ℕ × ℕ)) (wider : Wider g h) where
 
   -- The slot of a class, in format 2 (`slots_exactly` in Wider.antt: by Survives.antt some slot is kept exactly if the slot of some covered glyph's class is).
   pub class_slots : (chained : Bool) (b a : Option (List (ℕ × ℕ))) (cs : List (ℕ × ℕ)) (cov : List ℕ) (sets : List (Option (List Rule)))
-      → Also (slot_kept (class_rule_survives chained g b (some cs) a) g cs cov sets) (slot_kept (class_rule_survives chained h b (some cs) a) h cs cov sets)
+      → Also (slot_kept (class_rule_survives chained g b (Some cs) a) g cs cov sets) (slot_kept (class_rule_survives chained h b (Some cs) a) h cs cov sets)
   class_slots chained b a cs cov sets =
-      Wide.slot_also g h wider (class_rule_survives chained g b (some cs) a) (class_rule_survives chained h b (some cs) a) (class_rules chained b (some cs) a) cs cov sets
+      Wide.slot_also g h wider (class_rule_survives chained g b (Some cs) a) (class_rule_survives chained h b (Some cs) a) (class_rules chained b (Some cs) a) cs cov sets
 
   -- In pairs by class: a first class, a second class, and a cell in the row of first class c.
   pub first_classes : (cov : List ℕ) (cs : List (ℕ × ℕ)) → Also (first_class_kept g cov cs) (first_class_kept h cov cs)
@@ -128,7 +126,7 @@ module _ (c d : Call) (more : KeepsMore c d) where
       string_d = map (new h) string
 
       -- `same_places`: both small tables match at the same places, with the same input length.
-      pub same_places : Option.map (λ a. a.0) (at_place (match (small_says c)) [] string_c i) ≡ Option.map (λ a. a.0) (at_place (match (small_says d)) [] string_d i)
+      pub same_places : option_map (λ a. a.0) (at_place (match (small_says c)) [] string_c i) ≡ option_map (λ a. a.0) (at_place (match (small_says d)) [] string_d i)
       same_places = Both.places_more c d more bytes-c bytes-d kept-c kept-d string i retained
 
       -- `same_records`: where they match, the records of both come from the records of one match of the source, in order: each small table has those whose lookup its map has, renumbered;

@@ -1,7 +1,6 @@
 -- Two maps, the second holding all old ids of the first, and what survives: each part that survives under the first survives under the second.
-use Rattle.std.specs.Prelude.{ℕ, ◌≡◌, refl, Bool, true, false, ◌&&◌, ◌||◌, not, get_or}
+use Rattle.std.specs.Prelude.{ℕ, ◌≡◌, refl, Bool, true, false, ◌&&◌, ◌||◌, not, get_or, Option, None, Some}
 use Rattle.std.proofs.Common.{sym, ◌∙◌, ap, true≢false, eqb-true, eq-eqb}
-use Rattle.std.proofs.Math.Option.{Option, none, some}
 use mathlib.Core.List.{List, [], ◌∷◌}
 use Rattle.std.proofs.Math.Dec.{eqb}
 use Rattle.meaning.specs.Words.{keys, member}
@@ -35,8 +34,8 @@ module _ {A : Type 0} (p q : A → Bool) (h : Also p q) where
 
   pub reached_also : Also (not_null_and p) (not_null_and q)
   unfolding not_null_and
-  reached_also none e = e
-  reached_also (some a) e = h a e
+  reached_also None e = e
+  reached_also (Some a) e = h a e
 
 -- Rules, whatever their numbers are: glyphs or classes.
 rule_also : (chained : Bool) (b i a b' i' a' : ℕ → Bool) → Also b b' → Also i i' → Also a a' → Also (rule_survives chained b i a) (rule_survives chained b' i' a')
@@ -99,7 +98,7 @@ unfolding some_slot_kept slot_kept
 slots_exactly p g cs cov sets = both_ways (some_of here cov) (some_of there cov) to from
   where
     alive : ℕ → Bool
-    alive c = not_null_and (some_of p) (get_or sets c none)
+    alive c = not_null_and (some_of p) (get_or sets c None)
 
     holds : ℕ → ℕ → Bool
     holds c y = is_retained g y && eqb (class_of cs y) c
@@ -175,7 +174,7 @@ module _ (g h : List (ℕ × ℕ)) (w : Wider g h) where
 
   pub second_class_also : (ds : List (ℕ × ℕ)) → Also (second_class_kept g ds) (second_class_kept h ds)
   unfolding second_class_kept
-  second_class_also ds c = or_then (eqb 0 c) (class_survives g (some ds) c) (eqb 0 c) (class_survives h (some ds) c) (λ e. e) (class_also (some ds) c)
+  second_class_also ds c = or_then (eqb 0 c) (class_survives g (Some ds) c) (eqb 0 c) (class_survives h (Some ds) c) (λ e. e) (class_also (Some ds) c)
 
   pub cell_also : (cov : List ℕ) (cs ds : List (ℕ × ℕ)) (c : ℕ) → Also (cell_survives g cov cs ds c) (cell_survives h cov cs ds c)
   unfolding cell_survives
@@ -200,16 +199,16 @@ module _ (g h : List (ℕ × ℕ)) (w : Wider g h) where
   pub some_slot_also : (p q : Rule → Bool) → Also p q → (cs : List (ℕ × ℕ)) (cov : List ℕ) (sets : List (Option (List Rule))) → Then (some_slot_kept p g cs cov sets) (some_slot_kept q h cs cov sets)
   unfolding some_slot_kept
   some_slot_also p q f cs cov sets =
-      some_also (λ x. is_retained g x && not_null_and (some_of p) (get_or sets (class_of cs x) none)) (λ x. is_retained h x && not_null_and (some_of q) (get_or sets (class_of cs x) none))
-      (λ x. and_then (is_retained g x) (not_null_and (some_of p) (get_or sets (class_of cs x) none)) (is_retained h x) (not_null_and (some_of q) (get_or sets (class_of cs x) none))
-      (w x) (reached_also (some_of p) (some_of q) (some_also p q f) (get_or sets (class_of cs x) none))) cov
+      some_also (λ x. is_retained g x && not_null_and (some_of p) (get_or sets (class_of cs x) None)) (λ x. is_retained h x && not_null_and (some_of q) (get_or sets (class_of cs x) None))
+      (λ x. and_then (is_retained g x) (not_null_and (some_of p) (get_or sets (class_of cs x) None)) (is_retained h x) (not_null_and (some_of q) (get_or sets (class_of cs x) None))
+      (w x) (reached_also (some_of p) (some_of q) (some_also p q f) (get_or sets (class_of cs x) None))) cov
 
   pub slot_also : (p q : Rule → Bool) → Also p q → (cs : List (ℕ × ℕ)) (cov : List ℕ) (sets : List (Option (List Rule))) → Also (slot_kept p g cs cov sets) (slot_kept q h cs cov sets)
   unfolding slot_kept
   slot_also p q f cs cov sets c =
-      and_then (some_of (λ x. is_retained g x && eqb (class_of cs x) c) cov) (not_null_and (some_of p) (get_or sets c none)) (some_of (λ x. is_retained h x && eqb (class_of cs x) c) cov) (not_null_and (some_of q) (get_or sets c none))
+      and_then (some_of (λ x. is_retained g x && eqb (class_of cs x) c) cov) (not_null_and (some_of p) (get_or sets c None)) (some_of (λ x. is_retained h x && eqb (class_of cs x) c) cov) (not_null_and (some_of q) (get_or sets c None))
       (some_also _ _ (λ x. and_then (is_retained g x) (eqb (class_of cs x) c) (is_retained h x) (eqb (class_of cs x) c) (w x) (λ e. e)) cov)
-      (reached_also (some_of p) (some_of q) (some_also p q f) (get_or sets c none))
+      (reached_also (some_of p) (some_of q) (some_also p q f) (get_or sets c None))
 
   -- tables
   pub table_also : Also (survives g) (survives h)

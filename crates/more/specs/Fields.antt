@@ -1,6 +1,5 @@
 -- Value fields of pair tables: which stay, said without `cut`, and that `cut` keeps just these.
-use Rattle.std.specs.Prelude.{ℕ, Bool, ◌&&◌, not, eqb}
-use Rattle.std.proofs.Math.Option.{Option}
+use Rattle.std.specs.Prelude.{ℕ, Bool, ◌&&◌, not, eqb, Option}
 use mathlib.Core.List.{List}
 use Rattle.meaning.specs.Tables.{Pair, field}
 use Rattle.promises.specs.Survives.{some_set_kept, pair_survives}

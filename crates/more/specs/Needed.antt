@@ -1,6 +1,5 @@
 -- Each condition is needed: the smallest calls without it, by computation.
-use Rattle.std.specs.Prelude.{ℕ, ◌≡◌, refl, true, false, List, [], ◌∷◌, replicate}
-use Rattle.std.proofs.Math.Option.{none, some}
+use Rattle.std.specs.Prelude.{ℕ, ◌≡◌, refl, true, false, List, [], ◌∷◌, replicate, None, Some}
 use Rattle.meaning.specs.Words.{bytes2, flat, is_some}
 use Rattle.meaning.specs.Tables.{table}
 use Rattle.meaning.specs.Subset.{subset}
@@ -33,7 +32,7 @@ with_lookup = calls 1 one_cover (5 ∷ 0 ∷ []) (4 ∷ 0 ∷ []) 18
 abbrev without_lookup : Call
 without_lookup = calls 1 one_cover (5 ∷ 0 ∷ []) [] 14
 
-pub lookups_needed : (match (small_says with_lookup) [] 0 [] ≡ some (1, (0, 0) ∷ [])) × (match (small_says without_lookup) [] 0 [] ≡ some (1, []))
+pub lookups_needed : (match (small_says with_lookup) [] 0 [] ≡ Some (1, (0, 0) ∷ [])) × (match (small_says without_lookup) [] 0 [] ≡ Some (1, []))
 unfolding bytes2 flat subset table match
 lookups_needed = (refl, refl)
 
@@ -41,12 +40,12 @@ lookups_needed = (refl, refl)
 abbrev other_ids : Call
 other_ids = calls_in 6 1 one_cover (5 ∷ 3 ∷ 2 ∷ []) (2 ∷ 0 ∷ 4 ∷ 9 ∷ []) 18
 
-pub new_ids_differ : ((answer other_ids).number ≡ 0) × (match (small_says other_ids) [] 3 [] ≡ some (1, (0, 9) ∷ []))
+pub new_ids_differ : ((answer other_ids).number ≡ 0) × (match (small_says other_ids) [] 3 [] ≡ Some (1, (0, 9) ∷ []))
 unfolding bytes2 flat subset table match
 new_ids_differ = (refl, refl)
 
 -- The string's glyphs must be retained by the first map: 6 is not, and stands there under the number of 5; the source does not match at 6.
-pub string_needed : (match (says with_lookup) [] 6 [] ≡ none) × (match (small_says with_lookup) [] 0 [] ≡ some (1, (0, 0) ∷ []))
+pub string_needed : (match (says with_lookup) [] 6 [] ≡ None) × (match (small_says with_lookup) [] 0 [] ≡ Some (1, (0, 0) ∷ []))
 unfolding bytes2 flat subset table match
 string_needed = (refl, refl)
 
@@ -63,7 +62,7 @@ unfolding bytes2 flat subset
 room_differs = refl
 
 -- Both must be kept: a call that is short of room leaves nothing of its own, and here no bytes at all.
-pub kept_needed : ((answer (calls 1 one_cover (5 ∷ 0 ∷ []) (4 ∷ 0 ∷ []) 0)).number ≡ 10) × (match (small_says (calls 1 one_cover (5 ∷ 0 ∷ []) (4 ∷ 0 ∷ []) 0)) [] 0 [] ≡ none)
+pub kept_needed : ((answer (calls 1 one_cover (5 ∷ 0 ∷ []) (4 ∷ 0 ∷ []) 0)).number ≡ 10) × (match (small_says (calls 1 one_cover (5 ∷ 0 ∷ []) (4 ∷ 0 ∷ []) 0)) [] 0 [] ≡ None)
 unfolding bytes2 flat subset table match
 kept_needed = (refl, refl)
 
@@ -79,7 +78,7 @@ abbrev more : Call
 more = calls 3 two_ligatures (5 ∷ 0 ∷ 6 ∷ 1 ∷ 7 ∷ 2 ∷ 20 ∷ 3 ∷ 21 ∷ 4 ∷ []) [] 34
 
 -- The condition on ligatures is needed under the first map: 5, 6 and 7 are retained, 20 is not. Both are kept; the first forms 21, its 3, of two glyphs, and the second 20, its 3 too, of three.
-pub closed_needed : ((answer less).number ≡ 0) × ((answer more).number ≡ 0) × (ligate (small_says less) 0 (1 ∷ 2 ∷ []) ≡ some (3, 2)) × (ligate (small_says more) 0 (1 ∷ 2 ∷ []) ≡ some (3, 3))
+pub closed_needed : ((answer less).number ≡ 0) × ((answer more).number ≡ 0) × (ligate (small_says less) 0 (1 ∷ 2 ∷ []) ≡ Some (3, 2)) × (ligate (small_says more) 0 (1 ∷ 2 ∷ []) ≡ Some (3, 3))
 unfolding bytes2 flat subset table ligate
 closed_needed = (refl, refl, refl, refl)
 
@@ -95,7 +94,7 @@ abbrev more_singles : Call
 more_singles = calls 5 two_singles (5 ∷ 0 ∷ 6 ∷ 1 ∷ 8 ∷ 2 ∷ 9 ∷ 3 ∷ []) [] 18
 
 -- The condition on single substitutions is needed under the first map: it keeps 5 as it is, and the second replaces it by 9, its 3.
-pub substitutes_needed : ((answer less_singles).number ≡ 0) × ((answer more_singles).number ≡ 0) × (substitute (small_says less_singles) 0 ≡ none) × (substitute (small_says more_singles) 0 ≡ some 3)
+pub substitutes_needed : ((answer less_singles).number ≡ 0) × ((answer more_singles).number ≡ 0) × (substitute (small_says less_singles) 0 ≡ None) × (substitute (small_says more_singles) 0 ≡ Some 3)
 unfolding bytes2 flat subset table substitute
 substitutes_needed = (refl, refl, refl, refl)
 

@@ -2,7 +2,7 @@
 use Prim.Native.Nat.{ℕ, zero, suc, ◌+◌, ◌-◌, ◌*◌, ◌/◌, ◌≤◌, ◌<◌}
 use mathlib.Core.Path.{◌≡◌, refl, sym, ap, ap₂, ◌∙◌}
 use mathlib.Core.Bool.{Bool, true, false, cond, ◌&&◌}
-use mathlib.Core.Option.{Option}
+use Rattle.std.specs.Prelude.{Option}
 use mathlib.Core.List.{List, [], ◌∷◌, map}
 use native.Mathlib.Omega.{arith}
 use native.Mathlib.Decide.{dec_lt}
@@ -120,7 +120,7 @@ module _ {list buffer : List ℕ} where
       let d : length list / 10 - 0 ≡ length list / 10 = omega arith in
       record { within = omega arith; left = rw (many_listed list buffer 0 (length list / 10), d) }
 
-  module _ {many k : ℕ} (c : Naming list buffer many k) (h : k < many) {none : List ℕ} (z : none ≡ zeros many) {n : ℕ} (e : n ≡ table_steps none (table (word list (10 * k)) (source_at list buffer k))) where
+  module _ {many k : ℕ} (c : Naming list buffer many k) (h : k < many) {None : List ℕ} (z : None ≡ zeros many) {n : ℕ} (e : n ≡ table_steps None (table (word list (10 * k)) (source_at list buffer k))) where
     next : eqb n 0 && every (records_name many) (map (lookup_of buffer) (entries_from list (10 * (k + 1)) (many - (k + 1)))) ≡ all_named (lookups_of list buffer)
     unfolding every entries_from entry_at lookup_of source_of source_at
     next =

@@ -13,12 +13,10 @@ fn named_by(list: &[u8], buffer: &[u8], zeros: &[usize]) -> bool
     ensures { result ≡ all_named (lookups_of list.now buffer.now) }
 {
     let many = list.len() / 10;
-    let mut lookup = 0;
-    while lookup < many {
+    for lookup in 0..many {
         if listed_steps(list, buffer, lookup, zeros) != 0 {
             return false;
         }
-        lookup += 1;
     }
     true
 }

@@ -2,7 +2,7 @@
 use Prim.Native.Nat.{ℕ, ◌+◌, ◌-◌, ◌*◌, ◌≤◌, ◌<◌}
 use mathlib.Core.Path.{◌≡◌, refl, sym, ap, ◌∙◌, subst}
 use mathlib.Core.Bool.{Bool, true, false, cond, ◌&&◌, ◌||◌, true≢false}
-use mathlib.Core.Option.{Option, none, some}
+use Rattle.std.specs.Prelude.{Option, None, Some}
 use mathlib.Core.List.{List, [], ◌∷◌, ◌++◌, map, append-nil, append_assoc}
 use native.Mathlib.Omega.{arith}
 use lib.ListN.{length}
@@ -42,23 +42,23 @@ and_true : (a b : Bool) → a ≡ true → b ≡ true → a && b ≡ true
 and_true a b h k = rw (h, k) refl
 
 -- no block more is long, and a block more
-short_null : (bs : List (Option (List ℕ))) → short_blocks (bs ++ (none ∷ [])) ≡ short_blocks bs
+short_null : (bs : List (Option (List ℕ))) → short_blocks (bs ++ (None ∷ [])) ≡ short_blocks bs
 unfolding short_blocks
 short_null [] = refl
-short_null (none ∷ bs) = short_null bs
-short_null (some d ∷ bs) = ap (λ (t : Bool). leb (length d) 65538 && t) (short_null bs)
+short_null (None ∷ bs) = short_null bs
+short_null (Some d ∷ bs) = ap (λ (t : Bool). leb (length d) 65538 && t) (short_null bs)
 
-short_next : (bs : List (Option (List ℕ))) (b : List ℕ) → short_blocks (bs ++ (some b ∷ [])) ≡ short_blocks bs && leb (length b) 65538
+short_next : (bs : List (Option (List ℕ))) (b : List ℕ) → short_blocks (bs ++ (Some b ∷ [])) ≡ short_blocks bs && leb (length b) 65538
 unfolding short_blocks
 short_next [] b = step (leb (length b) 65538)
   where
     step : (t : Bool) → t && true ≡ t
     step true = refl
     step false = refl
-short_next (none ∷ bs) b = short_next bs b
-short_next (some d ∷ bs) b = step (leb (length d) 65538) (short_next bs b)
+short_next (None ∷ bs) b = short_next bs b
+short_next (Some d ∷ bs) b = step (leb (length d) 65538) (short_next bs b)
   where
-    step : (t : Bool) → short_blocks (bs ++ (some b ∷ [])) ≡ short_blocks bs && leb (length b) 65538 → t && short_blocks (bs ++ (some b ∷ [])) ≡ (t && short_blocks bs) && leb (length b) 65538
+    step : (t : Bool) → short_blocks (bs ++ (Some b ∷ [])) ≡ short_blocks bs && leb (length b) 65538 → t && short_blocks (bs ++ (Some b ∷ [])) ≡ (t && short_blocks bs) && leb (length b) 65538
     step true e = e
     step false e = refl
 
@@ -82,17 +82,17 @@ module _ (packed : Bool) (q : ℕ) (bs : List (Option (List ℕ))) where
   os = offsets_in packed q bs
 
   -- a null one more
-  pub null_fits : tables_fit packed q bs ≡ true → tables_fit packed q (bs ++ (none ∷ [])) ≡ true
+  pub null_fits : tables_fit packed q bs ≡ true → tables_fit packed q (bs ++ (None ∷ [])) ≡ true
   unfolding tables_fit
   null_fits h =
       let t = both (words_fit os) (short_blocks bs) h in
-      let w : words_fit (offsets_in packed q (bs ++ (none ∷ []))) ≡ true = ap words_fit (offsets_null packed q bs) ∙ fit_append os (0 ∷ []) ∙ and_true (words_fit os) (words_fit (0 ∷ [])) t.0 (one_fit 0 (omega arith)) in
-      and_true (words_fit (offsets_in packed q (bs ++ (none ∷ [])))) (short_blocks (bs ++ (none ∷ []))) w (short_null bs ∙ t.1)
+      let w : words_fit (offsets_in packed q (bs ++ (None ∷ []))) ≡ true = ap words_fit (offsets_null packed q bs) ∙ fit_append os (0 ∷ []) ∙ and_true (words_fit os) (words_fit (0 ∷ [])) t.0 (one_fit 0 (omega arith)) in
+      and_true (words_fit (offsets_in packed q (bs ++ (None ∷ [])))) (short_blocks (bs ++ (None ∷ []))) w (short_null bs ∙ t.1)
 
-  null_fit : tables_fit packed q (bs ++ (none ∷ [])) ≡ true → tables_fit packed q bs ≡ true
+  null_fit : tables_fit packed q (bs ++ (None ∷ [])) ≡ true → tables_fit packed q bs ≡ true
   unfolding tables_fit
   null_fit h =
-      let t = both (words_fit (offsets_in packed q (bs ++ (none ∷ [])))) (short_blocks (bs ++ (none ∷ []))) h in
+      let t = both (words_fit (offsets_in packed q (bs ++ (None ∷ [])))) (short_blocks (bs ++ (None ∷ []))) h in
       let w = both (words_fit os) (words_fit (0 ∷ [])) (sym (fit_append os (0 ∷ [])) ∙ ap words_fit (sym (offsets_null packed q bs)) ∙ t.0) in
       and_true (words_fit os) (short_blocks bs) w.0 (sym (short_null bs) ∙ t.1)
 
@@ -101,17 +101,17 @@ module _ (packed : Bool) (q : ℕ) (bs : List (Option (List ℕ))) where
     place = place_in packed q bs b
 
     -- one more that is not null
-    pub next_fits : tables_fit packed q bs ≡ true → place ≤ 65535 → length b ≤ 65538 → tables_fit packed q (bs ++ (some b ∷ [])) ≡ true
+    pub next_fits : tables_fit packed q bs ≡ true → place ≤ 65535 → length b ≤ 65538 → tables_fit packed q (bs ++ (Some b ∷ [])) ≡ true
     unfolding tables_fit
     next_fits h l k =
         let t = both (words_fit os) (short_blocks bs) h in
-        let w : words_fit (offsets_in packed q (bs ++ (some b ∷ []))) ≡ true = ap words_fit (offsets_next packed q bs b) ∙ fit_append os (place ∷ []) ∙ and_true (words_fit os) (words_fit (place ∷ [])) t.0 (one_fit place l) in
-        and_true (words_fit (offsets_in packed q (bs ++ (some b ∷ [])))) (short_blocks (bs ++ (some b ∷ []))) w (short_next bs b ∙ and_true (short_blocks bs) (leb (length b) 65538) t.1 (le-leb (length b) 65538 k))
+        let w : words_fit (offsets_in packed q (bs ++ (Some b ∷ []))) ≡ true = ap words_fit (offsets_next packed q bs b) ∙ fit_append os (place ∷ []) ∙ and_true (words_fit os) (words_fit (place ∷ [])) t.0 (one_fit place l) in
+        and_true (words_fit (offsets_in packed q (bs ++ (Some b ∷ [])))) (short_blocks (bs ++ (Some b ∷ []))) w (short_next bs b ∙ and_true (short_blocks bs) (leb (length b) 65538) t.1 (le-leb (length b) 65538 k))
 
-    pub next_fit : tables_fit packed q (bs ++ (some b ∷ [])) ≡ true → (place ≤ 65535) × (length b ≤ 65538) × (tables_fit packed q bs ≡ true)
+    pub next_fit : tables_fit packed q (bs ++ (Some b ∷ [])) ≡ true → (place ≤ 65535) × (length b ≤ 65538) × (tables_fit packed q bs ≡ true)
     unfolding tables_fit
     next_fit h =
-        let t = both (words_fit (offsets_in packed q (bs ++ (some b ∷ [])))) (short_blocks (bs ++ (some b ∷ []))) h in
+        let t = both (words_fit (offsets_in packed q (bs ++ (Some b ∷ [])))) (short_blocks (bs ++ (Some b ∷ []))) h in
         let w = both (words_fit os) (words_fit (place ∷ [])) (sym (fit_append os (place ∷ [])) ∙ ap words_fit (sym (offsets_next packed q bs b)) ∙ t.0) in
         let k = both (short_blocks bs) (leb (length b) 65538) (sym (short_next bs b) ∙ t.1) in
         (fit_one place w.1, leb-true (length b) 65538 k.1, and_true (words_fit os) (short_blocks bs) w.0 k.0)
@@ -127,8 +127,8 @@ front_fits packed q xs [] h = rw append-nil at h
 front_fits packed q xs (y ∷ ys) h = step y (front_fits packed q (xs ++ (y ∷ [])) ys (subst (λ (zs : List (Option (List ℕ))). tables_fit packed q zs ≡ true) (sym (append_assoc xs (y ∷ []) ys)) h))
   where
     step : (o : Option (List ℕ)) → tables_fit packed q (xs ++ (o ∷ [])) ≡ true → tables_fit packed q xs ≡ true
-    step none k = null_fit packed q xs k
-    step (some b) k = (next_fit packed q xs b k).2
+    step None k = null_fit packed q xs k
+    step (Some b) k = (next_fit packed q xs b k).2
 
 -- a block that is written is among all
 has_less : (x b : List ℕ) (ds : List (List ℕ)) → has b (without x ds) ≡ true → has b ds ≡ true
@@ -161,8 +161,8 @@ has_first b (d ∷ ds) h = step (eq_list d b) h (has_first b ds)
 shared_fits : (q : ℕ) (ds : List (List ℕ)) (b : List ℕ) (bs : List (Option (List ℕ))) → has b (drop_null bs) ≡ true → words_fit (map (shared_offset q ds) bs) ≡ true → offset_in q ds b ≤ 65535
 unfolding has drop_null words_fit every shared_offset
 shared_fits q ds b [] h f = absurd (true≢false (sym h))
-shared_fits q ds b (none ∷ bs) h f = shared_fits q ds b bs h f
-shared_fits q ds b (some d ∷ bs) h f = step (eq_list d b) refl h (both (ltb (offset_in q ds d) 65536) (words_fit (map (shared_offset q ds) bs)) f) (shared_fits q ds b bs)
+shared_fits q ds b (None ∷ bs) h f = shared_fits q ds b bs h f
+shared_fits q ds b (Some d ∷ bs) h f = step (eq_list d b) refl h (both (ltb (offset_in q ds d) 65536) (words_fit (map (shared_offset q ds) bs)) f) (shared_fits q ds b bs)
   where
     step : (t : Bool) → eq_list d b ≡ t → t || has b (drop_null bs) ≡ true → (ltb (offset_in q ds d) 65536 ≡ true) × (words_fit (map (shared_offset q ds) bs) ≡ true)
         → (has b (drop_null bs) ≡ true → words_fit (map (shared_offset q ds) bs) ≡ true → offset_in q ds b ≤ 65535) → offset_in q ds b ≤ 65535

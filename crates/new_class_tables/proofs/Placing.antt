@@ -3,7 +3,7 @@ use Prim.Native.Nat.{ℕ, suc, ◌+◌, ◌-◌, ◌*◌, ◌/◌, ◌≤◌, �
 use mathlib.Core.Path.{◌≡◌, refl, sym, ap, ◌∙◌, subst}
 use mathlib.Core.Logic.{◌≢◌}
 use mathlib.Core.Bool.{Bool, true, false, cond}
-use mathlib.Core.Option.{Option, some}
+use Rattle.std.specs.Prelude.{Option, Some}
 use mathlib.Core.List.{List, [], ◌∷◌, ◌++◌}
 use native.Mathlib.Decide.{dec_lt}
 use native.Mathlib.Omega.{arith}
@@ -96,7 +96,7 @@ module _ {t : List ℕ} {n : NewTable} {turn : Turn} {gap : ℕ} {area book : Li
   })
 
   module _ (z : n.old ≡ 0 → ⊥) {one : List ℕ} {q : ℕ} (w : Tried area turn.pos b one q) where
-    is : table_block t n ≡ some b
+    is : table_block t n ≡ Some b
     is = block_there t n z
 
     -- there is no room for it
@@ -146,9 +146,9 @@ module _ {t : List ℕ} {n : NewTable} {turn : Turn} {gap : ℕ} {area book : Li
               let v = (y.spot.at - turn.first) / 2 + 1 in
               touches_one v (subst (λ (c : List ℕ). Keeps (sets area turn.slot (bytes2 v)) turn.pos c) (sym y.put) (keeps_store turn.slot (bytes2 v) (extends_keeps x) i.room (omega (arith, i.slot, i.start, ap length (flat_one v), flat_length (v ∷ [])))))
 
-          module _ {packed : Bool} {left : ℕ → Option (List ℕ)} {slots : ℕ} {bs : List (Option (List ℕ))} (g : Gathered packed left slots turn.first bs area turn.pos book) (from : left turn.at ≡ some b) (e : turn.slot ≡ slots + 2 * length bs) where
+          module _ {packed : Bool} {left : ℕ → Option (List ℕ)} {slots : ℕ} {bs : List (Option (List ℕ))} (g : Gathered packed left slots turn.first bs area turn.pos book) (from : left turn.at ≡ Some b) (e : turn.slot ≡ slots + 2 * length bs) where
             -- it has its spot
-            gathered : end ≤ length area → Gathered packed left slots turn.first (bs ++ (some b ∷ [])) two end after
+            gathered : end ≤ length area → Gathered packed left slots turn.first (bs ++ (Some b ∷ [])) two end after
             gathered m =
                 let y = s.near (omega (arith, w.same)) in
                 rw y.end (gathered_set g x from long h small e i.slot y.settled y.there (refl, y.put))
@@ -176,7 +176,7 @@ module _ {t : List ℕ} {n : NewTable} {turn : Turn} {gap : ℕ} {area book : Li
                 step (no d) = other (known packed bs b) (grows (omega arith))
 
             -- then it stands behind them
-            behind : (end ≡ turn.pos → ⊥) → tables_fit packed start (bs ++ (some b ∷ [])) ≡ true → turn.pos - gap ≤ 65535
+            behind : (end ≡ turn.pos → ⊥) → tables_fit packed start (bs ++ (Some b ∷ [])) ≡ true → turn.pos - gap ≤ 65535
             behind f k = omega (arith, (next_fit packed start bs b k).0, place_new packed start bs b (is_new f), g.noted.place, a.near)
 
           -- it is the same as an earlier one

@@ -1,7 +1,7 @@
 -- Numbers in a row of which a map answers none, or all in step.
 use Prim.Native.Nat.{ℕ, zero, suc, ◌+◌, ◌-◌, ◌*◌, ◌/◌, ◌%◌, ◌≤◌, ◌<◌}
 use mathlib.Core.Path.{◌≡◌, sym, ap, ◌∙◌}
-use mathlib.Core.Option.{Option, none, some}
+use Rattle.std.specs.Prelude.{Option, None, Some}
 use mathlib.Core.List.{List, [], ◌∷◌, ◌++◌, append-nil, append_assoc}
 use native.Mathlib.Nat.{add-zero, zero-add}
 use native.Mathlib.Omega.{arith}
@@ -15,20 +15,20 @@ use Rattle.range_meets.proofs.Lists.{notes_store}
 use Rattle.noted_runs.specs.Walks.{NotedSteps}
 
 module _ (f : ℕ → Option ℕ) where
-  pub row_none : (j a n : ℕ) (cov : List ℕ) → ((x : ℕ) → a ≤ x → x < a + n → f x ≡ none) → met f j (up_from a n ++ cov) ≡ met f (j + n) cov
+  pub row_none : (j a n : ℕ) (cov : List ℕ) → ((x : ℕ) → a ≤ x → x < a + n → f x ≡ None) → met f j (up_from a n ++ cov) ≡ met f (j + n) cov
   unfolding met up_from bind push
   row_none j a zero cov h = rw (add-zero j)
   row_none j a (suc n) cov h =
       let e : j + suc n ≡ j + 1 + n = omega arith in
       rw (h a (omega arith) (omega arith), e) (row_none (j + 1) (a + 1) n cov (λ x l g. h x (omega arith) (omega arith)))
 
-  pub row_steps : (j a w n : ℕ) (cov : List ℕ) → ((x : ℕ) → a ≤ x → x < a + n → f x ≡ some (w + (x - a))) → met f j (up_from a n ++ cov) ≡ steps j w n ++ met f (j + n) cov
+  pub row_steps : (j a w n : ℕ) (cov : List ℕ) → ((x : ℕ) → a ≤ x → x < a + n → f x ≡ Some (w + (x - a))) → met f j (up_from a n ++ cov) ≡ steps j w n ++ met f (j + n) cov
   unfolding met up_from bind push steps
   row_steps j a w zero cov h = rw (add-zero j)
   row_steps j a w (suc n) cov h =
       let e : j + suc n ≡ j + 1 + n = omega arith in
-      let o : f a ≡ some w = h a (omega arith) (omega arith) ∙ ap some (near w a) in
-      rw (o, e) (ap (λ (l : List (ℕ × ℕ)). (j, w) ∷ l) (row_steps (j + 1) (a + 1) (w + 1) n cov (λ x l g. h x (omega arith) (omega arith) ∙ ap some (next x l))))
+      let o : f a ≡ Some w = h a (omega arith) (omega arith) ∙ ap Some (near w a) in
+      rw (o, e) (ap (λ (l : List (ℕ × ℕ)). (j, w) ∷ l) (row_steps (j + 1) (a + 1) (w + 1) n cov (λ x l g. h x (omega arith) (omega arith) ∙ ap Some (next x l))))
     where
       near : (w a : ℕ) → w + (a - a) ≡ w
       near w a = omega arith

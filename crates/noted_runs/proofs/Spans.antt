@@ -2,7 +2,7 @@
 use Prim.Native.Nat.{ℕ, zero, suc, ◌+◌, ◌-◌, ◌*◌, ◌/◌, ◌≤◌, ◌<◌}
 use mathlib.Core.Path.{◌≡◌, refl, sym, ap, ◌∙◌}
 use mathlib.Core.Bool.{true, ◌&&◌}
-use mathlib.Core.Option.{none, some}
+use Rattle.std.specs.Prelude.{None, Some}
 use mathlib.Core.List.{List, ◌∷◌, ◌++◌, map, append-nil, append_assoc, map-append}
 use native.Mathlib.Decide.{dec_lt}
 use native.Mathlib.Nat.{zero-add}
@@ -29,13 +29,13 @@ use Rattle.noted_runs.proofs.Rows.{row_none, row_steps, up_split}
 -- What the map answers, by its runs.
 module _ {m : List ℕ} (g : GlyphMap 6 m) where
   -- a number in the run e
-  has : (e x : ℕ) → e < length m / 6 → start m e ≤ x → x < end m e → in_runs m x ≡ some (new_of 6 m e + (x - start m e))
+  has : (e x : ℕ) → e < length m / 6 → start m e ≤ x → x < end m e → in_runs m x ≡ Some (new_of 6 m e + (x - start m e))
   has e x l a b =
       let i : start m e + (x - start m e) ≡ x = omega arith in
       rw i at (run_found g e (x - start m e) l (omega arith))
 
   -- a number after the runs before e, and before that one
-  has_not : (e x : ℕ) → e ≤ length m / 6 → ((k : ℕ) → k < e → end m k ≤ x) → (e < length m / 6 → x < start m e) → in_runs m x ≡ none
+  has_not : (e x : ℕ) → e ≤ length m / 6 → ((k : ℕ) → k < e → end m k ≤ x) → (e < length m / 6 → x < start m e) → in_runs m x ≡ None
   has_not e x l a b = none_found g x l (λ k q. a k (omega arith)) b
 
 -- notes, and notes behind them
@@ -133,13 +133,13 @@ module _ {m : List ℕ} {from first last index : ℕ} {t₀ : List ℕ} {to : �
           ∙ ap (λ (b : ℕ). up_from x (g.from - x) ++ up_from b (r.count + (last + 1 - r.next))) q
           ∙ ap (λ (y : List ℕ). up_from x (g.from - x) ++ y) (up_split g.from r.count (last + 1 - r.next) ∙ ap (λ (b : ℕ). up_from g.from r.count ++ up_from b (last + 1 - r.next)) g.count)
 
-      gap : (y : ℕ) → x ≤ y → y < x + (g.from - x) → in_runs m y ≡ none
+      gap : (y : ℕ) → x ≤ y → y < x + (g.from - x) → in_runs m y ≡ None
       gap y h i = has_not a.map e y c.within (λ j v. omega (arith, c.below (omega (arith, g.more, g.within, g.low)) j v)) (λ v. omega (arith, g.tight (omega arith)))
 
-      stretch : (y : ℕ) → g.from ≤ y → y < g.from + r.count → in_runs m y ≡ some (new_of 6 m e + (g.from - start m e) + (y - g.from))
+      stretch : (y : ℕ) → g.from ≤ y → y < g.from + r.count → in_runs m y ≡ Some (new_of 6 m e + (g.from - start m e) + (y - g.from))
       stretch y h i =
           let p : new_of 6 m e + (y - start m e) ≡ new_of 6 m e + (g.from - start m e) + (y - g.from) = omega (arith, g.starts) in
-          has a.map e y l (omega (arith, g.starts)) (omega (arith, g.count, g.ends)) ∙ ap some p
+          has a.map e y l (omega (arith, g.starts)) (omega (arith, g.count, g.ends)) ∙ ap Some p
 
       meets : (cov : List ℕ) → met (in_runs m) (index + (x - first)) (up_from x (last + 1 - x) ++ cov)
           ≡ steps (index + (x - first) + (g.from - x)) (new_of 6 m e + (g.from - start m e)) r.count ++ met (in_runs m) (index + (r.next - first)) (up_from r.next (last + 1 - r.next) ++ cov)

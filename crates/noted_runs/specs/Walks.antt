@@ -1,6 +1,5 @@
 -- What the walks over ranges and runs ask and answer.
-use Rattle.std.specs.Prelude.{ℕ, ◌+◌, ◌-◌, ◌*◌, ◌/◌, ◌≤◌, ◌<◌, ◌≡◌, true, List, ◌++◌, length}
-use Rattle.std.proofs.Math.Option.{Option}
+use Rattle.std.specs.Prelude.{ℕ, ◌+◌, ◌-◌, ◌*◌, ◌/◌, ◌≤◌, ◌<◌, ◌≡◌, true, List, ◌++◌, length, Option}
 use Rattle.meaning.specs.Words.{triples, find, up_from}
 use Rattle.meaning.specs.Maps.{steps, glyph_entries}
 use Rattle.meaning.specs.Parts.{range_glyphs, ranges_ascend, ranges_count}

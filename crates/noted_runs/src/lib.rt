@@ -18,10 +18,8 @@ fn note_steps(t: &mut [u32], to: usize, index: usize, new: usize, n: usize)
     requires { (to + n ≤ length t.old) × (index + n ≤ 65536) × (new + n ≤ 65536) }
     ensures { NotedSteps t.old t.new to index new n }
 {
-    let mut i = 0;
-    while i < n {
+    for i in 0..n {
         t[to + i] = ((index + i) * 65536 + (new + i)) as u32;
-        i += 1;
     }
 }
 

@@ -1,51 +1,53 @@
 -- What the loops over numbers and over records keep, and what they come to.
 use Prim.Native.Nat.{ℕ, ◌+◌, ◌-◌, ◌*◌, ◌/◌, ◌≤◌, ◌<◌}
 use mathlib.Core.Path.{◌≡◌, refl, sym, ap, ◌∙◌}
-use mathlib.Core.Option.{Option, none, some}
+use Rattle.std.specs.Prelude.{Option, None, Some}
+use Rattle.std.specs.Option as option
 use mathlib.Core.List.{List, [], ◌∷◌, ◌++◌, append_assoc, append-nil}
 use native.Mathlib.Omega.{arith}
 use lib.ListN.{length}
 use lib.Seq.{sets}
-use Rattle.meaning.specs.Words.{word, words, entries, twos, bytes2, flat, find, bind, map_all, push, map_some}
+use Rattle.meaning.specs.Words.{word, words, entries, twos, bytes2, flat, find, is_some, bind, map_all, push, map_some}
 use Rattle.meaning.specs.Cut.{cut_records}
 use Rattle.laws.specs.Left.{words_left_lem, words_all, words_none, entries_left, entries_all, entries_none}
 use Rattle.laws.specs.Stands.{twos_length}
 use Rattle.laws.specs.Written.{twos_append, flat_one}
-use Rattle.cell_maps.specs.Cells.{Inside}
-use Rattle.fold.specs.Found.{Answers, finds_new, finds_none}
+use Rattle.cell_maps.specs.Cells.{Inside, folded}
 use Rattle.cell_maps.specs.declared.Map.{Map}
-use Rattle.fold.specs.declared.Found.{Found}
-use Rattle.fold.specs.declared.Found.TheVariants.{New, Gone}
 use Rattle.area.specs.Extends.{Extends, extends_none, extends_said, extends_keeps}
 use Rattle.numbers.specs.Entries.{entries_in, entries_hold}
 use Rattle.numbers.specs.Leaves.{Leaves, joined, leaves_none, leaves_words}
 use Rattle.numbers.proofs.Fronts.{extends_one, extends_two, extends_before}
 
--- what the map's cells answer, as the map's entries
-module _ {t : List ℕ} {m : Map} {x : ℕ} {r : Found} (k : Inside t m) (a : Answers t m x r) where
-  pub cell_new : {y : ℕ} → r ≡ New y → find (entries_in t m) x ≡ some y
-  cell_new e = finds_new a (entries_hold k) e
+-- what the map's cells answer is what the map's entries do
+pub found_in : {t : List ℕ} {m : Map} (x : ℕ) {o : Option ℕ} → Inside t m → o ≡ folded t m x → find (entries_in t m) x ≡ o
+found_in x k e = sym (e ∙ (entries_hold k).answers x)
 
-  pub cell_gone : r ≡ Gone → find (entries_in t m) x ≡ none
-  cell_gone e = finds_none a (entries_hold k) e
+pub found_some : {t : List ℕ} {m : Map} (x : ℕ) {o : Option ℕ} → Inside t m → o ≡ folded t m x → option.is_some o ≡ is_some (find (entries_in t m) x)
+unfolding is_some
+found_some x {o} k e = rw (found_in x k e) (step o)
+  where
+    step : (o : Option ℕ) → option.is_some o ≡ is_some o
+    step None = refl
+    step (Some n) = refl
 
 -- nothing before a part, and a number that moves from the part to what stands before it
-joined_none : (o : Option (List ℕ)) → joined (some []) o ≡ o
+joined_none : (o : Option (List ℕ)) → joined (Some []) o ≡ o
 unfolding joined bind
-joined_none none = refl
-joined_none (some ws) = refl
+joined_none None = refl
+joined_none (Some ws) = refl
 
-joined_moved : (done : List ℕ) (y : ℕ) (o : Option (List ℕ)) → joined (some done) (bind o (λ bs. some (y ∷ bs))) ≡ joined (some (done ++ (y ∷ []))) o
+joined_moved : (done : List ℕ) (y : ℕ) (o : Option (List ℕ)) → joined (Some done) (bind o (λ bs. Some (y ∷ bs))) ≡ joined (Some (done ++ (y ∷ []))) o
 unfolding joined bind
-joined_moved done y none = refl
-joined_moved done y (some bs) = ap some (sym (append_assoc done (y ∷ []) bs))
+joined_moved done y None = refl
+joined_moved done y (Some bs) = ap Some (sym (append_assoc done (y ∷ []) bs))
 
 -- What the loop of `renumber` keeps: what is done and what is left are the whole.
 pub record Renumbering (f : ℕ → Option ℕ) (s : List ℕ) (at n : ℕ) (area₀ : List ℕ) (pos : ℕ) (area : List ℕ) (i : ℕ) : Type 0 where
   pub within : i ≤ n
   pub room : pos + 2 * n ≤ length area₀
   pub done : List ℕ
-  pub left : joined (some done) (map_all f (words s (at + 2 * i) (n - i))) ≡ map_all f (words s at n)
+  pub left : joined (Some done) (map_all f (words s (at + 2 * i) (n - i))) ≡ map_all f (words s at n)
   pub extends : Extends area₀ pos done area (pos + 2 * i)
 
 module _ {f : ℕ → Option ℕ} {s : List ℕ} {at n : ℕ} {area₀ : List ℕ} {pos : ℕ} where
@@ -64,10 +66,10 @@ module _ {f : ℕ → Option ℕ} {s : List ℕ} {at n : ℕ} {area₀ : List �
     abbrev rest : List ℕ
     rest = words s (at + 2 * (i + 1)) (n - (i + 1))
 
-    front : {x : ℕ} → x ≡ word s (at + 2 * i) → joined (some c.done) (map_all f (x ∷ rest)) ≡ map_all f (words s at n)
-    front e = ap (λ (l : List ℕ). joined (some c.done) (map_all f l)) (ap (λ (w : ℕ). w ∷ rest) e ∙ sym (words_left_lem s at n i h)) ∙ c.left
+    front : {x : ℕ} → x ≡ word s (at + 2 * i) → joined (Some c.done) (map_all f (x ∷ rest)) ≡ map_all f (words s at n)
+    front e = ap (λ (l : List ℕ). joined (Some c.done) (map_all f l)) (ap (λ (w : ℕ). w ∷ rest) e ∙ sym (words_left_lem s at n i h)) ∙ c.left
 
-    pub renumbering_turn : {x y q : ℕ} {next : List ℕ} → x ≡ word s (at + 2 * i) → f x ≡ some y → (q ≡ pos + 2 * i + 2) × (next ≡ sets area (pos + 2 * i) (bytes2 y))
+    pub renumbering_turn : {x y q : ℕ} {next : List ℕ} → x ≡ word s (at + 2 * i) → f x ≡ Some y → (q ≡ pos + 2 * i + 2) × (next ≡ sets area (pos + 2 * i) (bytes2 y))
         → Renumbering f s at n area₀ pos next (i + 1)
     unfolding map_all bind
     renumbering_turn {x} {y} {q} {next} e g p =
@@ -81,7 +83,7 @@ module _ {f : ℕ → Option ℕ} {s : List ℕ} {at n : ℕ} {area₀ : List �
         }
 
     -- a number that is gone settles it
-    pub renumbering_gone : {x m : ℕ} → x ≡ word s (at + 2 * i) → f x ≡ none → Leaves area₀ pos (map_all f (words s at n)) m area 0
+    pub renumbering_gone : {x m : ℕ} → x ≡ word s (at + 2 * i) → f x ≡ None → Leaves area₀ pos (map_all f (words s at n)) m area 0
     unfolding map_all bind joined
     renumbering_gone e g = leaves_none (sym (front e) ∙ rw g) (extends_keeps c.extends)
 
@@ -116,11 +118,11 @@ module _ {l : List (ℕ × ℕ)} {s : List ℕ} {at n : ℕ} {area₀ : List ℕ
     abbrev others : List (ℕ × ℕ)
     others = cut_records l (entries s (at + 4 * (i + 1)) (n - (i + 1)))
 
-    first : {x : ℕ} → x ≡ word s (at + 4 * i + 2) → c.done ++ push (bind (find l x) (λ y. some (word s (at + 4 * i), y))) others ≡ cut_records l (entries s at n)
+    first : {x : ℕ} → x ≡ word s (at + 4 * i + 2) → c.done ++ push (bind (find l x) (λ y. Some (word s (at + 4 * i), y))) others ≡ cut_records l (entries s at n)
     unfolding cut_records map_some
     first e = rw e (ap (λ (r : List (ℕ × ℕ)). c.done ++ cut_records l r) (sym (entries_left s at n i h)) ∙ c.left)
 
-    pub recording_one : {x v y q : ℕ} {next : List ℕ} → x ≡ word s (at + 4 * i + 2) → find l x ≡ some y → v ≡ word s (at + 4 * i)
+    pub recording_one : {x v y q : ℕ} {next : List ℕ} → x ≡ word s (at + 4 * i + 2) → find l x ≡ Some y → v ≡ word s (at + 4 * i)
         → (q ≡ p + 4) × (next ≡ sets area p (flat (v ∷ y ∷ []))) → Recording l s at n area₀ pos next q (i + 1)
     unfolding bind push twos
     recording_one {x} {v} {y} e g w k = record {
@@ -132,7 +134,7 @@ module _ {l : List (ℕ × ℕ)} {s : List ℕ} {at n : ℕ} {area₀ : List ℕ
       extends = extends_said (extends_two c.extends v y (omega (arith, c.room, c.near)) k) (sym (twos_append c.done ((v, y) ∷ [])));
     }
 
-    pub recording_none : {x : ℕ} → x ≡ word s (at + 4 * i + 2) → find l x ≡ none → Recording l s at n area₀ pos area p (i + 1)
+    pub recording_none : {x : ℕ} → x ≡ word s (at + 4 * i + 2) → find l x ≡ None → Recording l s at n area₀ pos area p (i + 1)
     unfolding bind push
     recording_none e g = record { within = omega arith; room = c.room; near = omega (arith, c.near); done = c.done; left = rw g at (first e); extends = c.extends }
 
@@ -142,7 +144,7 @@ module _ {l : List (ℕ × ℕ)} {s : List ℕ} {at n : ℕ} {area₀ : List ℕ
 
 -- records with their count before them
 pub counted_records : {a b c : List ℕ} {pos m end q : ℕ} (rs : List (ℕ × ℕ)) → Extends a (pos + 2) (twos rs) b end → (q ≡ pos + 2) × (c ≡ sets b pos (bytes2 ((end - pos - 2) / 4)))
-    → Leaves a pos (some (length rs ∷ twos rs)) m c end
+    → Leaves a pos (Some (length rs ∷ twos rs)) m c end
 counted_records {a} {b} {c} {pos} {m} {end} rs x f =
     let k : (end - pos - 2) / 4 ≡ length rs = omega (arith, x.place, twos_length rs) in
     leaves_words refl (extends_before (length rs ∷ []) x refl (f.1 ∙ ap (sets b pos) (ap bytes2 k ∙ sym (flat_one (length rs)))))

@@ -1,8 +1,7 @@
 -- Maps that answer alike cut alike: so the entries that a map's cells hold may be named by any list of which they are.
-use Rattle.std.specs.Prelude.{ℕ, ◌≡◌, refl, Bool, cond, ◌&&◌, not, List, [], ◌∷◌, eqb}
+use Rattle.std.specs.Prelude.{ℕ, ◌≡◌, refl, Bool, List, [], ◌∷◌, Option, Some}
 use Rattle.std.proofs.Common.{sym, ◌∙◌}
 use Rattle.std.proofs.Math.Path.{ap, ap₂}
-use Rattle.std.proofs.Math.Option.{Option, none, some}
 use Rattle.meaning.specs.Words.{find, bind, push, map_all, map_some}
 use Rattle.meaning.specs.Tables.{Rule, Ligature, Pair}
 use Rattle.meaning.specs.Cut.{RuleMaps, cut_records, cut_rule, unless_empty, cut_set, cut_ligature, cut_ligatures, cut_pair, cut_pairs}
@@ -22,7 +21,7 @@ holds_alike h = record { same = λ x. sym ((entries_hold h.inside).answers x) �
 all_alike : {A B : Type 0} (f h : A → Option B) → ((a : A) → f a ≡ h a) → (l : List A) → map_all f l ≡ map_all h l
 unfolding map_all
 all_alike f h e [] = refl
-all_alike {A} {B} f h e (a ∷ r) = ap₂ (λ (o : Option B) (u : Option (List B)). bind o (λ b. bind u (λ bs. some (b ∷ bs)))) (e a) (all_alike f h e r)
+all_alike {A} {B} f h e (a ∷ r) = ap₂ (λ (o : Option B) (u : Option (List B)). bind o (λ b. bind u (λ bs. Some (b ∷ bs)))) (e a) (all_alike f h e r)
 
 some_alike : {A B : Type 0} (f h : A → Option B) → ((a : A) → f a ≡ h a) → (l : List A) → map_some f l ≡ map_some h l
 unfolding map_some
@@ -35,11 +34,11 @@ module _ {g h : List (ℕ × ℕ)} (e : Alike g h) where
 
   pub records_alike : (rs : List (ℕ × ℕ)) → cut_records g rs ≡ cut_records h rs
   unfolding cut_records
-  records_alike rs = some_alike _ _ (λ r. ap (λ (o : Option ℕ). bind o (λ n. some (r.0, n))) (e.same r.1)) rs
+  records_alike rs = some_alike _ _ (λ r. ap (λ (o : Option ℕ). bind o (λ n. Some (r.0, n))) (e.same r.1)) rs
 
   ligature_alike : (x : Ligature) → cut_ligature g x ≡ cut_ligature h x
   unfolding cut_ligature
-  ligature_alike x = ap₂ (λ (o : Option ℕ) (u : Option (List ℕ)). bind o (λ n. bind u (λ ps. some (record { glyph = n; count = x.count; parts = ps })))) (e.same x.glyph) (words_alike x.parts)
+  ligature_alike x = ap₂ (λ (o : Option ℕ) (u : Option (List ℕ)). bind o (λ n. bind u (λ ps. Some (record { glyph = n; count = x.count; parts = ps })))) (e.same x.glyph) (words_alike x.parts)
 
   pub ligatures_alike : (xs : List Ligature) → cut_ligatures g xs ≡ cut_ligatures h xs
   unfolding cut_ligatures
@@ -47,7 +46,7 @@ module _ {g h : List (ℕ × ℕ)} (e : Alike g h) where
 
   pair_alike : (p : Pair) → cut_pair g p ≡ cut_pair h p
   unfolding cut_pair
-  pair_alike p = ap (λ (o : Option ℕ). bind o (λ n. some (record { second = n; first_values = p.first_values; second_values = p.second_values }))) (e.same p.second)
+  pair_alike p = ap (λ (o : Option ℕ). bind o (λ n. Some (record { second = n; first_values = p.first_values; second_values = p.second_values }))) (e.same p.second)
 
   pub pairs_alike : (ps : List Pair) → cut_pairs g ps ≡ cut_pairs h ps
   unfolding cut_pairs

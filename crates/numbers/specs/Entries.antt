@@ -1,10 +1,9 @@
 -- The entries that the cells of a map hold, as a list: so what is written by what the cells answer is what the definitions give for this map.
-use Prim.Native.Nat.{ℕ, zero, suc, ◌+◌, ◌-◌, ◌/◌, ◌%◌, ◌≤◌, ◌<◌}
-use Rattle.std.specs.Prelude.{◌≡◌, Bool, cond}
+use Prim.Native.Nat.{ℕ, zero, suc, ◌+◌, ◌/◌, ◌%◌, ◌≤◌, ◌<◌}
+use Rattle.std.specs.Prelude.{◌≡◌, Bool, cond, Option, None, Some}
 use Rattle.std.proofs.Math.Path.{refl, sym, ap}
 use Rattle.std.proofs.Common.{◌∙◌, arith}
 use Rattle.std.proofs.Math.Bool.{true, false}
-use Rattle.std.proofs.Math.Option.{Option, none, some}
 use mathlib.Core.List.{List, []}
 use Rattle.std.proofs.Math.ListN.{get_or}
 use Rattle.std.specs.Int.Bits.{bit_and}
@@ -19,12 +18,12 @@ use Rattle.cell_maps.specs.declared.Map.{Map}
 unfoldable pub entry_in : List ℕ → Map → ℕ → Option (ℕ × ℕ)
 entry_in t m i =
     let e = get_or t (m.at + i) 0 in
-    cond (eqb (bit_and (e / 65536) m.mask) i) (some (e / 65536, e % 65536)) none
+    cond (eqb (bit_and (e / 65536) m.mask) i) (Some (e / 65536, e % 65536)) None
 
 -- the numbers from a on, n of them, that f answers, with their answers
 unfoldable pub answered_from : (ℕ → Option ℕ) → ℕ → ℕ → List (ℕ × ℕ)
 answered_from f a zero = []
-answered_from f a (suc n) = push (bind (f a) (λ v. some (a, v))) (answered_from f (a + 1) n)
+answered_from f a (suc n) = push (bind (f a) (λ v. Some (a, v))) (answered_from f (a + 1) n)
 
 -- the entries of all cells; with an even mask, those of all words
 unfoldable pub entries_in : List ℕ → Map → List (ℕ × ℕ)
@@ -32,26 +31,26 @@ entries_in t m = cond (even_mask m) (answered_from (folded t m) 0 65536) (map_so
 
 -- a number in the row is found with its answer, and one past it, or below it, is not found
 module _ (f : ℕ → Option ℕ) (x : ℕ) where
-  below_row : (a n : ℕ) → x < a → find (answered_from f a n) x ≡ none
+  below_row : (a n : ℕ) → x < a → find (answered_from f a n) x ≡ None
   unfolding answered_from find push bind
   below_row a zero h = refl
   below_row a (suc n) h = step (f a) (below_row (a + 1) n (omega arith))
     where
-      step : (o : Option ℕ) → find (answered_from f (a + 1) n) x ≡ none → find (push (bind o (λ v. some (a, v))) (answered_from f (a + 1) n)) x ≡ none
-      step none e = e
-      step (some v) e = rw (ne_eqb a x (λ q. omega arith)) e
+      step : (o : Option ℕ) → find (answered_from f (a + 1) n) x ≡ None → find (push (bind o (λ v. Some (a, v))) (answered_from f (a + 1) n)) x ≡ None
+      step None e = e
+      step (Some v) e = rw (ne_eqb a x (λ q. omega arith)) e
 
-  in_row : (a n : ℕ) → (a + n ≤ x → f x ≡ none) → a ≤ x → find (answered_from f a n) x ≡ f x
+  in_row : (a n : ℕ) → (a + n ≤ x → f x ≡ None) → a ≤ x → find (answered_from f a n) x ≡ f x
   unfolding answered_from find push bind
   in_row a zero h l = sym (h (omega arith))
   in_row a (suc n) h l = step (f a) refl (below_row (a + 1) n) (in_row (a + 1) n (λ g. h (omega arith))) (eqb a x) refl
     where
-      step : (o : Option ℕ) → f a ≡ o → (x < a + 1 → find (answered_from f (a + 1) n) x ≡ none) → (a + 1 ≤ x → find (answered_from f (a + 1) n) x ≡ f x) → (b : Bool) → eqb a x ≡ b
-          → find (push (bind o (λ v. some (a, v))) (answered_from f (a + 1) n)) x ≡ f x
-      step none e low high true q = let s : a ≡ x = eqb-true a x q in low (omega arith) ∙ sym e ∙ ap f s
-      step none e low high false q = let s : a ≡ x → ⊥ = eqb-false a x q in high (omega arith)
-      step (some v) e low high true q = let s : a ≡ x = eqb-true a x q in rw q (sym e ∙ ap f s)
-      step (some v) e low high false q = let s : a ≡ x → ⊥ = eqb-false a x q in rw q (high (omega arith))
+      step : (o : Option ℕ) → f a ≡ o → (x < a + 1 → find (answered_from f (a + 1) n) x ≡ None) → (a + 1 ≤ x → find (answered_from f (a + 1) n) x ≡ f x) → (b : Bool) → eqb a x ≡ b
+          → find (push (bind o (λ v. Some (a, v))) (answered_from f (a + 1) n)) x ≡ f x
+      step None e low high true q = let s : a ≡ x = eqb-true a x q in low (omega arith) ∙ sym e ∙ ap f s
+      step None e low high false q = let s : a ≡ x → ⊥ = eqb-false a x q in high (omega arith)
+      step (Some v) e low high true q = let s : a ≡ x = eqb-true a x q in rw q (sym e ∙ ap f s)
+      step (Some v) e low high false q = let s : a ≡ x → ⊥ = eqb-false a x q in rw q (high (omega arith))
 
 module _ (t : List ℕ) (m : Map) (x : ℕ) where
   -- the cell of x, among the map's
@@ -66,12 +65,12 @@ module _ (t : List ℕ) (m : Map) (x : ℕ) where
       key : ℕ
       key = get_or t (m.at + i) 0 / 65536
 
-      step : (b : Bool) → eqb (bit_and key m.mask) i ≡ b → find (push (cond b (some (key, get_or t (m.at + i) 0 % 65536)) none) r) x ≡ find r x
+      step : (b : Bool) → eqb (bit_and key m.mask) i ≡ b → find (push (cond b (Some (key, get_or t (m.at + i) 0 % 65536)) None) r) x ≡ find r x
       step true e = rw (ne_eqb key x (λ k. h (sym (eqb-true (bit_and key m.mask) i e) ∙ ap (λ (n : ℕ). bit_and n m.mask) k)))
       step false e = refl
 
   -- its own cell answers
-  at_own : (r : List (ℕ × ℕ)) → find r x ≡ none → find (push (entry_in t m own) r) x ≡ answer_in (cell_at t m x) x
+  at_own : (r : List (ℕ × ℕ)) → find r x ≡ None → find (push (entry_in t m own) r) x ≡ answer_in (cell_at t m x) x
   unfolding entry_in find push answer_in
   at_own r h = step (eqb key x) refl (eqb (bit_and key m.mask) own) refl
     where
@@ -79,14 +78,14 @@ module _ (t : List ℕ) (m : Map) (x : ℕ) where
       key = cell_at t m x / 65536
 
       step : (b : Bool) → eqb key x ≡ b → (d : Bool) → eqb (bit_and key m.mask) own ≡ d
-          → find (push (cond d (some (key, cell_at t m x % 65536)) none) r) x ≡ cond b (some (cell_at t m x % 65536)) none
+          → find (push (cond d (Some (key, cell_at t m x % 65536)) None) r) x ≡ cond b (Some (cell_at t m x % 65536)) None
       step true e true f = rw e
       step true e false f = absurd (eqb-false (bit_and key m.mask) own f (ap (λ (n : ℕ). bit_and n m.mask) (eqb-true key x e)))
       step false e true f = rw e h
       step false e false f = h
 
   -- cells that are not its own do not answer
-  none_other : (a n : ℕ) → ((i : ℕ) → a ≤ i → i ≡ own → ⊥) → find (map_some (entry_in t m) (up_from a n)) x ≡ none
+  none_other : (a n : ℕ) → ((i : ℕ) → a ≤ i → i ≡ own → ⊥) → find (map_some (entry_in t m) (up_from a n)) x ≡ None
   unfolding map_some up_from find
   none_other a zero h = refl
   none_other a (suc n) h = past_other a (map_some (entry_in t m) (up_from (a + 1) n)) (h a (omega arith)) ∙ none_other (a + 1) n (λ i l. h i (omega arith))
@@ -96,7 +95,7 @@ module _ (t : List ℕ) (m : Map) (x : ℕ) where
   among a zero l h = absurd (omega arith)
   among a (suc n) l h = step (map_some (entry_in t m) (up_from (a + 1) n)) (λ k. none_other (a + 1) n k) (λ k. among (a + 1) n k (omega arith)) (eqb a own) refl
     where
-      step : (rest : List (ℕ × ℕ)) → (((i : ℕ) → a + 1 ≤ i → i ≡ own → ⊥) → find rest x ≡ none) → (a + 1 ≤ own → find rest x ≡ answer_in (cell_at t m x) x)
+      step : (rest : List (ℕ × ℕ)) → (((i : ℕ) → a + 1 ≤ i → i ≡ own → ⊥) → find rest x ≡ None) → (a + 1 ≤ own → find rest x ≡ answer_in (cell_at t m x) x)
           → (b : Bool) → eqb a own ≡ b → find (push (entry_in t m a) rest) x ≡ answer_in (cell_at t m x) x
       step rest others later true e =
           let s : a ≡ own = eqb-true a own e in

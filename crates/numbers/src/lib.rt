@@ -2,8 +2,7 @@
 // A writer answers the place after what it wrote, which is 0 where nothing is left, and more than the area's length where there is no room.
 #![tactic(auto)]
 
-ghost use Rattle.std.specs.Prelude.{◌≡◌, ◌||◌, [], ◌∷◌, ◌+◌, ◌-◌, ◌*◌, ◌<◌, ◌≤◌, length, eqb, ltb};
-ghost use Rattle.std.proofs.Math.Option.{some};
+ghost use Rattle.std.specs.Prelude.{◌≡◌, ◌||◌, [], ◌∷◌, ◌+◌, ◌-◌, ◌*◌, ◌<◌, ◌≤◌, length, eqb, ltb, Some};
 ghost use Rattle.meaning.specs.Words.{words, find, map_all};
 ghost use Rattle.cell_maps.specs.Cells.{Inside};
 ghost use Rattle.numbers.specs.Entries.{entries_in};
@@ -11,7 +10,7 @@ ghost use Rattle.numbers.specs.Leaves.{Leaves, joined};
 
 use area::{over, put};
 use cell_maps::Map;
-use fold::{Found, find};
+use fold::find;
 use wire::word_inside;
 
 // Whether a writer that answered `p` came to an end: nothing is left, or there is no room.
@@ -22,16 +21,6 @@ pub fn ended(area: &[u8], p: usize) -> bool
         return true;
     }
     area.len() < p
-}
-
-// How many numbers a count leaves after the first: a count of 0 or 1 leaves none.
-pub fn after_first(count: usize) -> usize
-    ensures { result ≡ count - 1 }
-{
-    if count == 0 {
-        return 0;
-    }
-    count - 1
 }
 
 // The new numbers of the `n` numbers from `at` on, from `pos` on; nothing is left if one of them has none.
@@ -50,13 +39,11 @@ pub fn renumber(
     if area.len() < pos + 2 * n {
         return over(area);
     }
-    let mut i = 0;
-    while i < n {
-        let Found::New(new) = find(t, m, word_inside(src, at + 2 * i)) else {
+    for i in 0..n {
+        let Some(new) = find(t, m, word_inside(src, at + 2 * i)) else {
             return 0;
         };
         put(area, pos + 2 * i, new);
-        i += 1;
     }
     pos + 2 * n
 }
@@ -73,7 +60,7 @@ pub fn write_counted(
     pos: usize,
 ) -> usize
     requires { (at + 2 * n ≤ length src.now) × Inside t.now m × (pos ≤ length area.old) }
-    ensures { Leaves area.old pos (joined (some (count ∷ [])) (map_all (find (entries_in t.now m)) (words src.now at n))) (2 + 2 * n) area.new result }
+    ensures { Leaves area.old pos (joined (Some (count ∷ [])) (map_all (find (entries_in t.now m)) (words src.now at n))) (2 + 2 * n) area.new result }
 {
     if area.len() < pos + 2 {
         return over(area);

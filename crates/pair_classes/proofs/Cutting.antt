@@ -3,7 +3,7 @@ use Prim.Native.Nat.{ℕ, suc, ◌+◌, ◌*◌, ◌/◌, ◌%◌, ◌≤◌, �
 use native.Mathlib.Nat.{zero-add, mul_assoc, mul_comm}
 use mathlib.Core.Path.{◌≡◌, refl, sym, ap, ◌∙◌, subst}
 use mathlib.Core.Bool.{Bool, true, false, cond, ◌&&◌, ◌||◌, true≢false}
-use mathlib.Core.Option.{Option, none, some}
+use Rattle.std.specs.Prelude.{Option, None, Some, Result}
 use mathlib.Core.List.{List, [], ◌∷◌, append-nil, map}
 use native.Mathlib.Decide.{dec_lt}
 use native.Mathlib.Omega.{arith}
@@ -41,7 +41,7 @@ use Rattle.class_ranks.specs.Same.{Same, kept_same, part_alike, holds_same}
 use Rattle.class_formats.specs.Kept.{cell_size, has_cells, kept_alike}
 use Rattle.covered_map.specs.Named.{named, Names, named_met, noted_indexes, named_length}
 use Rattle.tried.specs.Tries.{Tries, tries_less}
-use Rattle.tried.specs.declared.Tried.{Tried}
+use Rattle.tried.specs.declared.NotCut.{NotCut}
 use Rattle.pair_layouts.specs.Kerning.{left_into}
 use Rattle.pair_classes.specs.Sides.{table_cells, Asks, Side, Sided}
 use Rattle.pair_layouts.specs.Laying.{Front, Ready}
@@ -64,26 +64,26 @@ module _ (s : List ℕ) (format : word s 0 ≡ 1 → ⊥) where
   table_is = rw (ne_eqb (word s 0) 1 format)
 
   -- a part that an offset reaches, and the others
-  reached : (fault_at : ℕ → Option ℕ) (slot n : ℕ) → fault_through fault_at s 0 slot (suc n) ≡ none → (word s slot ≡ 0 → ⊥) → (fault_at (word s slot) ≡ none) × (fault_through fault_at s 0 (slot + 2) n ≡ none)
+  reached : (fault_at : ℕ → Option ℕ) (slot n : ℕ) → fault_through fault_at s 0 slot (suc n) ≡ None → (word s slot ≡ 0 → ⊥) → (fault_at (word s slot) ≡ None) × (fault_through fault_at s 0 (slot + 2) n ≡ None)
   unfolding fault_through
   reached fault_at slot n h z =
-      let q = lowest_none (cond (eqb (word s slot) 0) none (fault_at (0 + word s slot))) (fault_through fault_at s 0 (slot + 2) n) h in
+      let q = lowest_none (cond (eqb (word s slot) 0) None (fault_at (0 + word s slot))) (fault_through fault_at s 0 (slot + 2) n) h in
       (rw (ne_eqb (word s slot) 0 z, zero-add) at q.0, q.1)
 
-  cover_sound : (at : ℕ) → coverage_fault s at ≡ none → coverage_sound s at ≡ true
+  cover_sound : (at : ℕ) → coverage_fault s at ≡ None → coverage_sound s at ≡ true
   unfolding coverage_fault
-  cover_sound at h = (part_sound at (coverage_sound s at) none h).0
+  cover_sound at h = (part_sound at (coverage_sound s at) None h).0
 
-  class_sound : (at : ℕ) → classes_fault s at ≡ none → classes_sound s at ≡ true
+  class_sound : (at : ℕ) → classes_fault s at ≡ None → classes_sound s at ≡ true
   unfolding classes_fault
-  class_sound at h = (part_sound at (classes_sound s at) none h).0
+  class_sound at h = (part_sound at (classes_sound s at) None h).0
 
-  there : {A : Type 0} (read : ℕ → A) (slot : ℕ) → (word s slot ≡ 0 → ⊥) → reach read s 0 slot ≡ some (read (word s slot))
+  there : {A : Type 0} (read : ℕ → A) (slot : ℕ) → (word s slot ≡ 0 → ⊥) → reach read s 0 slot ≡ Some (read (word s slot))
   unfolding reach
   there read slot z = rw (ne_eqb (word s slot) 0 z, zero-add) refl
 
-  module _ (sound : fault 4 s ≡ none) where
-    parts : (good_head ≡ true) × (lowest (fault_through (coverage_fault s) s 0 2 1) (fault_through (classes_fault s) s 0 8 2) ≡ none)
+  module _ (sound : fault 4 s ≡ None) where
+    parts : (good_head ≡ true) × (lowest (fault_through (coverage_fault s) s 0 2 1) (fault_through (classes_fault s) s 0 8 2) ≡ None)
     parts = part_sound 0 good_head _ (sym fault_is ∙ (part_sound 0 (inside s 0 2) (pair_fault s) (sym (fault_pairs s) ∙ sound)).1)
 
     head_inside : 16 ≤ length s
@@ -98,7 +98,7 @@ module _ (s : List ℕ) (format : word s 0 ≡ 1 → ⊥) where
         let e : c * (word s 12 * word s 14) ≡ c * word s 14 * word s 12 = ap (λ (n : ℕ). c * n) (mul_comm (word s 12) (word s 14)) ∙ sym (mul_assoc c (word s 14) (word s 12)) in
         rw e at h
 
-    faults : (fault_through (coverage_fault s) s 0 2 1 ≡ none) × (fault_through (classes_fault s) s 0 8 2 ≡ none)
+    faults : (fault_through (coverage_fault s) s 0 2 1 ≡ None) × (fault_through (classes_fault s) s 0 8 2 ≡ None)
     faults = lowest_none (fault_through (coverage_fault s) s 0 2 1) (fault_through (classes_fault s) s 0 8 2) parts.1
 
     module _ (x : word s 2 ≡ 0 → ⊥) (y : word s 8 ≡ 0 → ⊥) (z : word s 10 ≡ 0 → ⊥) where
@@ -124,7 +124,7 @@ module _ (s : List ℕ) (format : word s 0 ≡ 1 → ⊥) where
 
 -- a null part leaves nothing
 null_none : (g : List (ℕ × ℕ)) (cov : List ℕ) (cs ds : List (ℕ × ℕ)) (f1 f2 n : ℕ) (rows : List (List Pair)) (a b c : Bool) → a || (b || c) ≡ true
-    → cut g [] (Table.class_pairs (cond a none (some cov)) (cond b none (some cs)) (cond c none (some ds)) f1 f2 n rows) ≡ none
+    → cut g [] (Table.class_pairs (cond a None (Some cov)) (cond b None (Some cs)) (cond c None (Some ds)) f1 f2 n rows) ≡ None
 unfolding cut
 null_none g cov cs ds f1 f2 n rows true b c h = refl
 null_none g cov cs ds f1 f2 n rows false true c h = refl
@@ -220,7 +220,7 @@ module _ {s : List ℕ} {form : ℕ} {glyphs : List ℕ} {m : Map} {t : List ℕ
         none_kept b.kern (map_good b.map) (sym (named_met (glyph_entries form glyphs) (coverage s (word s 2))) ∙ ap (named (coverage s (word s 2))) e) packing out
 
 -- Cells and bytes as many as before.
-module _ (r : Tried) (out after : List ℕ) (made : Outcome) {at : ℕ} {t u : List ℕ} (k : Kept at t u) where
+module _ (r : Result ℕ NotCut) (out after : List ℕ) (made : Outcome) {at : ℕ} {t u : List ℕ} (k : Kept at t u) where
   pub cells_same : (area : List ℕ) → Tries (length u < enough_cells) (length area < limit) r out after made → Tries (length t < enough_cells) (length area < limit) r out after made
   cells_same area h = tries_less (length u < enough_cells) (length area < limit) (length t < enough_cells) (length area < limit) r out after made (λ x. omega (arith, k.size)) (λ x. x) h
 
@@ -397,7 +397,7 @@ module _ {s : List ℕ} {form : ℕ} {glyphs : List ℕ} {cover : Noted} {first 
           let kept = kept_alike (holds_alike first_holds) (holds_alike seconds.holds) 0 (cell_rows s (field_count (word s 4)) (field_count (word s 6)) (word s 14) 16 (word s 12)) in
           rw (kept, b.side.count, seconds.count, glyphs_here, first_entries, seconds.entries) (kern_cut b.kern (map_good b.map) covered_some packing out)
 
-      pub all_left : (packing : ℕ) (area : List ℕ) (r : Tried) (out after : List ℕ) → Tries (⊥) (length area < limit) r out after (left_into packing out s u cover first second)
+      pub all_left : (packing : ℕ) (area : List ℕ) (r : Result ℕ NotCut) (out after : List ℕ) → Tries (⊥) (length area < limit) r out after (left_into packing out s u cover first second)
           → Tries (length t < enough_cells) (length area < limit) r out after (written_in packing out (cut (glyph_entries form glyphs) [] (pair_table s)))
       all_left packing area r out after h =
           tries_less ⊥ (length area < limit) (length t < enough_cells) (length area < limit) r out after _ (λ x. absurd x) (λ x. x)
@@ -419,6 +419,6 @@ module _ {n : ℕ} (area : List ℕ) (f : Front (length area) n) where
   pub front_near : length (take n area) ≤ limit
   front_near = omega (arith, front_length, f.most)
 
-  pub front_tries : (t : List ℕ) (r : Tried) (out after : List ℕ) (made : Outcome) → Tries (length t < enough_cells) (length (take n area) < limit) r out after made → Tries (length t < enough_cells) (length area < limit) r out after made
+  pub front_tries : (t : List ℕ) (r : Result ℕ NotCut) (out after : List ℕ) (made : Outcome) → Tries (length t < enough_cells) (length (take n area) < limit) r out after made → Tries (length t < enough_cells) (length area < limit) r out after made
   front_tries t r out after made k =
       tries_less (length t < enough_cells) (length (take n area) < limit) (length t < enough_cells) (length area < limit) r out after made (λ x. x) (λ x. omega (arith, front_length, f.all (omega (arith, front_length)))) k

@@ -2,7 +2,7 @@
 use Prim.Native.Nat.{ℕ, suc, ◌+◌, ◌-◌, ◌*◌, ◌≤◌, ◌<◌}
 use mathlib.Core.Path.{◌≡◌, refl, sym, ap, ap₂, ◌∙◌, subst}
 use mathlib.Core.Bool.{Bool, true, false, cond, ◌&&◌, and-false, true≢false}
-use mathlib.Core.Option.{some}
+use Rattle.std.specs.Prelude.{Some}
 use mathlib.Core.List.{List, [], ◌∷◌, ◌++◌, append-nil}
 use native.Mathlib.Decide.{dec_lt}
 use native.Mathlib.Omega.{arith}
@@ -81,7 +81,7 @@ words_tell es ds k m l e =
     sym ((class_back (flat (class_words es)) es k).same 0 h) ∙ (class_back (flat (class_words es)) ds m).same 0 (said h e)
 
 -- two class tables in the packed layout
-two_offsets : (q : ℕ) (e d : List ℕ) → shared_offsets q (some e ∷ some d ∷ []) ≡ q ∷ cond (eq_list e d) q (q + 2 * length e) ∷ []
+two_offsets : (q : ℕ) (e d : List ℕ) → shared_offsets q (Some e ∷ Some d ∷ []) ≡ q ∷ cond (eq_list e d) q (q + 2 * length e) ∷ []
 unfolding shared_offsets shared_offset drop_null first_of_each without offset_in
 two_offsets q e d = rw (same_list e) (step (eq_list e d))
   where
@@ -89,7 +89,7 @@ two_offsets q e d = rw (same_list e) (step (eq_list e d))
     step true = refl
     step false = rw (same_list d) refl
 
-two_blocks : (e d : List ℕ) → shared_blocks (some e ∷ some d ∷ []) ≡ e ++ cond (eq_list e d) [] d
+two_blocks : (e d : List ℕ) → shared_blocks (Some e ∷ Some d ∷ []) ≡ e ++ cond (eq_list e d) [] d
 unfolding shared_blocks drop_null first_of_each without together
 two_blocks e d = step (eq_list e d)
   where
@@ -100,7 +100,7 @@ two_blocks e d = step (eq_list e d)
 -- A table with a coverage and both class tables.
 module _ (cov : List ℕ) (es ds : List (ℕ × ℕ)) (n1 n2 n : ℕ) (rows : List (List Pair)) where
   abbrev made : Table
-  made = Table.class_pairs (some cov) (some es) (some ds) n1 n2 n rows
+  made = Table.class_pairs (Some cov) (Some es) (Some ds) n1 n2 n rows
 
   abbrev cells : List ℕ
   cells = row_words rows
@@ -133,7 +133,7 @@ module _ (cov : List ℕ) (es ds : List (ℕ × ℕ)) (n1 n2 n : ℕ) (rows : Li
       let q = first_at false cells cover first second in
       let r = second_at false cells cover first second in
       let e : 2 + 2 * 1 + 2 * 2 + 2 * 2 + 2 * suc (suc (length cells)) ≡ p = omega arith in
-      class_pairs_exactly (some cov) (some es) (some ds) n1 n2 n rows g ∙ rw (e, append-nil cover, ne_eqb r 0 (omega arith)) (same_fit p q r _ (length first) (length second) (omega arith) refl refl)
+      class_pairs_exactly (Some cov) (Some es) (Some ds) n1 n2 n rows g ∙ rw (e, append-nil cover, ne_eqb r 0 (omega arith)) (same_fit p q r _ (length first) (length second) (omega arith) refl refl)
 
   plain_laid : (out : List ℕ) → Good made → laid_into out (table_words made) ≡ into false out
   unfolding parts_into
@@ -149,7 +149,7 @@ module _ (cov : List ℕ) (es ds : List (ℕ × ℕ)) (n1 n2 n : ℕ) (rows : Li
       let p = 4 + 2 * 2 + 2 * 2 + 2 * suc (suc (length cells)) in
       let e : p ≡ 16 + 2 * length cells = omega arith in
       packed_is
-      ∙ packed_cells (some cover) (n1 ∷ n2 ∷ []) (some first ∷ some second ∷ []) (length rows ∷ n ∷ cells)
+      ∙ packed_cells (Some cover) (n1 ∷ n2 ∷ []) (Some first ∷ Some second ∷ []) (length rows ∷ n ∷ cells)
       ∙ rw (two_offsets (p + 2 * length (cover ++ [])) first second, two_blocks first second, e, append-nil cover) refl
 
   -- both class tables are one
@@ -159,7 +159,7 @@ module _ (cov : List ℕ) (es ds : List (ℕ × ℕ)) (n1 n2 n : ℕ) (rows : Li
       let p = 4 + 2 * 2 + 2 * 2 + 2 * suc (suc (length cells)) in
       let d : p ≡ cover_at true cells cover first second = omega arith in
       let f : second ≡ first = sym (list_same first second e) in
-      packed_class_pairs_exactly (some cov) (some es) (some ds) n1 n2 n rows g
+      packed_class_pairs_exactly (Some cov) (Some es) (Some ds) n1 n2 n rows g
       ∙ rw (two_offsets (p + 2 * length (cover ++ [])) first second, e, d, append-nil cover, f) (one_fit (cover_at true cells cover first second) (first_at true cells cover first second) (length first) (omega arith))
 
   one_laid : (out : List ℕ) → Good made → eq_list first second ≡ true → laid_into out (packed_words made) ≡ into true out
@@ -193,7 +193,7 @@ module _ (cov : List ℕ) (es ds : List (ℕ × ℕ)) (n1 n2 n : ℕ) (rows : Li
       step true e = one_laid out g e ∙ unfit true out (too_long g e differ) ∙ sym (unfit false out (too_long g e differ))
       step false e = ap (laid_into out) (packed_are ∙ ap (λ (t : Bool). kern_words t cells cover first second n1 n2 (length rows) n) e ∙ sym words_are) ∙ plain_laid out g
 
-  made_laid : (packing : ℕ) (out : List ℕ) → Good made → written_in packing out (some made) ≡ into (shared packing es ds) out
+  made_laid : (packing : ℕ) (out : List ℕ) → Good made → written_in packing out (Some made) ≡ into (shared packing es ds) out
   unfolding written_in words_in shared
   made_laid packing out g = step (eqb packing 1)
     where
@@ -227,7 +227,7 @@ module _ (g cs ds : List (ℕ × ℕ)) (s : List ℕ) where
   tables_up (e ∷ r) z k = (k.0.1.0, k.0.2.0)
 
 -- a table where nothing is null
-cut_kern : (g : List (ℕ × ℕ)) (cov : List ℕ) (cs ds : List (ℕ × ℕ)) (f1 f2 n : ℕ) (rows : List (List Pair)) → cut g [] (Table.class_pairs (some cov) (some cs) (some ds) f1 f2 n rows) ≡ kept_class_pairs g (covered_map g cov) cs ds f1 f2 rows
+cut_kern : (g : List (ℕ × ℕ)) (cov : List ℕ) (cs ds : List (ℕ × ℕ)) (f1 f2 n : ℕ) (rows : List (List Pair)) → cut g [] (Table.class_pairs (Some cov) (Some cs) (Some ds) f1 f2 n rows) ≡ kept_class_pairs g (covered_map g cov) cs ds f1 f2 rows
 unfolding cut
 cut_kern g cov cs ds f1 f2 n rows = refl
 

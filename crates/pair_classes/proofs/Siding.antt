@@ -1,7 +1,7 @@
 -- A class table that is laid into cells: its map, and the entries of the new one.
 use Prim.Native.Nat.{ℕ, ◌+◌, ◌≤◌}
 use mathlib.Core.Path.{◌≡◌, refl}
-use mathlib.Core.Option.{get_or}
+use Rattle.std.specs.Prelude.{unwrap_or}
 use mathlib.Core.List.{List}
 use native.Mathlib.Omega.{arith}
 use lib.ListN.{length}
@@ -46,7 +46,7 @@ module _ (made : List (ℕ × ℕ) → List (ℕ × ℕ) → List (ℕ × ℕ)) 
     classes = w.mapped z cs g lists o.zero
 
     -- the entries stand in the place of the classes, and the map behind them is as before
-    pub sided : get_or (find (made g cs) 0) 0 ≡ 0 → {t : List ℕ} {n : ℕ} → Entries t₂ t list l.len c.map n
+    pub sided : unwrap_or (find (made g cs) 0) 0 ≡ 0 → {t : List ℕ} {n : ℕ} → Entries t₂ t list l.len c.map n
         → Sided (made g cs) cs g t₀ t list (record { map = c.map; count = c.count; entries = record { at = list; len = n } })
     sided zero e = record {
       kept = kept_more kept (elsewhere_kept e.elsewhere);

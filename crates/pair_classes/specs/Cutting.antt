@@ -1,6 +1,5 @@
 -- What a cut asks, by its steps, and what it asks of the cells.
-use Rattle.std.specs.Prelude.{ℕ, ◌+◌, ◌*◌, ◌≤◌, ◌<◌, ◌≡◌, Bool, true, ◌||◌, List, length, eqb}
-use Rattle.std.proofs.Math.Option.{none, some}
+use Rattle.std.specs.Prelude.{ℕ, ◌+◌, ◌*◌, ◌≤◌, ◌<◌, ◌≡◌, Bool, true, ◌||◌, List, length, eqb, None, Some}
 use Rattle.meaning.specs.Words.{word, find}
 use Rattle.meaning.specs.Maps.{good_form, glyph_entries, good_glyph_map}
 use Rattle.meaning.specs.Parts.{coverage, coverage_sound, classes, classes_sound}
@@ -26,7 +25,7 @@ enough_cells = 65536 + 65536 + 2 * table_cells
 
 -- the source is a pair table by class and has no fault, and the glyph map is good
 pub record Sound (s : List ℕ) (form : ℕ) (glyphs : List ℕ) : Type 0 where
-  pub sound : fault 4 s ≡ none
+  pub sound : fault 4 s ≡ None
   pub format : word s 0 ≡ 1 → ⊥
   pub form_good : good_form form ≡ true
   pub glyphs_good : good_glyph_map form glyphs ≡ true
@@ -38,7 +37,7 @@ has_null s = eqb (word s 2) 0 || (eqb (word s 8) 0 || eqb (word s 10) 0)
 -- the table of a source where none is null
 abbrev pub kern_table : List ℕ → Table
 kern_table s =
-    Table.class_pairs (some (coverage s (word s 2))) (some (classes s (word s 8))) (some (classes s (word s 10))) (word s 4) (word s 6) (word s 14)
+    Table.class_pairs (Some (coverage s (word s 2))) (Some (classes s (word s 8))) (Some (classes s (word s 10))) (word s 4) (word s 6) (word s 14)
     (cell_rows s (field_count (word s 4)) (field_count (word s 6)) (word s 14) 16 (word s 12))
 
 -- what the check says of such a source

@@ -22,8 +22,8 @@ use marks::Marks;
 use meet_runs::meet;
 use meets::most;
 use pair_layouts::{Classed, Noted, lay_pairs};
-use room::{LIMIT, Laid};
-use tried::Tried;
+use room::{LIMIT, NotLaid};
+use tried::NotCut;
 use wire::word_inside;
 
 // How many cells are enough for any source: 65,536 for the glyph map, as many for the notes of the covered glyphs, and for each of the two class tables as many for the classes of the glyphs, and those of the class map.
@@ -99,14 +99,14 @@ fn cut_first(
     t: &mut [u32],
     area: &mut [u8],
     out: &mut [u8],
-) -> Tried
+) -> Result<usize, NotCut>
     requires { FirstIn src.now marks.form glyphs.now cover first t.old × (length area.old ≤ limit) }
     ensures { Tries (length t.old < enough_cells) (length area.old < limit) result out.old out.new (written_in marks.layout out.old (cut (glyph_entries marks.form glyphs.now) [] (pair_table src.now))) }
 {
     let list = first.map.at + first.map.mask + 1;
     let second = second_classes(src, word_inside(src, 10), marks.form, glyphs, t, list);
     if second.map.mask == 0 {
-        return Tried::FewCells;
+        return Err(NotCut::FewCells);
     }
     lay_pairs(src, t, cover, first, second, marks.layout, area, out)
 }
@@ -120,19 +120,19 @@ fn cut_noted(
     t: &mut [u32],
     area: &mut [u8],
     out: &mut [u8],
-) -> Tried
+) -> Result<usize, NotCut>
     requires { Noting src.now marks.form glyphs.now cover t.old × (length area.old ≤ limit) }
     ensures { Tries (length t.old < enough_cells) (length area.old < limit) result out.old out.new (written_in marks.layout out.old (cut (glyph_entries marks.form glyphs.now) [] (pair_table src.now))) }
 {
     let n = 4 * cover.len;
     if area.len() < n {
-        return Tried::Short;
+        return Err(NotCut::Short);
     }
     put_covered(src, word_inside(src, 2), t, cover.at, cover.len, area);
     let list = cover.at + cover.len;
     let first = first_classes(src, word_inside(src, 8), 4, &area[..n], t, list);
     if first.map.mask == 0 {
-        return Tried::FewCells;
+        return Err(NotCut::FewCells);
     }
     cut_first(src, marks, glyphs, cover, first, t, area, out)
 }
@@ -146,18 +146,18 @@ fn cut_map(
     t: &mut [u32],
     area: &mut [u8],
     out: &mut [u8],
-) -> Tried
+) -> Result<usize, NotCut>
     requires { Begins src.now marks.form glyphs.now m t.old × (length area.old ≤ limit) }
     ensures { Tries (length t.old < enough_cells) (length area.old < limit) result out.old out.new (written_in marks.layout out.old (cut (glyph_entries marks.form glyphs.now) [] (pair_table src.now))) }
 {
     let at = m.mask + 1;
     let cover = word_inside(src, 2);
     if t.len() <= at + most(src, cover, glyphs, marks.form) {
-        return Tried::FewCells;
+        return Err(NotCut::FewCells);
     }
     let len = meet(src, cover, glyphs, marks.form, m, t, at);
     if len == 0 {
-        return Tried::Became(Laid::Nothing);
+        return Err(NotCut::Refused(NotLaid::Nothing));
     }
     cut_noted(src, marks, glyphs, Noted { at, len }, t, area, out)
 }
@@ -184,16 +184,16 @@ fn cut_in(
     t: &mut [u32],
     area: &mut [u8],
     out: &mut [u8],
-) -> Tried
+) -> Result<usize, NotCut>
     requires { Sound src.now marks.form glyphs.now × (length area.old ≤ limit) }
     ensures { Tries (length t.old < enough_cells) (length area.old < limit) result out.old out.new (written_in marks.layout out.old (cut (glyph_entries marks.form glyphs.now) [] (pair_table src.now))) }
 {
     if has_null(src) {
-        return Tried::Became(Laid::Nothing);
+        return Err(NotCut::Refused(NotLaid::Nothing));
     }
     let m = lay_glyphs(glyphs, marks.form, t, 0);
     if m.mask == 0 {
-        return Tried::FewCells;
+        return Err(NotCut::FewCells);
     }
     cut_map(src, marks, glyphs, m, t, area, out)
 }
@@ -217,7 +217,7 @@ pub fn class_pairs(
     t: &mut [u32],
     area: &mut [u8],
     out: &mut [u8],
-) -> Tried
+) -> Result<usize, NotCut>
     requires { Sound src.now marks.form glyphs.now }
     ensures { Tries (length t.old < enough_cells) (length area.old < limit) result out.old out.new (written_in marks.layout out.old (cut (glyph_entries marks.form glyphs.now) [] (pair_table src.now))) }
 {

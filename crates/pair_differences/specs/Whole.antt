@@ -1,8 +1,7 @@
 -- A pair table by glyph as a whole: its first glyphs, each with its pairs, and what is known of a sound one.
-use Rattle.std.specs.Prelude.{ℕ, zero, suc, ◌+◌, ◌*◌, ◌≤◌, ◌<◌, ◌≡◌, refl, Bool, true, false, cond, ◌&&◌, ◌||◌, not, List, [], ◌∷◌, map, length, get_or, leb, eqb}
+use Rattle.std.specs.Prelude.{ℕ, zero, suc, ◌+◌, ◌*◌, ◌≤◌, ◌<◌, ◌≡◌, refl, Bool, true, false, cond, ◌&&◌, ◌||◌, not, List, [], ◌∷◌, map, length, get_or, leb, eqb, Option, None, Some}
 use Rattle.std.proofs.Common.{sym, ◌∙◌, true≢false, zero-add, arith, eq-eqb, eqb-true, leb-true}
 use Rattle.std.proofs.Math.Path.{ap}
-use Rattle.std.proofs.Math.Option.{Option, none, some}
 use Rattle.std.proofs.lemmas.Bool.{eqb-false}
 use Rattle.meaning.specs.Words.{word, inside, bind, up_from}
 use Rattle.meaning.specs.Parts.{coverage, coverage_sound}
@@ -28,9 +27,9 @@ pairs_in s = by_index (pair_says (word s 4) (word s 6)) (cover_of s) (reaches (p
 -- What is known of a sound table: its coverage is sound, a covered glyph's pairs are those of the set in its slot, and they ascend.
 pub record PairTable (s : List ℕ) : Type 0 where
   pub cover : sound_cover s ≡ true
-  pub slots : (g : ℕ) → beside (pairs_in s) g ≡ bind (index_of (cover_of s) g) (λ i. some (held s (word s (10 + 2 * i))))
-  pub few : (g i : ℕ) → index_of (cover_of s) g ≡ some i → i < 65536
-  pub ascend : (g i : ℕ) → index_of (cover_of s) g ≡ some i → Up 0 (glyphs_of (held s (word s (10 + 2 * i))))
+  pub slots : (g : ℕ) → beside (pairs_in s) g ≡ bind (index_of (cover_of s) g) (λ i. Some (held s (word s (10 + 2 * i))))
+  pub few : (g i : ℕ) → index_of (cover_of s) g ≡ Some i → i < 65536
+  pub ascend : (g i : ℕ) → index_of (cover_of s) g ≡ Some i → Up 0 (glyphs_of (held s (word s (10 + 2 * i))))
 
 -- what a slot's set holds
 set_held : (s : List ℕ) (slot : ℕ) → map (pair_says (word s 4) (word s 6)) (set_holds (reach (pair_set (field_count (word s 4)) (field_count (word s 6)) s) s 0 slot)) ≡ held s (word s slot)
@@ -40,7 +39,7 @@ set_held s slot = rw (zero-add (word s slot)) (step (eqb (word s slot) 0))
     f : ℕ → List (ℕ × List ℕ)
     f n = map (pair_says (word s 4) (word s 6)) (pair_records s (field_count (word s 4)) (field_count (word s 6)) (word s slot + 2) n)
 
-    step : (b : Bool) → map (pair_says (word s 4) (word s 6)) (set_holds (cond b none (some (pair_records s (field_count (word s 4)) (field_count (word s 6)) (word s slot + 2) (word s (word s slot))))))
+    step : (b : Bool) → map (pair_says (word s 4) (word s 6)) (set_holds (cond b None (Some (pair_records s (field_count (word s 4)) (field_count (word s 6)) (word s slot + 2) (word s (word s slot))))))
         ≡ f (cond b 0 (word s (word s slot)))
     step true = refl
     step false = refl
@@ -54,9 +53,9 @@ content_pairs s f = rw (table_pairs s, eq-eqb _ _ f)
 abbrev good_header : List ℕ → Bool
 good_header s = good_formats s && enough s (word s 8)
 
-module _ (s : List ℕ) (f : word s 0 ≡ 1) (h : fault 4 s ≡ none) where
+module _ (s : List ℕ) (f : word s 0 ≡ 1) (h : fault 4 s ≡ None) where
   -- its header has no fault
-  header : header_fault (good_header s) 0 8 (pair_set_fault (field_count (word s 4)) (field_count (word s 6)) s) s ≡ none
+  header : header_fault (good_header s) 0 8 (pair_set_fault (field_count (word s 4)) (field_count (word s 6)) s) s ≡ None
   unfolding pair_fault
   header = rw (eq-eqb _ _ f) at (part_sound 0 (inside s 0 2) (pair_fault s) (sym (fault_pairs s) ∙ h)).1
 
@@ -67,11 +66,11 @@ module _ (s : List ℕ) (f : word s 0 ≡ 1) (h : fault 4 s ≡ none) where
   below = covered_below s (word s 8) covers (both (good_formats s) (enough s (word s 8)) (header_good s (good_header s) 0 8 (pair_set_fault (field_count (word s 4)) (field_count (word s 6)) s) header).0).1
 
   -- a covered glyph's pairs are those of the set in its slot
-  in_slots : (g : ℕ) → beside (pairs_in s) g ≡ bind (index_of (cover_of s) g) (λ i. some (held s (word s (10 + 2 * i))))
+  in_slots : (g : ℕ) → beside (pairs_in s) g ≡ bind (index_of (cover_of s) g) (λ i. Some (held s (word s (10 + 2 * i))))
   unfolding pairs_in
   in_slots g =
       by_slot (pair_says (word s 4) (word s 6)) (pair_set (field_count (word s 4)) (field_count (word s 6)) s) s 10 (word s 8) below g
-      ∙ bind_same (index_of (cover_of s) g) (λ i. ap some (set_held s (10 + 2 * i)))
+      ∙ bind_same (index_of (cover_of s) g) (λ i. ap Some (set_held s (10 + 2 * i)))
 
   -- a table without a fault is sound
   pub pair_table_lem : Bytes s → PairTable s

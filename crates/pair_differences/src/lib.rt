@@ -1,8 +1,7 @@
 // What differs between two pair tables by glyph (kind 4, format 1): pairs that one of them has, and values, field by field. The tables stand at the front of their slices.
 #![tactic(auto)]
 
-ghost use Rattle.std.specs.Prelude.{◌≡◌, true, ◌+◌, ◌-◌, ◌*◌, ◌≤◌, ◌<◌};
-ghost use Rattle.std.proofs.Math.Option.{none};
+ghost use Rattle.std.specs.Prelude.{◌≡◌, true, ◌+◌, ◌-◌, ◌*◌, ◌≤◌, ◌<◌, None};
 ghost use Rattle.meaning.specs.Words.{word, words, up_from};
 ghost use Rattle.meaning.specs.Tables.{table};
 ghost use Rattle.meaning.specs.Fault.{fault};
@@ -15,7 +14,6 @@ ghost use Rattle.first_glyphs.specs.First.{at_glyph};
 ghost use Rattle.value_differences.specs.Held.{values_at, size_of, count_in, next_second, held};
 ghost use Rattle.pair_differences.specs.Whole.{pairs_in, PairTable};
 
-use coverage_index::Covered;
 use first_glyphs::{cover_index, list_right};
 use listing::put_listed;
 use pair_places::field_count;
@@ -27,12 +25,10 @@ fn same_words(left: &[u8], p: usize, right: &[u8], q: usize, n: usize) -> bool
     requires { (p < 0x2_0000_0000) × (q < 0x2_0000_0000) × (n ≤ 8) }
     ensures { result ≡ true → words left.now p n ≡ words right.now q n }
 {
-    let mut i = 0;
-    while i < n {
+    for i in 0..n {
         if word_at(left, p + 2 * i) != word_at(right, q + 2 * i) {
             return false;
         }
-        i += 1;
     }
     true
 }
@@ -124,6 +120,7 @@ fn list_sets(
     let mut m = count_in(left, l);
     let mut q = r + 2;
     let mut n = count_in(right, r);
+    // A while: a step passes a pair of one side, or of both.
     'pairs: while 0 < m + n {
         let a = next_second(left, p, m);
         let b = next_second(right, q, n);
@@ -153,10 +150,10 @@ fn list_glyph(left: &[u8], right: &[u8], g: usize, out: &mut [u8], pos: usize) -
     requires { PairTable left.now × PairTable right.now × (g < 65536) × (pos < 0x1000_0000_0000) }
     ensures { Listed (at_glyph pair_entries (pairs_in left.now) (pairs_in right.now) g) out.old pos out.new result × (result ≤ pos + 0x100_0000) }
 {
-    let Covered::At(i) = cover_index(left, g) else {
+    let Some(i) = cover_index(left, g) else {
         return list_right(right, g, out, pos);
     };
-    let Covered::At(j) = cover_index(right, g) else {
+    let Some(j) = cover_index(right, g) else {
         return put_listed(out, pos, 2, 0, g, 0, 0, 0);
     };
     let l = word_at(left, 10 + 2 * i);
@@ -166,14 +163,12 @@ fn list_glyph(left: &[u8], right: &[u8], g: usize, out: &mut [u8], pos: usize) -
 
 // What differs between two sound pair tables by glyph, listed from `pos` on, where there is room; the place after it. All ids are asked in both coverages.
 pub fn list_pairs(left: &[u8], right: &[u8], out: &mut [u8], pos: usize) -> usize
-    requires { (fault 4 left.now ≡ none) × (word left.now 0 ≡ 1) × (fault 4 right.now ≡ none) × (word right.now 0 ≡ 1) × (pos < 0x800_0000_0000) }
+    requires { (fault 4 left.now ≡ None) × (word left.now 0 ≡ 1) × (fault 4 right.now ≡ None) × (word right.now 0 ≡ 1) × (pos < 0x800_0000_0000) }
     ensures { Listed (differences (content (table 4 left.now)) (content (table 4 right.now))) out.old pos out.new result × (result ≤ pos + 0x100_0000_0000) }
 {
     let mut at = pos;
-    let mut g = 0;
-    while g < 65536 {
+    for g in 0..65536 {
         at = list_glyph(left, right, g, out, at);
-        g += 1;
     }
     at
 }

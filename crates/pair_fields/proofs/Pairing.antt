@@ -2,14 +2,14 @@
 use Prim.Native.Nat.{ℕ, suc, ◌+◌, ◌-◌, ◌*◌, ◌≤◌, ◌<◌}
 use mathlib.Core.Path.{◌≡◌, refl, sym, ap, ◌∙◌}
 use mathlib.Core.Bool.{Bool, true, false, ◌&&◌, ◌||◌, not}
-use mathlib.Core.Option.{none, some}
+use Rattle.std.specs.Prelude.{None, Some}
 use mathlib.Core.List.{List, [], ◌∷◌, ◌++◌, map, append_assoc, append-nil}
 use native.Mathlib.Nat.{mul-suc}
 use native.Mathlib.Omega.{arith}
 use lib.ListN.{length, get_or, drop, length-append, drop_of_length-le}
 use lib.Seq.{sets, length-sets, drop-cons}
 use lib.Dec.{eqb}
-use borrow.Author.Tests.{eq-eqb, ne_eqb}
+use borrow.Author.Tests.{ne_eqb}
 use Rattle.meaning.specs.Words.{word, bytes2, find, is_some, bind, push}
 use Rattle.meaning.specs.Cut.{unless_empty}
 use Rattle.meaning.specs.Layout.{block}
@@ -87,12 +87,12 @@ front_most [] (d ∷ done) rest e = absurd (omega (arith, ap length e))
 front_most (a ∷ all) done rest e = omega (arith, ap (λ (l : List (List ℕ)). length (rows l)) e, ap length (rows_append done rest), length-append (rows done) (rows rest))
 
 -- no pairs, no set; else their set
-empty : (l : List (List ℕ)) → length l ≡ 0 → block pair_set_of (unless_empty l) ≡ none
+empty : (l : List (List ℕ)) → length l ≡ 0 → block pair_set_of (unless_empty l) ≡ None
 unfolding block unless_empty
 empty [] v = refl
 empty (x ∷ l) v = absurd (omega arith)
 
-some_left : (l : List (List ℕ)) → (length l ≡ 0 → ⊥) → block pair_set_of (unless_empty l) ≡ some (length l ∷ rows l)
+some_left : (l : List (List ℕ)) → (length l ≡ 0 → ⊥) → block pair_set_of (unless_empty l) ≡ Some (length l ∷ rows l)
 unfolding block unless_empty pair_set_of
 some_left [] v = absurd (v refl)
 some_left (x ∷ l) v = refl
@@ -137,13 +137,13 @@ module _ {g : List (ℕ × ℕ)} {s : List ℕ} {size : ℕ} {places : List ℕ}
       later : p + size + size * (n - (i + 1)) ≤ length s
       later = omega (arith, c.inside, mul_left size n i h)
 
-      first : {x : ℕ} → x ≡ word s p → c.done ++ push (bind (find g x) (λ y. some (y ∷ map (value_at s p) places))) (pairs_in g s size places (p + size) (n - (i + 1))) ≡ pairs_in g s size places (at + 2) n
+      first : {x : ℕ} → x ≡ word s p → c.done ++ push (bind (find g x) (λ y. Some (y ∷ map (value_at s p) places))) (pairs_in g s size places (p + size) (n - (i + 1))) ≡ pairs_in g s size places (at + 2) n
       unfolding pairs_in
       first e =
           let d : n - i ≡ suc (n - (i + 1)) = omega arith in
           rw e (rw d at c.left)
 
-      pub pairing_gone : {x : ℕ} → x ≡ word s p → find g x ≡ none → Pairing g s size places at n area₀ pos area k q (p + size) (i + 1)
+      pub pairing_gone : {x : ℕ} → x ≡ word s p → find g x ≡ None → Pairing g s size places at n area₀ pos area k q (p + size) (i + 1)
       unfolding bind push
       pairing_gone e f = record {
         within = omega arith;
@@ -158,7 +158,7 @@ module _ {g : List (ℕ × ℕ)} {s : List ℕ} {size : ℕ} {places : List ℕ}
         extends = c.extends;
       }
 
-      pub pairing_one : {x y r : ℕ} {next : List ℕ} → x ≡ word s p → find g x ≡ some y → Extends area q (y ∷ map (value_at s p) places) next r
+      pub pairing_one : {x y r : ℕ} {next : List ℕ} → x ≡ word s p → find g x ≡ Some y → Extends area q (y ∷ map (value_at s p) places) next r
           → Pairing g s size places at n area₀ pos next (k + 1) r (p + size) (i + 1)
       unfolding bind push
       pairing_one {x} {y} {r} {next} e f o =
@@ -204,52 +204,44 @@ module _ {g : List (ℕ × ℕ)} {s : List ℕ} {size : ℕ} {places : List ℕ}
       pairing_end {m} {r} {after} z o = leaves_words (sym left_is ∙ some_left c.done (λ v. z (sym c.count ∙ v)))
           (extends_before (length c.done ∷ []) c.extends refl (o.1 ∙ ap (sets area pos) (ap bytes2 (sym c.count) ∙ sym (flat_one (length c.done)))))
 
--- What the loop of `field_used` keeps: the answer for what is left is the whole answer.
-pub record Using (g : List (ℕ × ℕ)) (s : List ℕ) (size place at p left : ℕ) : Type 0 where
-  pub inside : p + size * left ≤ length s
-  pub rest : field_used g s size place p left ≡ field_used g s size place (at + 2) (word s at)
+-- What the loop of `field_used` keeps: the answer for the records from the i-th on is the whole answer.
+pub record Using (g : List (ℕ × ℕ)) (s : List ℕ) (size place at n i : ℕ) : Type 0 where
+  pub inside : at + 2 + size * i + size * (n - i) ≤ length s
+  pub rest : field_used g s size place (at + 2 + size * i) (n - i) ≡ field_used g s size place (at + 2) (word s at)
 
-module _ {g : List (ℕ × ℕ)} {s : List ℕ} {size place at : ℕ} where
-  pub using_all : {n : ℕ} → n ≡ word s at → at + 2 + size * word s at ≤ length s → Using g s size place at (at + 2) n
-  using_all e h = record { inside = rw e h; rest = rw e }
+module _ {g : List (ℕ × ℕ)} {s : List ℕ} {size place at n : ℕ} where
+  pub using_all : n ≡ word s at → at + 2 + size * word s at ≤ length s → Using g s size place at n 0
+  using_all e h =
+      let p : at + 2 + size * 0 ≡ at + 2 = omega arith in
+      let d : n - 0 ≡ n = omega arith in
+      record { inside = rw (p, d, e) h; rest = rw (p, d, e) }
 
-  module _ {p left : ℕ} (c : Using g s size place at p left) where
-    pub using_end : left ≤ 0 → false ≡ field_used g s size place (at + 2) (word s at)
+  module _ {i : ℕ} (c : Using g s size place at n i) where
+    pub using_end : n ≤ i → false ≡ field_used g s size place (at + 2) (word s at)
     unfolding field_used
     using_end h =
-        let e : left ≡ 0 = omega arith in
+        let e : n - i ≡ 0 = omega arith in
         rw e at c.rest
 
-    module _ (h : 0 < left) where
-      one_less : left ≡ suc (left - 1)
-      one_less = omega arith
+    module _ (h : i < n) where
+      pub using_inside : at + 2 + size * i + size ≤ length s
+      using_inside = omega (arith, c.inside, mul_left size n i h)
 
-      shorter : size * left ≡ size * (left - 1) + size
-      shorter = ap (λ (x : ℕ). size * x) one_less ∙ mul-suc size (left - 1)
-
-      pub using_inside : p + size ≤ length s
-      using_inside = omega (arith, c.inside, shorter)
-
-      now_is : {u : Bool} → u ≡ not (eqb (value_at s p place) 0) && is_some (find g (word s p)) → u || field_used g s size place (p + size) (left - 1) ≡ field_used g s size place (at + 2) (word s at)
+      now_is : {u : Bool} → u ≡ not (eqb (value_at s (at + 2 + size * i) place) 0) && is_some (find g (word s (at + 2 + size * i)))
+          → u || field_used g s size place (at + 2 + size * (i + 1)) (n - (i + 1)) ≡ field_used g s size place (at + 2) (word s at)
       unfolding field_used
-      now_is e = rw e (rw one_less at c.rest)
+      now_is e =
+          let d : n - i ≡ suc (n - (i + 1)) = omega arith in
+          let p : at + 2 + size * (i + 1) ≡ at + 2 + size * i + size = omega arith in
+          rw (e, p) (rw d at c.rest)
 
-      pub using_found : {u : Bool} → u ≡ not (eqb (value_at s p place) 0) && is_some (find g (word s p)) → u ≡ true → true ≡ field_used g s size place (at + 2) (word s at)
+      pub using_found : {u : Bool} → u ≡ not (eqb (value_at s (at + 2 + size * i) place) 0) && is_some (find g (word s (at + 2 + size * i))) → u ≡ true → true ≡ field_used g s size place (at + 2) (word s at)
       using_found e t = rw t at (now_is e)
 
-      pub using_next : {u : Bool} → u ≡ not (eqb (value_at s p place) 0) && is_some (find g (word s p)) → u ≡ false → Using g s size place at (p + size) (left - 1)
-      using_next e t = record { inside = omega (arith, c.inside, shorter); rest = rw t at (now_is e) }
+      pub using_next : {u : Bool} → u ≡ not (eqb (value_at s (at + 2 + size * i) place) 0) && is_some (find g (word s (at + 2 + size * i))) → u ≡ false → Using g s size place at n (i + 1)
+      using_next e t = record { inside = omega (arith, c.inside, mul_left size n i h); rest = rw t at (now_is e) }
 
--- The three ways through `speaks`.
-module _ (g : List (ℕ × ℕ)) (s : List ℕ) (p place : ℕ) {v : ℕ} (e : v ≡ value_at s p place) where
-  pub speaks_silent : v ≡ 0 → false ≡ not (eqb (value_at s p place) 0) && is_some (find g (word s p))
-  speaks_silent z = rw (eq-eqb (value_at s p place) 0 (sym e ∙ z))
-
-  module _ (z : v ≡ 0 → ⊥) {x : ℕ} (w : x ≡ word s p) where
-    pub speaks_kept : {y : ℕ} → find g x ≡ some y → true ≡ not (eqb (value_at s p place) 0) && is_some (find g (word s p))
-    unfolding is_some
-    speaks_kept f = rw (ne_eqb (value_at s p place) 0 (λ q. z (e ∙ q)), ← w, f)
-
-    pub speaks_gone : find g x ≡ none → false ≡ not (eqb (value_at s p place) 0) && is_some (find g (word s p))
-    unfolding is_some
-    speaks_gone f = rw (ne_eqb (value_at s p place) 0 (λ q. z (e ∙ q)), ← w, f)
+-- `speaks`, where the value is not 0
+pub speaks_if : (g : List (ℕ × ℕ)) (s : List ℕ) (p place : ℕ) {v : ℕ} → v ≡ value_at s p place → (v ≡ 0 → ⊥) → {x : ℕ} → x ≡ word s p → {b : Bool} → b ≡ is_some (find g x)
+    → b ≡ not (eqb (value_at s p place) 0) && is_some (find g (word s p))
+speaks_if g s p place e z w f = rw (ne_eqb (value_at s p place) 0 (λ q. z (e ∙ q)), ← w) f

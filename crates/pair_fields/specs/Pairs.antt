@@ -1,6 +1,5 @@
 -- What is left of a pair set, by the places of the fields that stay.
-use Rattle.std.specs.Prelude.{ℕ, zero, suc, ◌+◌, ◌*◌, ◌≤◌, Bool, false, cond, ◌&&◌, ◌||◌, not, List, [], ◌∷◌, ◌++◌, map, length, get_or, eqb}
-use Rattle.std.proofs.Math.Option.{Option, none, some}
+use Rattle.std.specs.Prelude.{ℕ, zero, suc, ◌+◌, ◌*◌, ◌≤◌, Bool, false, cond, ◌&&◌, ◌||◌, not, List, [], ◌∷◌, ◌++◌, map, length, get_or, eqb, Option, Some}
 use Rattle.std.proofs.Common.{arith}
 use Rattle.meaning.specs.Words.{word, find, is_some, bind, push}
 use Rattle.meaning.specs.Cut.{unless_empty}
@@ -32,7 +31,7 @@ reads_record h k = record { few = k.few; within = λ i. omega (arith, k.within i
 -- the words of the pairs that survive of n records from p on: the new second glyph and the values that stay
 unfoldable pub pairs_in : List (ℕ × ℕ) → List ℕ → ℕ → List ℕ → ℕ → ℕ → List (List ℕ)
 pairs_in g s size places p zero = []
-pairs_in g s size places p (suc n) = push (bind (find g (word s p)) (λ y. some (y ∷ map (value_at s p) places))) (pairs_in g s size places (p + size) n)
+pairs_in g s size places p (suc n) = push (bind (find g (word s p)) (λ y. Some (y ∷ map (value_at s p) places))) (pairs_in g s size places (p + size) n)
 
 -- words of pairs, one after the other
 unfoldable pub rows : List (List ℕ) → List ℕ

@@ -8,7 +8,7 @@ ghost use Rattle.numbers.specs.Entries.{entries_in};
 ghost use Rattle.pair_fields.specs.Pairs.{value_at, field_used};
 
 use cell_maps::Map;
-use fold::{Found, find};
+use fold::find;
 use wire::word_inside;
 
 // The value that stands `place` bytes into the pair record at `p`; the place 0 is that of a field that the record has not, which reads as 0.
@@ -31,10 +31,7 @@ fn speaks(src: &[u8], p: usize, place: usize, t: &[u32], glyphs: Map) -> bool
     if value == 0 {
         return false;
     }
-    match find(t, glyphs, word_inside(src, p)) {
-        Found::New(_) => true,
-        Found::Gone => false,
-    }
+    find(t, glyphs, word_inside(src, p)).is_some()
 }
 
 // Whether some surviving pair of the set at `at`, whose records are `size` bytes long, has a value at `place` that is not 0.
@@ -42,14 +39,11 @@ pub fn field_used(src: &[u8], at: usize, size: usize, place: usize, t: &[u32], g
     requires { (at + 2 + size * word src.now at ≤ length src.now) × (place + 2 ≤ size) × Inside t.now glyphs }
     ensures { result ≡ field_used (entries_in t.now glyphs) src.now size place (at + 2) (word src.now at) }
 {
-    let mut p = at + 2;
-    let mut left = word_inside(src, at);
-    'pairs: while 0 < left {
-        if speaks(src, p, place, t, glyphs) {
+    let n = word_inside(src, at);
+    for i in 0..n {
+        if speaks(src, at + 2 + size * i, place, t, glyphs) {
             return true;
         }
-        p += size;
-        left -= 1;
     }
     false
 }

@@ -1,4 +1,5 @@
 -- The parts are written one after the other, and the header before them; then they are handed over.
+use Rattle.std.specs.Prelude.{Result, Err}
 use Prim.Native.Nat.{ℕ, ◌+◌, ◌-◌, ◌*◌, ◌≤◌, ◌<◌}
 use mathlib.Core.Path.{◌≡◌, refl, sym, ap, ◌∙◌, subst}
 use mathlib.Core.Bool.{Bool, true, false, cond}
@@ -14,8 +15,8 @@ use Rattle.meaning.specs.Subset.{Outcome, refused, limit}
 use Rattle.laws.specs.Stands.{flat_length}
 use Rattle.laws.specs.Written.{Wrote, wrote_none, wrote_two, wrote_three}
 use Rattle.room.specs.Laid.{outcome_of, laid_as, laid_over}
-use Rattle.room.specs.declared.Laid.{Laid}
-use Rattle.room.specs.declared.Laid.TheVariants.{TooBig}
+use Rattle.room.specs.declared.NotLaid.{NotLaid}
+use Rattle.room.specs.declared.NotLaid.TheVariants.{TooBig}
 use Rattle.area.specs.Extends.{Extends, Tried, extends_more, extends_said}
 use Rattle.area.specs.Stored.{extends_before}
 use Rattle.area.specs.Part.{part, take_part, news, notes}
@@ -23,8 +24,8 @@ use Rattle.numbers.specs.Entries.{entries_in}
 use Rattle.pair_sets.specs.declared.Formats.{Formats}
 use Rattle.class_formats.specs.Kept.{NewFormats, kept_cells}
 use Rattle.tried.specs.Tries.{Tries}
-use Rattle.tried.specs.declared.Tried as Answer
-use Rattle.tried.specs.declared.Tried.TheVariants.{Short, Became}
+use Rattle.tried.specs.declared.NotCut.{NotCut}
+use Rattle.tried.specs.declared.NotCut.TheVariants.{Short, Refused}
 use Rattle.pair_layouts.specs.Kerning.{shared, head_words, fits_at, cover_at, first_at, second_at, last, end_at, kern_words, parts_into, kern_into, left_into}
 use Rattle.pair_layouts.specs.Laying.{one_table, Ended, Ordered, NoRoom}
 use Rattle.pair_layouts.specs.declared.Noted.{Noted}
@@ -108,12 +109,12 @@ pub too_short : {n : ℕ} → n < 262144 → NoRoom n Short
 unfolding limit
 too_short h = record { told = λ out made k. (h, refl) }
 
-pub too_big : {n : ℕ} → 262144 ≤ n → NoRoom n (Became TooBig)
+pub too_big : {n : ℕ} → 262144 ≤ n → NoRoom n (Refused TooBig)
 unfolding limit
 too_big h = record { told = λ out made k. k h }
 
-pub room_told : {n m : ℕ} {r : Answer.Tried} {out : List ℕ} {made : Outcome} → NoRoom n r → n ≡ m → (limit ≤ n → refused out 9 ≡ made) → Tries ⊥ (m < limit) r out out made
-room_told {n} {m} {r} {out} {made} h e k = subst (λ (i : ℕ). Tries ⊥ (i < limit) r out out made) e (h.told out made k)
+pub room_told : {n m : ℕ} {r : NotCut} {out : List ℕ} {made : Outcome} → NoRoom n r → n ≡ m → (limit ≤ n → refused out 9 ≡ made) → Tries ⊥ (m < limit) (Err r) out out made
+room_told {n} {m} {r} {out} {made} h e k = subst (λ (i : ℕ). Tries ⊥ (i < limit) (Err r) out out made) e (h.told out made k)
 
 -- an area that is not over the limit
 pub area_small : (area : List ℕ) → length area ≤ limit → length area ≤ 262144
@@ -175,7 +176,7 @@ module _ (one : Bool) (cells cover first second : List ℕ) (out : List ℕ) (n1
         pub in_order_lem : Ordered e
         in_order_lem = let q = second_between one (first_at one cells cover first second) (length first) (length behind) in record { first = omega (arith, first_is, second_is, q.0); second = omega (arith, second_is, end_is, q.1) }
 
-        pub all_laid : {d : List ℕ} {fit : Bool} (laid : Laid) (after : List ℕ) → d ≡ sets c 0 (flat (head_words n1 n2 rows columns e.cover e.first e.second)) → fit ≡ fits_at e.first e.second e.end
+        pub all_laid : {d : List ℕ} {fit : Bool} (laid : Result ℕ NotLaid) (after : List ℕ) → d ≡ sets c 0 (flat (head_words n1 n2 rows columns e.cover e.first e.second)) → fit ≡ fits_at e.first e.second e.end
             → outcome_of laid after ≡ laid_as fit out (part d 0 0 ++ part d 0 (e.end - 0)) → outcome_of laid after ≡ parts_into one cells cover first second out n1 n2 rows columns
         unfolding parts_into kern_words part
         all_laid {d} {fit} laid after headed fitted handed =
@@ -225,6 +226,6 @@ module _ (packing : ℕ) (s t : List ℕ) (cover : Noted) (first second : Classe
         pub ordered : Ordered e
         ordered = in_order_lem one cells glyphs firsts seconds out f.n1 f.n2 first.count second.count w l v k
 
-        pub left_laid : {d : List ℕ} {fit : Bool} (laid : Laid) (after : List ℕ) → d ≡ sets c 0 (flat (head_words f.n1 f.n2 first.count second.count e.cover e.first e.second)) → fit ≡ fits_at e.first e.second e.end
+        pub left_laid : {d : List ℕ} {fit : Bool} (laid : Result ℕ NotLaid) (after : List ℕ) → d ≡ sets c 0 (flat (head_words f.n1 f.n2 first.count second.count e.cover e.first e.second)) → fit ≡ fits_at e.first e.second e.end
             → outcome_of laid after ≡ laid_as fit out (part d 0 0 ++ part d 0 (e.end - 0)) → outcome_of laid after ≡ left_into packing out s t cover first second
         left_laid laid after x y z = all_laid one cells glyphs firsts seconds out f.n1 f.n2 first.count second.count w l v k laid after x y z ∙ parts_left

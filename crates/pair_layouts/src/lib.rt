@@ -18,8 +18,8 @@ use class_cells::write_cells;
 use class_formats::new_formats;
 use handing::hand_over;
 use pair_sets::Formats;
-use room::{HIGHEST, LIMIT, LONGEST, Laid};
-use tried::Tried;
+use room::{HIGHEST, LIMIT, LONGEST, NotLaid};
+use tried::NotCut;
 
 // Cells in a row: where the first stands, and how many there are.
 #[derive(Clone, Copy)]
@@ -53,17 +53,7 @@ fn shares(t: &[u32], first: Noted, second: Noted, packing: usize) -> bool
     if packing != 1 {
         return false;
     }
-    if first.len != second.len {
-        return false;
-    }
-    let mut i = 0;
-    while i < first.len {
-        if t[first.at + i] != t[second.at + i] {
-            return false;
-        }
-        i += 1;
-    }
-    true
+    &t[first.at..first.at + first.len] == &t[second.at..second.at + second.len]
 }
 
 // A coverage and one class table behind it, which is that of the first classes and of the second.
@@ -136,13 +126,13 @@ fn fits(ends: Ends) -> bool
 }
 
 // What is answered where the area has no room: it is too short, or, if it is as long as the limit, the layout is too big.
-fn no_room(area: &[u8]) -> Tried
+fn no_room(area: &[u8]) -> NotCut
     ensures { NoRoom (length area.now) result }
 {
     if area.len() < LIMIT {
-        return Tried::Short;
+        return NotCut::Short;
     }
-    Tried::Became(Laid::TooBig)
+    NotCut::Refused(NotLaid::TooBig)
 }
 
 // What is left of the table, of which the cells hold the classes and the covered glyphs, written into the area and handed over if there is room.
@@ -155,22 +145,22 @@ pub fn lay_pairs(
     packing: usize,
     area: &mut [u8],
     out: &mut [u8],
-) -> Tried
+) -> Result<usize, NotCut>
     requires { Ready src.now t.now cover first second × (length area.old ≤ limit) }
     ensures { Tries (⊥) (length area.old < limit) result out.old out.new (left_into packing out.old src.now t.now cover first second) }
 {
     if area.len() < 16 {
-        return Tried::Short;
+        return Err(NotCut::Short);
     }
     let f = new_formats(src, t, first.map, second.map);
     let p = write_cells(src, f, t, first.map, second.map, area, 16);
     if area.len() < p {
-        return no_room(area);
+        return Err(no_room(area));
     }
     let ends = write_tail(t, cover, first.entries, second.entries, packing, area, p);
     if area.len() < ends.end {
-        return no_room(area);
+        return Err(no_room(area));
     }
     write_head(area, ends, f, first.count, second.count);
-    Tried::Became(hand_over(area, 0, 0, ends.end, fits(ends), out))
+    Ok(hand_over(area, 0, 0, ends.end, fits(ends), out)?)
 }

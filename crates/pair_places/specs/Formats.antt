@@ -1,10 +1,9 @@
 -- Value formats: where the fields that stay stand in a pair record, and what is left of a pair set under new formats.
 use Prim.Native.Nat.{ℕ, zero, suc, ◌+◌, ◌*◌, ◌/◌, ◌%◌, ◌≤◌, ◌<◌}
-use Rattle.std.specs.Prelude.{◌≡◌, Bool, cond, ◌&&◌, ◌||◌, length, get_or, eqb}
+use Rattle.std.specs.Prelude.{◌≡◌, Bool, cond, ◌&&◌, ◌||◌, length, get_or, eqb, Option, None, Some}
 use Rattle.std.proofs.Math.Path.{refl, ap, ap₂}
 use Rattle.std.proofs.Common.{sym, ◌∙◌, length-append, eq-eqb, ne_eqb, eqb-true}
 use Rattle.std.proofs.Math.Bool.{true, false, not}
-use Rattle.std.proofs.Math.Option.{Option, none, some}
 use mathlib.Core.List.{List, [], ◌∷◌, ◌++◌, map, append_assoc}
 use Rattle.std.proofs.Math.Nat.{div-eq_of_lt}
 use native.Mathlib.Omega.{arith}
@@ -27,7 +26,7 @@ field_place start f k = cond (eqb (bit f k) 1) (start + 2 * fields_below f k) 0
 
 -- the places of those of the fields ks that the new format has
 unfoldable pub kept_places : ℕ → ℕ → ℕ → List ℕ → List ℕ
-kept_places start f new ks = map_some (λ k. cond (eqb (bit new k) 1) (some (field_place start f k)) none) ks
+kept_places start f new ks = map_some (λ k. cond (eqb (bit new k) 1) (Some (field_place start f k)) None) ks
 
 -- how long a pair record with these formats is, and where the fields of the new formats stand in it
 abbrev pub pair_size : ℕ → ℕ → ℕ
@@ -94,13 +93,13 @@ pub pick_is : (start f new : ℕ) → 0 < start → (s : List ℕ) (p : ℕ) (ks
     → map (value_at s p) (kept_places start f new ks) ≡ pick_fields f new (words s (p + start) (field_count f)) ks
 unfolding kept_places pick_fields map_some push
 pick_is start f new z s p [] h = refl
-pick_is start f new z s p (k ∷ ks) h = step (eqb (bit new k) 1) (map_some (λ k. cond (eqb (bit new k) 1) (some (field_place start f k)) none) ks) (pick_is start f new z s p ks h.1)
+pick_is start f new z s p (k ∷ ks) h = step (eqb (bit new k) 1) (map_some (λ k. cond (eqb (bit new k) 1) (Some (field_place start f k)) None) ks) (pick_is start f new z s p ks h.1)
   where
     picked : List ℕ
-    picked = map_some (λ k. cond (eqb (bit new k) 1) (some (field f (words s (p + start) (field_count f)) k)) none) ks
+    picked = map_some (λ k. cond (eqb (bit new k) 1) (Some (field f (words s (p + start) (field_count f)) k)) None) ks
 
     step : (b : Bool) (r : List ℕ) → map (value_at s p) r ≡ picked
-        → map (value_at s p) (push (cond b (some (field_place start f k)) none) r) ≡ push (cond b (some (field f (words s (p + start) (field_count f)) k)) none) picked
+        → map (value_at s p) (push (cond b (Some (field_place start f k)) None) r) ≡ push (cond b (Some (field f (words s (p + start) (field_count f)) k)) None) picked
     step true r e = ap₂ (λ (x : ℕ) (l : List ℕ). x ∷ l) (sym (value_is start f k z h.0 s p)) e
     step false r e = e
 
@@ -136,9 +135,9 @@ module _ (f1 f2 n1 n2 : ℕ) (s : List ℕ) where
       record_at y = record { second = y; first_values = words s (p + 2) (field_count f1); second_values = words s (p + 2 + 2 * field_count f1) (field_count f2) }
 
       step : (o : Option ℕ) (r : List (List ℕ)) (ps : List Pair) → r ≡ map words_of (map (thin_pair f1 f2 n1 n2) ps)
-          → push (bind o (λ y. some (y ∷ map (value_at s p) (places_of f1 f2 n1 n2)))) r ≡ map words_of (map (thin_pair f1 f2 n1 n2) (push (bind o (λ y. some (record_at y))) ps))
-      step none r ps e = e
-      step (some y) r ps e = ap₂ (λ (a : List ℕ) (b : List (List ℕ)). a ∷ b) (one_pair p y) e
+          → push (bind o (λ y. Some (y ∷ map (value_at s p) (places_of f1 f2 n1 n2)))) r ≡ map words_of (map (thin_pair f1 f2 n1 n2) (push (bind o (λ y. Some (record_at y))) ps))
+      step None r ps e = e
+      step (Some y) r ps e = ap₂ (λ (a : List ℕ) (b : List (List ℕ)). a ∷ b) (one_pair p y) e
 
 -- rows of pairs' words are the words of the pairs
 rows_words : (ps : List Pair) → rows (map words_of ps) ≡ pair_words ps
@@ -149,7 +148,7 @@ rows_words (p ∷ ps) = ap (λ (l : List ℕ). p.second ∷ l) (append_assoc p.f
 set_words_lem : (h : Pair → Pair) (ps : List Pair) → block pair_set_of (unless_empty (map words_of (map h ps))) ≡ block (λ qs. pair_set_words (map h qs)) (unless_empty ps)
 unfolding block unless_empty pair_set_of pair_set_words
 set_words_lem h [] = refl
-set_words_lem h (p ∷ ps) = ap some (ap₂ (λ (a : ℕ) (b : List ℕ). a ∷ b) (length-map (map h (p ∷ ps)) words_of) (rows_words (map h (p ∷ ps))))
+set_words_lem h (p ∷ ps) = ap Some (ap₂ (λ (a : ℕ) (b : List ℕ). a ∷ b) (length-map (map h (p ∷ ps)) words_of) (rows_words (map h (p ∷ ps))))
 
 -- what is left of a pair set is what the definitions leave, with the fields of the new formats
 pub pairs_left_lem : (g : List (ℕ × ℕ)) (f1 f2 n1 n2 : ℕ) (s : List ℕ) (at : ℕ)
@@ -176,7 +175,7 @@ kept_inside start f new size t l [] h = (tt, omega arith)
 kept_inside start f new size t l (k ∷ ks) h = step (eqb (bit new k) 1) _ (kept_inside start f new size t l ks h.1)
   where
     step : (b : Bool) (r : List ℕ) → All (λ x. x + 2 ≤ size) r × (length r ≤ length ks)
-        → All (λ x. x + 2 ≤ size) (push (cond b (some (field_place start f k)) none) r) × (length (push (cond b (some (field_place start f k)) none) r) ≤ length (k ∷ ks))
+        → All (λ x. x + 2 ≤ size) (push (cond b (Some (field_place start f k)) None) r) × (length (push (cond b (Some (field_place start f k)) None) r) ≤ length (k ∷ ks))
     step true r e = ((place_inside start f k size h.0 t l, e.0), omega (arith, e.1))
     step false r e = (e.0, omega (arith, e.1))
 
@@ -214,11 +213,11 @@ module _ (f1 f2 : ℕ) (g : List (ℕ × ℕ)) (s : List ℕ) where
         _ _ (rw (← q) (used_left n (p + 2 + 2 * field_count f1 + 2 * field_count f2)))
       where
         step : (o : Option ℕ) (u : Bool) → ((y : ℕ) → not (eqb (field f (get (pair_at p y)) k) 0) ≡ u) → (ps : List Pair) (v : Bool) → used get f k ((m, ps) ∷ r) ≡ v || used get f k r
-            → used get f k ((m, push (bind o (λ y. some (pair_at p y))) ps) ∷ r) ≡ ((u && is_some o) || v) || used get f k r
-        step none true h ps v e = e
-        step none false h ps v e = e
-        step (some y) true h ps v e = rw (h y)
-        step (some y) false h ps v e = rw (h y) e
+            → used get f k ((m, push (bind o (λ y. Some (pair_at p y))) ps) ∷ r) ≡ ((u && is_some o) || v) || used get f k r
+        step None true h ps v e = e
+        step None false h ps v e = e
+        step (Some y) true h ps v e = rw (h y)
+        step (Some y) false h ps v e = rw (h y) e
 
   module _ (k m : ℕ) (r : List (ℕ × List Pair)) (at : ℕ) where
     -- a field of the first glyph's values is used if this set uses it, or another one does

@@ -1,7 +1,6 @@
 -- Numbers that are put into a row, and the places of the fields that stay as such a row.
-use Rattle.std.specs.Prelude.{ℕ, suc, ◌+◌, ◌*◌, ◌/◌, ◌%◌, ◌<◌, ◌≡◌, refl, Bool, true, false, cond, List, [], ◌∷◌, ◌++◌, length, take, set, eqb}
+use Rattle.std.specs.Prelude.{ℕ, suc, ◌+◌, ◌*◌, ◌/◌, ◌%◌, ◌<◌, ◌≡◌, refl, Bool, true, false, cond, List, [], ◌∷◌, ◌++◌, length, take, set, eqb, Option, None, Some}
 use Rattle.std.proofs.Common.{sym, ap, ◌∙◌, append_assoc, append-nil, arith, length-set, length-append, take-suc-set, eq-eqb, ne_eqb}
-use Rattle.std.proofs.Math.Option.{Option, none, some}
 use Rattle.meaning.specs.Words.{push, map_some}
 use Rattle.meaning.specs.Tables.{bit, field_count, fields_below}
 use Rattle.pair_places.specs.Formats.{fields, field_place, kept_places}
@@ -53,9 +52,9 @@ module _ (start f k : ℕ) where
 -- one field and the others
 kept_front : (start f new k : ℕ) (ks : List ℕ) → kept_places start f new (k ∷ []) ++ kept_places start f new ks ≡ kept_places start f new (k ∷ ks)
 unfolding kept_places map_some push
-kept_front start f new k ks = step (eqb (bit new k) 1) (map_some (λ k. cond (eqb (bit new k) 1) (some (field_place start f k)) none) ks)
+kept_front start f new k ks = step (eqb (bit new k) 1) (map_some (λ k. cond (eqb (bit new k) 1) (Some (field_place start f k)) None) ks)
   where
-    step : (b : Bool) (r : List ℕ) → push (cond b (some (field_place start f k)) none) [] ++ r ≡ push (cond b (some (field_place start f k)) none) r
+    step : (b : Bool) (r : List ℕ) → push (cond b (Some (field_place start f k)) None) [] ++ r ≡ push (cond b (Some (field_place start f k)) None) r
     step true r = refl
     step false r = refl
 

@@ -6,9 +6,7 @@ ghost use Rattle.meaning.specs.Words.{word};
 ghost use Rattle.meaning.specs.Tables.{field_count};
 ghost use Rattle.meaning.specs.Fault.{pair_set_fault};
 ghost use Rattle.meaning.specs.Subset.{has_device};
-ghost use Rattle.faults.specs.Fault.{fault_of};
 
-use faults::Fault;
 use wire::{ascending, inside, word_at};
 
 // How many fields a value record of the format `f` has: one for each set bit of the lower eight.
@@ -46,20 +44,21 @@ pub fn pair_device(kind: usize, src: &[u8]) -> bool
 }
 
 // Where the pair set at `at` is faulty: at its start, if it does not lie inside the source or its second glyphs do not ascend.
-pub fn check_set(src: &[u8], at: usize, f1: usize, f2: usize) -> Fault
+#[tactic(auto, using(crate::proofs::Checked::seconds_column), unfolding(meaning::specs::Fault::pair_set_fault, meaning::specs::Tables::pair_set, meaning::specs::Fault::part_fault))]
+pub fn check_set(src: &[u8], at: usize, f1: usize, f2: usize) -> Option<usize>
     requires { at < 0x1_0000_0000 }
-    ensures { result ≡ fault_of (pair_set_fault (field_count f1) (field_count f2) src.now at) }
+    ensures { result ≡ pair_set_fault (field_count f1) (field_count f2) src.now at }
 {
     if !inside(src, at, 2) {
-        return Fault::At(at);
+        return Some(at);
     }
     let n = word_at(src, at);
     let size = pair_size(f1, f2);
     if !inside(src, at + 2, size * n) {
-        return Fault::At(at);
+        return Some(at);
     }
     if !ascending(src, at + 2, n, size) {
-        return Fault::At(at);
+        return Some(at);
     }
-    Fault::Sound
+    None
 }

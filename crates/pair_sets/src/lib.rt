@@ -11,7 +11,7 @@ ghost use Rattle.pair_fields.specs.Pairs.{value_at, Places, Reads, pairs_left, p
 
 use area::{over, put};
 use cell_maps::Map;
-use fold::{Found, find};
+use fold::find;
 use pair_fields::value_at;
 use wire::word_inside;
 
@@ -30,12 +30,9 @@ pub fn write_values(src: &[u8], p: usize, places: &[u32], area: &mut [u8], pos: 
     requires { Reads src.now p places.now × (pos + 2 * length places.now ≤ length area.old) }
     ensures { Extends area.old pos (map (value_at src.now p) places.now) area.new result }
 {
-    let mut i = 0;
-    while i < places.len() {
-        let place = places[i] as usize;
-        let value = value_at(src, p, place);
+    for (i, place) in places.iter().enumerate() {
+        let value = value_at(src, p, *place as usize);
         put(area, pos + 2 * i, value);
-        i += 1;
     }
     pos + 2 * places.len()
 }
@@ -79,18 +76,16 @@ pub fn write_pairs(
     let mut k = 0;
     let mut q = pos + 2;
     let mut p = at + 2;
-    let mut i = 0;
-    while i < n {
+    for _i in 0..n {
         if area.len() < q + each {
             return over(area);
         }
         let second = word_inside(src, p);
-        if let Found::New(new) = find(t, glyphs, second) {
+        if let Some(new) = find(t, glyphs, second) {
             q = write_pair(src, p, size, new, places, area, q);
             k += 1;
         }
         p += size;
-        i += 1;
     }
     if k == 0 {
         return 0;

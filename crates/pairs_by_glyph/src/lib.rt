@@ -1,8 +1,7 @@
 // Format 1 of pairs, cut in one walk: as `by_glyph` does it, with the value formats that are left.
 #![tactic(auto)]
 
-ghost use Rattle.std.specs.Prelude.{◌≡◌, [], ◌+◌, ◌≤◌, ◌<◌, length};
-ghost use Rattle.std.proofs.Math.Option.{none};
+ghost use Rattle.std.specs.Prelude.{◌≡◌, [], ◌+◌, ◌≤◌, ◌<◌, length, None};
 ghost use Rattle.meaning.specs.Words.{word};
 ghost use Rattle.meaning.specs.Maps.{glyph_entries};
 ghost use Rattle.meaning.specs.Cut.{cut};
@@ -28,8 +27,8 @@ use meets::most;
 use pair_formats::new_formats;
 use pair_places::kept_places;
 use placed_sets::Sort;
-use room::{AREA, Laid};
-use tried::{Tried, least};
+use room::{AREA, NotLaid};
+use tried::{NotCut, least};
 use wire::word_inside;
 
 // What is left of a table of pairs, whose retained covered glyphs are noted: its new value formats, and then the table with the fields that stay.
@@ -40,7 +39,7 @@ fn write_pair_table(
     notes: Notes,
     area: &mut [u8],
     out: &mut [u8],
-) -> Tried
+) -> Result<usize, NotCut>
     requires { Ready (pair_sort src.now) src.now t.old (one_map g) notes.at notes.count × (length area.old ≤ enough_area) }
     ensures { AnsweredPairs notes.packing src.now t.old g notes.at notes.count out.old (length area.old) result out.new }
 {
@@ -74,14 +73,14 @@ fn cut_pair_sets(
     t: &mut [u32],
     area: &mut [u8],
     out: &mut [u8],
-) -> Tried
+) -> Result<usize, NotCut>
     requires { SoundSets (pair_sort src.now) src.now × MapsLaid marks.form glyphs.now t.old (one_map g) × (length area.old ≤ enough_area) × (word src.now 2 ≡ 0 → ⊥) }
     ensures { Answered (length t.old ≤ behind (one_map g) + 65536) out.old (block (words_in marks.layout) (cut (glyph_entries marks.form glyphs.now) [] (pair_table src.now))) (length area.old) result out.new }
 {
     let cover = word_inside(src, 2);
     let notes = g.at + g.mask + 1;
     if t.len() <= notes + most(src, cover, glyphs, marks.form) {
-        return Tried::FewCells;
+        return Err(NotCut::FewCells);
     }
     let m = meet(src, cover, glyphs, marks.form, g, t, notes);
     let found = Notes {
@@ -100,16 +99,16 @@ fn cut_pairs(
     t: &mut [u32],
     area: &mut [u8],
     out: &mut [u8],
-) -> Tried
-    requires { (pair_fault src.now ≡ none) × (length src.now ≤ limit) × GlyphMap marks.form glyphs.now × (length area.old ≤ enough_area) }
+) -> Result<usize, NotCut>
+    requires { (pair_fault src.now ≡ None) × (length src.now ≤ limit) × GlyphMap marks.form glyphs.now × (length area.old ≤ enough_area) }
     ensures { Tries (length t.old < cells_most) (length area.old < enough_area) result out.old out.new (written_in marks.layout out.old (cut (glyph_entries marks.form glyphs.now) [] (pair_table src.now))) }
 {
     if word_inside(src, 2) == 0 {
-        return Tried::Became(Laid::Nothing);
+        return Err(NotCut::Refused(NotLaid::Nothing));
     }
     let g = lay_glyphs(glyphs, marks.form, t, 0);
     if g.mask == 0 {
-        return Tried::FewCells;
+        return Err(NotCut::FewCells);
     }
     cut_pair_sets(src, glyphs, marks, g, t, area, out)
 }
@@ -123,8 +122,8 @@ pub fn pairs(
     t: &mut [u32],
     area: &mut [u8],
     out: &mut [u8],
-) -> Tried
-    requires { (pair_fault src.now ≡ none) × (length src.now ≤ limit) × GlyphMap marks.form glyphs.now }
+) -> Result<usize, NotCut>
+    requires { (pair_fault src.now ≡ None) × (length src.now ≤ limit) × GlyphMap marks.form glyphs.now }
     ensures { Tries (length t.old < cells_most) (length area.old < enough_area) result out.old out.new (written_in marks.layout out.old (cut (glyph_entries marks.form glyphs.now) [] (pair_table src.now))) }
 {
     let bytes = least(area.len(), AREA);

@@ -2,7 +2,8 @@
 use Prim.Native.Nat.{ℕ, zero, suc, ◌+◌, ◌-◌, ◌≤◌, ◌<◌}
 use mathlib.Core.Path.{◌≡◌, refl, sym, ap, ◌∙◌}
 use mathlib.Core.Bool.{Bool, true, false, cond}
-use mathlib.Core.Option.{Option, none, some, some-injective, none-ne-some}
+use Rattle.std.specs.Prelude.{Option, None, Some}
+use Rattle.std.proofs.lemmas.Option.{same_Some, none-some}
 use mathlib.Core.List.{List, [], ◌∷◌}
 use native.Mathlib.Nat.{zero-add}
 use native.Mathlib.Decide.{dec_lt}
@@ -154,13 +155,13 @@ module _ {own : List ℕ} {m : ℕ} {others : List ℕ} {n : ℕ} {heads₀ link
 -- Taking.
 
 -- the number of a rank
-ranked_from : (t : List ℕ) (i n k : ℕ) → k < n → ranked (numbers_from t i n) k ≡ some (get_or t (i + k) 0)
+ranked_from : (t : List ℕ) (i n k : ℕ) → k < n → ranked (numbers_from t i n) k ≡ Some (get_or t (i + k) 0)
 unfolding numbers_from ranked
 ranked_from t i zero k h = absurd (omega arith)
 ranked_from t i (suc n) zero h = let e : i + 0 ≡ i = omega arith in rw e
 ranked_from t i (suc n) (suc k) h = let e : i + suc k ≡ i + 1 + k = omega arith in rw e (ranked_from t (i + 1) n k (omega arith))
 
-ranked_past : (t : List ℕ) (i n k : ℕ) → n ≤ k → ranked (numbers_from t i n) k ≡ none
+ranked_past : (t : List ℕ) (i n k : ℕ) → n ≤ k → ranked (numbers_from t i n) k ≡ None
 unfolding numbers_from ranked
 ranked_past t i zero k h = refl
 ranked_past t i (suc n) zero h = absurd (omega arith)
@@ -218,8 +219,8 @@ module _ {own : List ℕ} {m : ℕ} {others : List ℕ} {n : ℕ} {heads₀ next
       R : List ℕ
       R = numbers_in others n
 
-      here : ranked L i ≡ some x
-      here = ranked_from own 0 m i p ∙ ap (λ (k : ℕ). some (get_or own k 0)) (zero-add i) ∙ ap {B = Option ℕ} some (sym ex)
+      here : ranked L i ≡ Some x
+      here = ranked_from own 0 m i p ∙ ap (λ (k : ℕ). Some (get_or own k 0)) (zero-add i) ∙ ap {B = Option ℕ} Some (sym ex)
 
       chain : Chain next h (left_over L R i x)
       chain = rw (eh, ex) (c.left.chains i p)
@@ -245,11 +246,11 @@ module _ {own : List ℕ} {m : ℕ} {others : List ℕ} {n : ℕ} {heads₀ next
   pub taking_end : {heads partners : List ℕ} {i : ℕ} → Taking own m others n heads₀ next partners₀ heads partners i → m ≤ i → Partners eqb (numbers_in own m) (numbers_in others n) partners
   taking_end {heads} {partners} c h = record { stand = λ k x e. known k x e (dec_lt k m) }
     where
-      known : (k x : ℕ) → ranked (numbers_in own m) k ≡ some x → Dec (k < m) → rank_of (get_or partners k 0) ≡ partner eqb (numbers_in own m) (numbers_in others n) k x
+      known : (k x : ℕ) → ranked (numbers_in own m) k ≡ Some x → Dec (k < m) → rank_of (get_or partners k 0) ≡ partner eqb (numbers_in own m) (numbers_in others n) k x
       known k x e (yes l) =
-          let q = some-injective (get_or own (0 + k) 0) x (sym (ranked_from own 0 m k l) ∙ e) in
+          let q = same_Some (get_or own (0 + k) 0) x (sym (ranked_from own 0 m k l) ∙ e) in
           rw (← q, zero-add k) (c.stand k (omega arith))
-      known k x e (no l) = absurd (none-ne-some _ (sym (ranked_past own 0 m k (omega arith)) ∙ e))
+      known k x e (no l) = absurd (none-some _ (sym (ranked_past own 0 m k (omega arith)) ∙ e))
 
 -- the same, where the partners and the next ranks are parts of the links
 pub record TakingIn (own : List ℕ) (m : ℕ) (others : List ℕ) (n : ℕ) (heads₀ links₀ : List ℕ) (at : ℕ) (heads links : List ℕ) (i : ℕ) : Type 0 where

@@ -16,10 +16,8 @@ fn clear(own: &[u32], m: usize, heads: &mut [u32])
     requires { m < 65536 }
     ensures { Cleared own.now m heads.new }
 {
-    let mut i = 0;
-    while i < m {
+    for i in 0..m {
         put_cell(heads, cell(own, i), 0);
-        i += 1;
     }
 }
 
@@ -28,9 +26,7 @@ fn link(own: &[u32], m: usize, others: &[u32], n: usize, heads: &mut [u32], link
     requires { (n < 65536) × (131072 + n ≤ length links.old) × Below own.now m (length heads.old) × Cleared own.now m heads.old }
     ensures { Linked own.now m (numbers_in others.now n) 0 heads.new (next_in links.new) × Kept 131072 links.old links.new }
 {
-    let mut j = n;
-    while 0 < j {
-        j -= 1;
+    for j in (0..n).rev() {
         let x = cell(others, j);
         put_cell(links, NEXT + j, cell(heads, x));
         put_cell(heads, x, j + 1);
@@ -61,13 +57,11 @@ fn take(
     requires { (at + m ≤ 131072) × (131072 ≤ length links.old) × Below own.now m (length heads.old) × Linked own.now m (numbers_in others.now n) 0 heads.old (next_in links.old) }
     ensures { Paired own.now m others.now n at links.old links.new }
 {
-    let mut i = 0;
-    while i < m {
+    for i in 0..m {
         let x = cell(own, i);
         let h = cell(heads, x);
         put_cell(links, at + i, h);
         put_cell(heads, x, next_of(links, h));
-        i += 1;
     }
 }
 

@@ -2,7 +2,7 @@
 use Prim.Native.Nat.{ℕ, ◌+◌, ◌-◌, ◌*◌, ◌≤◌, ◌<◌}
 use mathlib.Core.Path.{◌≡◌, refl, sym, ap, ◌∙◌}
 use mathlib.Core.Bool.{Bool, true, false, cond, true≢false}
-use mathlib.Core.Option.{Option, none, some}
+use Rattle.std.specs.Prelude.{Option, None, Some}
 use mathlib.Core.List.{List, [], ◌∷◌, ◌++◌, append-nil}
 use native.Mathlib.Omega.{arith}
 use lib.ListN.{length, length-append}
@@ -104,11 +104,11 @@ module _ {left : ℕ → Option (List ℕ)} {slots : ℕ} {bs : List (List ℕ)}
   -- There is no room for it.
   too_much : (o : Option (List ℕ)) (s : List ℕ) → length s ≤ limit → turn.first ≤ 131080 → length area < turn.pos + most_of o s → enough_area ≤ length area → 65528 ≤ 2 * length (blocks_in (packs book) (members (bs ++ push o [])))
   unfolding most_of left_words push limit
-  too_much none s l f h a = omega (arith, n.standing.placed.place, ap (λ (d : List (List ℕ)). length (blocks_in (packs book) (members d))) (append-nil bs))
-  too_much (some ws) s l f h a = omega (arith, n.standing.placed.place, taken_more (packs book) bs ws, taken_last (packs book) bs ws)
+  too_much None s l f h a = omega (arith, n.standing.placed.place, ap (λ (d : List (List ℕ)). length (blocks_in (packs book) (members d))) (append-nil bs))
+  too_much (Some ws) s l f h a = omega (arith, n.standing.placed.place, taken_more (packs book) bs ws, taken_last (packs book) bs ws)
 
   -- One that was written behind them.
-  module _ (b : List ℕ) (from : left turn.at ≡ some b) {q : ℕ} (x : Extends area turn.pos b area q) where
+  module _ (b : List ℕ) (from : left turn.at ≡ Some b) {q : ℕ} (x : Extends area turn.pos b area q) where
     -- it is longer than any that is kept, or it starts too far behind the first
     too_long : 65535 < q - turn.pos → 65528 ≤ 2 * length (blocks_in (packs book) (members (bs ++ (b ∷ []))))
     too_long h = omega (arith, x.place, taken_last (packs book) bs b)

@@ -1,6 +1,5 @@
 -- Sets by coverage index: which are kept, and what stands in the area where they are written.
-use Rattle.std.specs.Prelude.{ℕ, ◌+◌, ◌*◌, ◌≤◌, ◌<◌, ◌≡◌, Bool, true, cond, List, [], ◌∷◌, ◌++◌, map, length, get_or, eqb}
-use Rattle.std.proofs.Math.Option.{Option, none, some}
+use Rattle.std.specs.Prelude.{ℕ, ◌+◌, ◌*◌, ◌≤◌, ◌<◌, ◌≡◌, Bool, true, cond, List, [], ◌∷◌, ◌++◌, map, length, get_or, eqb, Option, None, Some}
 use Rattle.meaning.specs.Words.{word, flat, bind, push}
 use Rattle.meaning.specs.Cut.{glyphs_of}
 use Rattle.meaning.specs.Subset.{limit}
@@ -21,12 +20,12 @@ use Rattle.placed_sets.specs.declared.Turn.{Turn}
 module _ (left : ℕ → Option (List ℕ)) (s : List ℕ) (slots : ℕ) where
   -- what is left of the set that the i-th offset reaches; nothing where it is null
   unfoldable pub set_at : ℕ → Option (List ℕ)
-  set_at i = cond (eqb (word s (slots + 2 * i)) 0) none (left (word s (slots + 2 * i)))
+  set_at i = cond (eqb (word s (slots + 2 * i)) 0) None (left (word s (slots + 2 * i)))
 
   -- of notes, a coverage index and a new glyph each, those whose set leaves something: the glyph, and the words of what is left
   unfoldable pub kept_of : List (ℕ × ℕ) → List (ℕ × List ℕ)
   kept_of [] = []
-  kept_of (e ∷ es) = push (bind (set_at e.0) (λ ws. some (e.1, ws))) (kept_of es)
+  kept_of (e ∷ es) = push (bind (set_at e.0) (λ ws. Some (e.1, ws))) (kept_of es)
 
 -- the words of their sets
 abbrev pub words_of : List (ℕ × List ℕ) → List (List ℕ)
@@ -53,8 +52,8 @@ pub record Standing (left : ℕ → Option (List ℕ)) (slots first : ℕ) (bs :
 
 -- what may be left of a set has at least two words, and they fit if it takes no more than 65,535 bytes
 pub record Small (left : Option (List ℕ)) : Type 0 where
-  pub two : {ws : List ℕ} → left ≡ some ws → 2 ≤ length ws
-  pub fit : {ws : List ℕ} → left ≡ some ws → 2 * length ws ≤ 65535 → All Word ws
+  pub two : {ws : List ℕ} → left ≡ Some ws → 2 ≤ length ws
+  pub fit : {ws : List ℕ} → left ≡ Some ws → 2 * length ws ≤ 65535 → All Word ws
 
 -- what is asked of a set's places: they lie inside, the offset before the sets
 pub record TurnInside (area book : List ℕ) (turn : Turn) : Type 0 where
@@ -76,22 +75,22 @@ pub record Next (left : ℕ → Option (List ℕ)) (slots : ℕ) (bs : List (Lis
 pub record KeptSet (turn : Turn) (q : ℕ) (area₀ book₀ area book : List ℕ) (r : ℕ) : Type 0 where
   pub same : length area ≡ length area₀
   pub size : length book ≡ length book₀
-  pub next : {left : ℕ → Option (List ℕ)} {slots : ℕ} {bs : List (List ℕ)} → Next left slots bs area₀ book₀ turn → (b : List ℕ) → left turn.at ≡ some b → Extends area₀ turn.pos b area₀ q
+  pub next : {left : ℕ → Option (List ℕ)} {slots : ℕ} {bs : List (List ℕ)} → Next left slots bs area₀ book₀ turn → (b : List ℕ) → left turn.at ≡ Some b → Extends area₀ turn.pos b area₀ q
       → r ≤ length area₀ → Standing left slots turn.first (bs ++ (b ∷ [])) area book r
-  pub full : {left : ℕ → Option (List ℕ)} {slots : ℕ} {bs : List (List ℕ)} → Next left slots bs area₀ book₀ turn → (b : List ℕ) → left turn.at ≡ some b → Extends area₀ turn.pos b area₀ q
+  pub full : {left : ℕ → Option (List ℕ)} {slots : ℕ} {bs : List (List ℕ)} → Next left slots bs area₀ book₀ turn → (b : List ℕ) → left turn.at ≡ Some b → Extends area₀ turn.pos b area₀ q
       → length area₀ < r → 65528 ≤ 2 * length (blocks_in (packs book₀) (members (bs ++ (b ∷ []))))
 
 -- the next set is left, and stands with the others
 pub record Stood (left : ℕ → Option (List ℕ)) (slots : ℕ) (bs : List (List ℕ)) (turn : Turn) (area book : List ℕ) (r : ℕ) : Type 0 where
   pub words : List ℕ
-  pub is : left turn.at ≡ some words
+  pub is : left turn.at ≡ Some words
   pub standing : Standing left slots turn.first (bs ++ (words ∷ [])) area book r
 
 -- What became of the next set: it is gone, it stands, or there is no room; then the sets are too long, if the area has what is enough for any source.
 pub record PlacedSet (left : ℕ → Option (List ℕ)) (turn : Turn) (area₀ book₀ area book : List ℕ) (r : ℕ) : Type 0 where
   pub same : length area ≡ length area₀
   pub size : length book ≡ length book₀
-  pub gone : {slots : ℕ} {bs : List (List ℕ)} → Next left slots bs area₀ book₀ turn → r ≡ 0 → (left turn.at ≡ none) × Standing left slots turn.first bs area book turn.pos
+  pub gone : {slots : ℕ} {bs : List (List ℕ)} → Next left slots bs area₀ book₀ turn → r ≡ 0 → (left turn.at ≡ None) × Standing left slots turn.first bs area book turn.pos
   pub next : {slots : ℕ} {bs : List (List ℕ)} → Next left slots bs area₀ book₀ turn → (r ≡ 0 → ⊥) → r ≤ length area₀ → Stood left slots bs turn area book r
   pub full : {slots : ℕ} {bs : List (List ℕ)} → Next left slots bs area₀ book₀ turn → turn.first ≤ 131080 → length area₀ < r → enough_area ≤ length area₀
       → 65528 ≤ 2 * length (blocks_in (packs book₀) (members (bs ++ push (left turn.at) [])))
@@ -99,7 +98,7 @@ pub record PlacedSet (left : ℕ → Option (List ℕ)) (turn : Turn) (area₀ b
 -- the i-th offset lies inside the source, and the set that it reaches, if it is not null, is sound
 pub record Reaches (sort : Sort) (s : List ℕ) (i : ℕ) : Type 0 where
   pub inside : header_size sort + 2 * i + 2 ≤ length s
-  pub sound : (word s (header_size sort + 2 * i) ≡ 0 → ⊥) → set_fault_of sort s (word s (header_size sort + 2 * i)) ≡ none
+  pub sound : (word s (header_size sort + 2 * i) ≡ 0 → ⊥) → set_fault_of sort s (word s (header_size sort + 2 * i)) ≡ None
 
 -- What is asked of m notes from `at` on: the source is not over the limit and has an offset for each, there are fewer than 65,536, those that they name reach sound sets, what is left of a sound set is small, and the maps lie before them.
 pub record Ready (sort : Sort) (s t : List ℕ) (maps : Maps) (at m : ℕ) : Type 0 where
@@ -108,7 +107,7 @@ pub record Ready (sort : Sort) (s t : List ℕ) (maps : Maps) (at m : ℕ) : Typ
   pub counted : m < 65536
   pub fits : at + m ≤ length t
   pub reaches : (i : ℕ) → i < m → Reaches sort s (old_at t (at + i))
-  pub small : (p : ℕ) → set_fault_of sort s p ≡ none → Small (left_in sort t maps s p)
+  pub small : (p : ℕ) → set_fault_of sort s p ≡ None → Small (left_in sort t maps s p)
   pub inside : AllInside t maps
   pub before : AllBefore maps at
 

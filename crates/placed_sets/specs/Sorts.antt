@@ -1,8 +1,7 @@
 -- The sorts of sets: what is left of one, and what stands around them.
-use Rattle.std.specs.Prelude.{ℕ, zero, suc, ◌+◌, ◌*◌, ◌<◌, ◌≤◌, ◌≡◌, Bool, true, false, List, [], ◌∷◌, replicate}
+use Rattle.std.specs.Prelude.{ℕ, zero, suc, ◌+◌, ◌*◌, ◌<◌, ◌≤◌, ◌≡◌, Bool, true, false, List, [], ◌∷◌, replicate, Option, None, Some}
 use Rattle.std.proofs.Math.Path.{refl}
 use Rattle.std.proofs.Common.{ap, true≢false, arith}
-use Rattle.std.proofs.Math.Option.{Option, none, some}
 use Rattle.std.proofs.Math.ListN.{length}
 use Rattle.meaning.specs.Words.{word, inside}
 use Rattle.meaning.specs.Tables.{field_count, rule_set, ligature_set}
@@ -71,8 +70,8 @@ left_in sort t m s at = set_left sort (maps_in t m) s at
 
 -- the words, and none where nothing is left
 unfoldable pub left_words : Option (List ℕ) → List ℕ
-left_words none = []
-left_words (some ws) = ws
+left_words None = []
+left_words (Some ws) = ws
 
 -- more than there is room for, where a set has none: what is left of it, the place for a count and at most 65,535 offsets, and the source
 unfoldable pub most_of : Option (List ℕ) → List ℕ → ℕ
@@ -88,8 +87,8 @@ pub record AllBefore (m : Maps) (at : ℕ) : Type 0 where
 -- a set of members has the words of its members
 words_block : {A : Type 0} (f : A → List ℕ) (o : Option A) → words_left f o ≡ left_words (block f o)
 unfolding words_left left_words block
-words_block f none = refl
-words_block f (some a) = refl
+words_block f None = refl
+words_block f (Some a) = refl
 
 set_leaves : {A : Type 0} (f : A → List ℕ) (o : Option (List A)) {a b : List ℕ} {p r : ℕ} (s : List ℕ) → Leaves a p (block (set_words f) o) (set_most f o s) b r
     → Leaves a p (block (set_words f) o) (most_of (block (set_words f) o) s) b r
@@ -99,8 +98,8 @@ set_leaves f o s w = leaves_said w refl (omega (arith, ap length (words_block (s
 -- the place for a pair set's count and for one pair more is less than that
 pairs_most_lem : (o : Option (List ℕ)) (places s : List ℕ) → length places ≤ 8 → pairs_most o places ≤ most_of o s
 unfolding pairs_most most_of words_left left_words
-pairs_most_lem none places s h = omega arith
-pairs_most_lem (some ws) places s h = omega arith
+pairs_most_lem None places s h = omega arith
+pairs_most_lem (Some ws) places s h = omega arith
 
 -- zeros say that no member is known to go
 pub told_none : (sort : Sort) {m : RuleMaps} {s : List ℕ} (n : ℕ) → is_pairs sort ≡ false → Told sort m s (replicate n 0)
@@ -143,18 +142,18 @@ module _ {sort : Sort} {m : RuleMaps} {s told : List ℕ} where
 
 -- The code asks for the sort: what the check says of a set of each sort, and what its writer leaves.
 module _ {sort : Sort} (s : List ℕ) (at : ℕ) where
-  pub rules_sound : {chained : Bool} → sort ≡ Rules chained → set_fault_of sort s at ≡ none → set_fault (rule_fault chained s) s at ≡ none
+  pub rules_sound : {chained : Bool} → sort ≡ Rules chained → set_fault_of sort s at ≡ None → set_fault (rule_fault chained s) s at ≡ None
   unfolding set_fault_of
   rules_sound e h = rw e at h
 
-  pub ligatures_sound : sort ≡ Ligatures → set_fault_of sort s at ≡ none → set_fault (ligature_fault s) s at ≡ none
+  pub ligatures_sound : sort ≡ Ligatures → set_fault_of sort s at ≡ None → set_fault (ligature_fault s) s at ≡ None
   unfolding set_fault_of
   ligatures_sound e h = rw e at h
 
-  pub pairs_sound : {f : Formats} → sort ≡ Pairs f → f.size ≡ pair_size f.f1 f.f2 → set_fault_of sort s at ≡ none → at + 2 + f.size * word s at ≤ length s
+  pub pairs_sound : {f : Formats} → sort ≡ Pairs f → f.size ≡ pair_size f.f1 f.f2 → set_fault_of sort s at ≡ None → at + 2 + f.size * word s at ≤ length s
   unfolding set_fault_of pair_set_fault
   pairs_sound {f} e z h =
-      let q = (part_sound at _ none (rw e at h)).0 in
+      let q = (part_sound at _ None (rw e at h)).0 in
       let size = 2 + 2 * field_count f.f1 + 2 * field_count f.f2 in
       rw z (inside_is s (at + 2) (size * word s at) (both (inside s (at + 2) (size * word s at)) _ (both (inside s at 2) _ q).1).0)
 

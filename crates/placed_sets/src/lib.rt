@@ -1,8 +1,7 @@
 // One set of format 1 of a kind: written into the area and placed, as an equal one before it if the book has one.
 #![tactic(auto)]
 
-ghost use Rattle.std.specs.Prelude.{◌≡◌, ◌≤◌, length};
-ghost use Rattle.std.proofs.Math.Option.{none};
+ghost use Rattle.std.specs.Prelude.{◌≡◌, ◌≤◌, length, None};
 ghost use Rattle.meaning.specs.Subset.{limit};
 ghost use Rattle.numbers.specs.Leaves.{Leaves};
 ghost use Rattle.kept_rules.specs.Left.{AllInside, maps_in};
@@ -64,7 +63,7 @@ fn write_set(
     area: &mut [u8],
     pos: usize,
 ) -> usize
-    requires { (set_fault_of sort src.now at ≡ none) × (length src.now ≤ limit) × AllInside t.now maps × (pos ≤ length area.old) × Told sort (maps_in t.now maps) src.now told.old }
+    requires { (set_fault_of sort src.now at ≡ None) × (length src.now ≤ limit) × AllInside t.now maps × (pos ≤ length area.old) × Told sort (maps_in t.now maps) src.now told.old }
     ensures { Leaves area.old pos (left_in sort t.now maps src.now at) (most_of (left_in sort t.now maps src.now at) src.now) area.new result × Told sort (maps_in t.now maps) src.now told.new }
 {
     match sort {
@@ -101,7 +100,7 @@ pub fn place_set(
     book: &mut [u32],
     turn: Turn,
 ) -> usize
-    requires { (set_fault_of sort src.now turn.at ≡ none) × (length src.now ≤ limit) × AllInside t.now maps × TurnInside area.old book.old turn × Told sort (maps_in t.now maps) src.now told.old }
+    requires { (set_fault_of sort src.now turn.at ≡ None) × (length src.now ≤ limit) × AllInside t.now maps × TurnInside area.old book.old turn × Told sort (maps_in t.now maps) src.now told.old }
     ensures { PlacedSet (left_in sort t.now maps src.now) turn area.old book.old area.new book.new result × Told sort (maps_in t.now maps) src.now told.new }
 {
     let before = again(book, turn.first, turn.at);

@@ -1,10 +1,9 @@
 -- `fault` gives the lowest start among the faulty parts of Places.antt, and none exactly if all are sound; so answer 6 is given where a part is faulty, with that place.
 use Prim.Native.Nat.{ℕ, zero, suc, ◌+◌, ◌-◌, ◌*◌, ◌/◌, ◌≤◌, ◌<◌}
-use Rattle.std.specs.Prelude.{◌≡◌, Bool, cond, ◌&&◌, ◌||◌, take, drop, eqb}
+use Rattle.std.specs.Prelude.{◌≡◌, Bool, cond, ◌&&◌, ◌||◌, take, drop, eqb, Option, None, Some}
 use Rattle.std.proofs.Math.Path.{refl, sym, ap}
 use Rattle.std.proofs.Common.{◌∙◌, subst}
 use Rattle.std.proofs.Math.Bool.{true, false, not, true≢false}
-use Rattle.std.proofs.Math.Option.{Option, none, some}
 use mathlib.Core.List.{List, [], ◌∷◌, ◌++◌, append_assoc}
 use Rattle.std.proofs.Math.Logic.{inl, inr}
 use native.Mathlib.Omega.{arith}
@@ -57,8 +56,8 @@ each_append f (x ∷ xs) ys = ap (λ (l : List Part). f x ++ l) (each_append f x
 module _ (s : List ℕ) where
   -- what is answered of a list of parts: the lowest start among the faulty ones, none if all are sound
   abbrev pub Least : List Part → Option ℕ → Type 0
-  Least ps none = All (Sound s) ps
-  Least ps (some place) = Lowest s ps place
+  Least ps None = All (Sound s) ps
+  Least ps (Some place) = Lowest s ps place
 
   -- of parts none of which is faulty, or none below a higher place
   sound_lower : (place : ℕ) (ps : List Part) → All (Sound s) ps → All (λ p. p.start < place → Sound s p) ps
@@ -70,18 +69,18 @@ module _ (s : List ℕ) where
   -- two lists: the lower of the two places
   least_append : (ps qs : List Part) (a b : Option ℕ) → Least ps a → Least qs b → Least (ps ++ qs) (lowest a b)
   unfolding lowest
-  least_append ps qs none none h k = all_append (Sound s) ps qs h k
-  least_append ps qs none (some q) h k =
+  least_append ps qs None None h k = all_append (Sound s) ps qs h k
+  least_append ps qs None (Some q) h k =
       record {
         there = any_right (λ p. (p.start ≡ q) × Faulty s p) ps qs k.there;
         none_lower = all_append (λ p. p.start < q → Sound s p) ps qs (sound_lower q ps h) k.none_lower;
       }
-  least_append ps qs (some p) none h k =
+  least_append ps qs (Some p) None h k =
       record {
         there = any_left (λ x. (x.start ≡ p) × Faulty s x) ps qs h.there;
         none_lower = all_append (λ x. x.start < p → Sound s x) ps qs h.none_lower (sound_lower p qs k);
       }
-  least_append ps qs (some p) (some q) h k = step (leb p q) refl
+  least_append ps qs (Some p) (Some q) h k = step (leb p q) refl
     where
       step : (t : Bool) → leb p q ≡ t → Lowest s (ps ++ qs) (cond t p q)
       step true e =
@@ -101,9 +100,9 @@ module _ (s : List ℕ) where
   unfolding part_fault
   least_part p rs r later h = step (sound s p.sort p.start) refl r h
     where
-      step : (t : Bool) → sound s p.sort p.start ≡ t → (r : Option ℕ) → Least rs r → Least (p ∷ rs) (cond t r (some p.start))
-      step true e none h = (e, h)
-      step true e (some q) h = record { there = inr h.there; none_lower = (λ l. e, h.none_lower) }
+      step : (t : Bool) → sound s p.sort p.start ≡ t → (r : Option ℕ) → Least rs r → Least (p ∷ rs) (cond t r (Some p.start))
+      step true e None h = (e, h)
+      step true e (Some q) h = record { there = inr h.there; none_lower = (λ l. e, h.none_lower) }
       step false e r h =
           record {
             there = inl (refl, e);
@@ -116,7 +115,7 @@ module _ (s : List ℕ) where
   targets_later to at [] = tt
   targets_later to at (w ∷ ws) = step (eqb w 0) (targets_later to at ws)
     where
-      step : (t : Bool) → All (λ q. at ≤ q.start) (targets to at ws) → All (λ q. at ≤ q.start) (push (cond t none (some (record { sort = to; start = at + w }))) (targets to at ws))
+      step : (t : Bool) → All (λ q. at ≤ q.start) (targets to at ws) → All (λ q. at ≤ q.start) (push (cond t None (Some (record { sort = to; start = at + w }))) (targets to at ws))
       step true h = h
       step false h = (omega arith, h)
 
@@ -160,7 +159,7 @@ module _ (s : List ℕ) where
       rest = targets to base (words s (slot + 2) n)
 
       step : (t : Bool) → Least (each_of f rest) (fault_through fault_at s base (slot + 2) n)
-          → Least (each_of f (push (cond t none (some to_one)) rest)) (lowest (cond t none (fault_at (base + word s slot))) (fault_through fault_at s base (slot + 2) n))
+          → Least (each_of f (push (cond t None (Some to_one)) rest)) (lowest (cond t None (fault_at (base + word s slot))) (fault_through fault_at s base (slot + 2) n))
       step true h = h
       step false h = least_append (f to_one) (each_of f rest) (fault_at (base + word s slot)) (fault_through fault_at s base (slot + 2) n) (k (base + word s slot)) h
 
@@ -175,7 +174,7 @@ module _ (s : List ℕ) where
   least_one_row : (f : Part → List Part) (at : ℕ) (row : Sort × ℕ × ℕ) (a : Option ℕ)
       → Least (each_of f (targets row.0 at (words s row.1 row.2))) a → Least (each_of f (reached_by s at (row ∷ []))) a
   unfolding reached_by each_of
-  least_one_row f at row a h = rw (lowest_none a) at (least_row f at row [] a none h tt)
+  least_one_row f at row a h = rw (lowest_none a) at (least_row f at row [] a None h tt)
 
   -- Each sort of part: what `fault` asks of it is its soundness.
 
@@ -183,10 +182,10 @@ module _ (s : List ℕ) where
   part to at = record { sort = to; start = at }
 
   -- a part that has no offsets
-  leaf : (n : ℕ) (to : Sort) (at : ℕ) (t : Bool) → offsets_of s to at ≡ [] → t ≡ sound s to at → Least (with_reached n s (part to at)) (part_fault at t none)
+  leaf : (n : ℕ) (to : Sort) (at : ℕ) (t : Bool) → offsets_of s to at ≡ [] → t ≡ sound s to at → Least (with_reached n s (part to at)) (part_fault at t None)
   unfolding with_reached reached_from reached_by each_of
-  leaf zero to at t e h = rw h (least_part (part to at) [] none tt tt)
-  leaf (suc n) to at t e h = rw h (least_reached n (part to at) none (rw e tt))
+  leaf zero to at t e h = rw h (least_part (part to at) [] None tt tt)
+  leaf (suc n) to at t e h = rw h (least_reached n (part to at) None (rw e tt))
 
   -- a field is inside if the part that it is in ends by the source's end
   field_inside : (at n end : ℕ) → at + n ≤ end → ends_by s end ≡ true → inside s at n ≡ true
@@ -477,8 +476,8 @@ module _ (s : List ℕ) where
       weaker place (p ∷ ps) (inr h) = inr (weaker place ps h)
 
       step : (o : Option ℕ) (ps : List Part) → is_some o ≡ true → Least ps o → Any (Faulty s) ps
-      step none ps e l = absurd (true≢false (sym e))
-      step (some place) ps e l = weaker place ps l.there
+      step None ps e l = absurd (true≢false (sym e))
+      step (Some place) ps e l = weaker place ps l.there
 
   faulty_some : (kind : ℕ) → Any (Faulty s) (parts kind s) → is_some (fault kind s) ≡ true
   unfolding is_some
@@ -490,8 +489,8 @@ module _ (s : List ℕ) where
       not_all (p ∷ ps) (inr h) k = not_all ps h k.1
 
       step : (o : Option ℕ) (ps : List Part) → Any (Faulty s) ps → Least ps o → is_some o ≡ true
-      step none ps a l = absurd (not_all ps a l)
-      step (some place) ps a l = refl
+      step None ps a l = absurd (not_all ps a l)
+      step (Some place) ps a l = refl
 
 module _ (c : Call) where
   -- with 6 the length is the lowest start among the faulty parts

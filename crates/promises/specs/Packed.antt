@@ -1,7 +1,6 @@
 -- The packed layout: no two equal blocks of a kind, not longer than the plain one, and it fits where that does.
-use Rattle.std.specs.Prelude.{ℕ, ◌+◌, ◌*◌, ◌≤◌, ◌≡◌, refl, Bool, true, false, cond, List, [], ◌∷◌, ◌++◌, map, length}
+use Rattle.std.specs.Prelude.{ℕ, ◌+◌, ◌*◌, ◌≤◌, ◌≡◌, refl, Bool, true, false, cond, List, [], ◌∷◌, ◌++◌, map, length, Option, None, Some}
 use Rattle.std.proofs.Common.{sym, ap, ◌∙◌, subst, true≢false, append_assoc, arith, length-append, le-ltb, ltb-false}
-use Rattle.std.proofs.Math.Option.{Option, none, some}
 use Rattle.std.proofs.lemmas.List.{length-map}
 use Rattle.meaning.specs.Words.{eq_list, flat}
 use Rattle.meaning.specs.Tables.{Table}
@@ -138,10 +137,10 @@ start_early h coverage = omega (arith, first_short (blocks_of set h))
 start_early h class_table = omega (arith, first_short (blocks_of set h), first_short (blocks_of coverage h))
 
 -- the offset of a block of a header, in the two readings
-word_early : (h before g : List HeaderWord) (k : BlockKind) (b : List ℕ) → h ≡ before ++ (offset k (some b) ∷ g) → packed_word h (offset k (some b)) ≤ plain_word h before (offset k (some b))
+word_early : (h before g : List HeaderWord) (k : BlockKind) (b : List ℕ) → h ≡ before ++ (offset k (Some b) ∷ g) → packed_word h (offset k (Some b)) ≤ plain_word h before (offset k (Some b))
 unfolding packed_word plain_word packed_blocks
 word_early h before g k b e =
-    let bs = ap (blocks_of k) e ∙ blocks_of_append k before (offset k (some b) ∷ g) ∙ ap (λ (l : List (List ℕ)). blocks_of k before ++ l) (block_first k b g) in
+    let bs = ap (blocks_of k) e ∙ blocks_of_append k before (offset k (Some b) ∷ g) ∙ ap (λ (l : List (List ℕ)). blocks_of k before ++ l) (block_first k b g) in
     let early = subst (λ (l : List (List ℕ)). offset_in (packed_start h k) (first_of_each l) b ≤ packed_start h k + 2 * length (together (blocks_of k before))) (sym bs) (offset_early b (blocks_of k before) (blocks_of k g) (packed_start h k)) in
     omega (arith, early, start_early h k)
 
@@ -149,9 +148,9 @@ header_fits : (h before g : List HeaderWord) → h ≡ before ++ g → All Word 
 unfolding plain_from plain_word packed_word
 header_fits h before [] e w = tt
 header_fits h before (number n ∷ g) e w = (w.0, header_fits h (before ++ (number n ∷ [])) g (e ∙ sym (append_assoc before (number n ∷ []) g)) w.1)
-header_fits h before (offset k none ∷ g) e w = (w.0, header_fits h (before ++ (offset k none ∷ [])) g (e ∙ sym (append_assoc before (offset k none ∷ []) g)) w.1)
-header_fits h before (offset k (some b) ∷ g) e w =
-    (omega (arith, w.0, word_early h before g k b e), header_fits h (before ++ (offset k (some b) ∷ [])) g (e ∙ sym (append_assoc before (offset k (some b) ∷ []) g)) w.1)
+header_fits h before (offset k None ∷ g) e w = (w.0, header_fits h (before ++ (offset k None ∷ [])) g (e ∙ sym (append_assoc before (offset k None ∷ []) g)) w.1)
+header_fits h before (offset k (Some b) ∷ g) e w =
+    (omega (arith, w.0, word_early h before g k b e), header_fits h (before ++ (offset k (Some b) ∷ [])) g (e ∙ sym (append_assoc before (offset k (Some b) ∷ []) g)) w.1)
 
 -- the words of blocks
 together_all : (bs : List (List ℕ)) → All Word (together bs) → All (All Word) bs
@@ -198,8 +197,8 @@ in_layout packing buffer c = record { kind = c.kind; form = c.form; packing = pa
 -- what is left of a call's table is not too big packed if it is not too big plain
 smaller : (o : Option Table) → too_big (words? 0 o) ≡ false → (too_big (words? 1 o) ≡ false) × (length (flat (words? 1 o)) ≤ length (flat (words? 0 o)))
 unfolding words? words_in too_big
-smaller none h = (h, omega arith)
-smaller (some t) h =
+smaller None h = (h, omega arith)
+smaller (Some t) h =
     let plain-small = big_fit (table_words t) h in
     let short = not_longer t in
     (rw (le-ltb limit (length (flat (packed_words t))) (omega (arith, plain-small.1)), packed_fits t plain-small.0), short)

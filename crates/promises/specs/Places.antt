@@ -1,7 +1,6 @@
 -- Malformed, said apart from how `fault` walks: the parts of a source, when a part is sound by its own bytes, and what the lowest start among the faulty parts is.
 -- All parts are listed, those that a faulty part's offsets reach too: an offset that is not null is positive, so they start later than that part and are not the lowest.
-use Rattle.std.specs.Prelude.{ℕ, zero, suc, ◌+◌, ◌-◌, ◌*◌, ◌/◌, ◌<◌, ◌≡◌, refl, Bool, true, false, cond, ◌&&◌, ◌||◌, not, List, [], ◌∷◌, ◌++◌, map, ◌⊎◌, length, leb, ltb, eqb}
-use Rattle.std.proofs.Math.Option.{none, some}
+use Rattle.std.specs.Prelude.{ℕ, zero, suc, ◌+◌, ◌-◌, ◌*◌, ◌/◌, ◌<◌, ◌≡◌, refl, Bool, true, false, cond, ◌&&◌, ◌||◌, not, List, [], ◌∷◌, ◌++◌, map, ◌⊎◌, length, leb, ltb, eqb, None, Some}
 use Rattle.meaning.specs.Words.{word, words, flat, ascends, values, push, map_some}
 use Rattle.meaning.specs.Parts.{coverage, coverage_sound, classes, classes_sound, class_of}
 use Rattle.meaning.specs.Tables.{field_count, pair_set}
@@ -79,7 +78,7 @@ offsets_of s class_table at = []
 
 -- the parts that offsets of a part at `at` reach: they count from its start, and a null one reaches none
 unfoldable pub targets : Sort → ℕ → List ℕ → List Part
-targets to at offsets = map_some (λ w. cond (eqb w 0) none (some (record { sort = to; start = at + w }))) offsets
+targets to at offsets = map_some (λ w. cond (eqb w 0) None (Some (record { sort = to; start = at + w }))) offsets
 
 -- the same for rows of offsets
 unfoldable pub reached_by : List ℕ → ℕ → List (Sort × ℕ × ℕ) → List Part

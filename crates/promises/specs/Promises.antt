@@ -1,10 +1,8 @@
 -- Every promise in one place, each with its words above it. They hold of every call: any kind, any form of the glyph map, any layout, any source bytes, any two maps, any buffer.
 -- A reader who believes the definitions of `meaning` needs of this crate what stands here, the statements that it names in Refusals.antt (`Call`, `answer`, `laid`, `refusals`, `Meets`),
 -- Survives.antt, and `Retained`, `new`, `renumbered`, `cut_match`, `cut_ligated`, `Closed`, `SubstituteRetained`, `SubstitutesRetained`, `Different`, `in_layout`, and `Faulty` and `call_of` of the job, each a line or two.
-use Rattle.std.specs.Prelude.{ℕ, ◌≤◌, ◌<◌, ◌≡◌, refl, Bool, true, false, not, List, [], ◌∷◌, ◌++◌, map, length, take, drop, eqb}
+use Rattle.std.specs.Prelude.{ℕ, ◌≤◌, ◌<◌, ◌≡◌, refl, Bool, true, false, not, List, [], ◌∷◌, ◌++◌, map, length, take, drop, eqb, Option, None, Some, unwrap_or, option_map}
 use Rattle.std.proofs.Common.{sym, ap, ◌∙◌, subst}
-use Rattle.std.proofs.Math.Option
-use Rattle.std.proofs.Math.Option.{Option, none, some, get_or}
 use Rattle.meaning.specs.Words.{word, flat, bind, is_some, member}
 use Rattle.meaning.specs.Maps.{run_pairs, glyph_entries, good_glyph_map}
 use Rattle.meaning.specs.Tables.{table, Table, Pair}
@@ -105,7 +103,7 @@ module _ (c : Call) where
   pub refusal_length : ((answer c).number ≡ 0 → ⊥) → ((answer c).number ≡ 6 → ⊥) → ((answer c).number ≡ 10 → ⊥) → (answer c).len ≡ 0
   refusal_length = refused_length c
 
-  pub place_of_fault : (answer c).number ≡ 6 → some (answer c).len ≡ fault c.kind c.source
+  pub place_of_fault : (answer c).number ≡ 6 → Some (answer c).len ≡ fault c.kind c.source
   place_of_fault = malformed_place c
 
   pub length_needed : (answer c).number ≡ 10 → ((answer c).len ≡ length (laid c)) × (length c.buffer < length (laid c))
@@ -166,7 +164,7 @@ module _ (c : Call) (bytes : BytesOf c) (kept : (answer c).number ≡ 0) where
   good = good_glyph_map_lem c.form c.glyphs bytes.glyphs tests.glyphs_good
 
   -- `reads_back`: the bytes that are left say what was cut, and have no fault.
-  pub reads_back : (left? c ≡ some (small_says c)) × (fault c.kind (left (answer c)) ≡ none)
+  pub reads_back : (left? c ≡ Some (small_says c)) × (fault c.kind (left (answer c)) ≡ None)
   reads_back = call_reads_back c.kind c.form c.packing c.source c.glyphs c.lookups c.buffer bytes.source bytes.glyphs bytes.lookups kept
 
   -- Demand 3.
@@ -174,14 +172,14 @@ module _ (c : Call) (bytes : BytesOf c) (kept : (answer c).number ≡ 0) where
   -- `context_same`: the small context matches at a place of the renumbered string of retained glyphs exactly if the source matches at that place of the string,
   -- with the same input length and the source's records in order, less those whose lookup was dropped, renumbered (`renumbered`, said without the cut).
   pub context_same : (string : List ℕ) (i : ℕ) → All (Retained g) string
-      → at_place (match (small_says c)) [] (map (new g) string) i ≡ Option.map (cut_match l) (at_place (match (says c)) [] string i)
+      → at_place (match (small_says c)) [] (map (new g) string) i ≡ option_map (cut_match l) (at_place (match (says c)) [] string i)
   unfolding bind
   context_same string i r = rw reads_back.0 at (Same.context_same g l good c.kind c.source tests.sound string i r)
 
   -- `ligature_same`: the small table forms the same ligature, under its new number and of as many components, where the source forms one, and none where it forms none,
   -- if each ligature whose components are all retained has its own glyph retained (`Closed`).
   pub ligature_same : c.kind ≡ 3 → Closed g (says c) → (string : List ℕ) (i : ℕ) → All (Retained g) string
-      → at_place (λ before x after. ligate (small_says c) x after) [] (map (new g) string) i ≡ Option.map (cut_ligated g) (at_place (λ before x after. ligate (says c) x after) [] string i)
+      → at_place (λ before x after. ligate (small_says c) x after) [] (map (new g) string) i ≡ option_map (cut_ligated g) (at_place (λ before x after. ligate (says c) x after) [] string i)
   unfolding bind
   ligature_same k closed string i r = rw reads_back.0 at (Same.ligature_same g l good c.kind k c.source tests.sound closed string i r)
 
@@ -195,11 +193,11 @@ module _ (c : Call) (bytes : BytesOf c) (kept : (answer c).number ≡ 0) where
   pair_skipped k x y rx ry = rw reads_back.0 at (Same.pair_same g l good c.kind k c.source bytes.source tests.sound x y rx ry).1
 
   -- `class_pair_found`: in pairs by class, each pair of retained glyphs whose first glyph is covered is found in the small table, with the source's adjustments.
-  pub class_pair_found : (cov : List ℕ) (first second : Option (List (ℕ × ℕ))) (f1 f2 n : ℕ) (rows : List (List Pair)) → c.kind ≡ 4 → says c ≡ Table.class_pairs (some cov) first second f1 f2 n rows
+  pub class_pair_found : (cov : List ℕ) (first second : Option (List (ℕ × ℕ))) (f1 f2 n : ℕ) (rows : List (List Pair)) → c.kind ≡ 4 → says c ≡ Table.class_pairs (Some cov) first second f1 f2 n rows
       → (x y : ℕ) → Retained g x → Retained g y → member x cov ≡ true
       → (is_some (adjust (small_says c) (new g x) (new g y)) ≡ true) × (adjust (small_says c) (new g x) (new g y) ≡ adjust (says c) x y)
   class_pair_found cov first second f1 f2 n rows k is x y rx ry m =
-      let sound : fault 4 c.source ≡ none = subst (λ (k : ℕ). fault k c.source ≡ none) k tests.sound in
+      let sound : fault 4 c.source ≡ None = subst (λ (k : ℕ). fault k c.source ≡ None) k tests.sound in
       let found =
       Same.pair_found g l good c.source bytes.source sound cov first second f1 f2 n rows
       (ap (λ (k : ℕ). table k c.source) (sym k) ∙ is) (small_says c) (ap (λ (k : ℕ). cut g l (table k c.source)) (sym k) ∙ reads_back.0) x y m
@@ -208,12 +206,12 @@ module _ (c : Call) (bytes : BytesOf c) (kept : (answer c).number ≡ 0) where
       (rw same (subst (λ (k : ℕ). is_some (adjust (table k c.source) x y) ≡ true) (sym k) found), same)
 
   -- `single_same`: a retained glyph whose substitute is retained is replaced as in the source, by the new number of that substitute, and one that had no substitute has none.
-  pub single_same : c.kind ≡ 5 → (x : ℕ) → Retained g x → SubstituteRetained g (says c) x → substitute (small_says c) (new g x) ≡ Option.map (new g) (substitute (says c) x)
+  pub single_same : c.kind ≡ 5 → (x : ℕ) → Retained g x → SubstituteRetained g (says c) x → substitute (small_says c) (new g x) ≡ option_map (new g) (substitute (says c) x)
   unfolding bind
   single_same k x rx closed = rw reads_back.0 at (Same.single_same g l good c.kind k c.source x rx closed)
 
   -- `singles_same`: so each retained glyph is replaced as in the source, where retained glyphs have retained substitutes (`SubstitutesRetained`).
-  pub singles_same : c.kind ≡ 5 → SubstitutesRetained g (says c) → (x : ℕ) → Retained g x → substitute (small_says c) (new g x) ≡ Option.map (new g) (substitute (says c) x)
+  pub singles_same : c.kind ≡ 5 → SubstitutesRetained g (says c) → (x : ℕ) → Retained g x → substitute (small_says c) (new g x) ≡ option_map (new g) (substitute (says c) x)
   singles_same k closed x rx = single_same k x rx (closed x rx)
 
 -- Glyph maps in either form.
@@ -268,19 +266,19 @@ packed_content c bytes out out' p q =
     let of : (packing : ℕ) (buffer : List ℕ) → BytesOf (in_layout packing buffer c) = λ packing buffer. record { source = bytes.source; glyphs = bytes.glyphs; lookups = bytes.lookups } in
     let plain_reads = (reads_back (in_layout 0 out c) (of 0 out) p).0 in
     let packed-reads = (reads_back (in_layout 1 out' c) (of 1 out') q).0 in
-    ap (λ (o : Option Table). get_or o (says c)) (sym packed-reads ∙ plain_reads)
+    ap (λ (o : Option Table). unwrap_or o (says c)) (sym packed-reads ∙ plain_reads)
 
 -- An absent class table.
 
 -- `null_class_table`: with a null table every glyph holds class 0, which alone survives there, as 0, where some glyph is retained.
-pub null_class_table : (g : List (ℕ × ℕ)) (x : ℕ) → Retained g x → class_map? g none ≡ (0, 0) ∷ []
+pub null_class_table : (g : List (ℕ × ℕ)) (x : ℕ) → Retained g x → class_map? g None ≡ (0, 0) ∷ []
 null_class_table = null_map
 
 -- Bigger tables.
 
 -- `kept_as_before`: where the refusals before 8 don't apply, a plain layout of at most 65,536 bytes, which is what was kept before the limit was raised, is not refused as 9.
 -- Its bytes are the plain layout, as they were (`kept_is_laid`).
-pub kept_as_before : (c : Call) → BytesOf c → c.packing ≡ 0 → good_kind c.kind ≡ true → good_glyph_map c.form c.glyphs ≡ true → fault c.kind c.source ≡ none → length (laid c) ≤ 65536 → too_big (laid_words c) ≡ false
+pub kept_as_before : (c : Call) → BytesOf c → c.packing ≡ 0 → good_kind c.kind ≡ true → good_glyph_map c.form c.glyphs ≡ true → fault c.kind c.source ≡ None → length (laid c) ≤ 65536 → too_big (laid_words c) ≡ false
 kept_as_before c bytes p k m f l = Sizes.left_fits c.packing c.kind (left? c) p (left_good c.kind c.form c.source c.glyphs c.lookups bytes.source bytes.glyphs bytes.lookups k m f) l
 
 -- `bytes_kept_before`: what was kept under the table of refusals with the limits as they were (`refusals_before` in Sizes.antt, where 4 and 9 go by 65,536 bytes) is kept now,
@@ -289,12 +287,12 @@ pub bytes_kept_before : (c : Call) → BytesOf c → c.packing ≡ 0 → NoneOf 
 bytes_kept_before c bytes p n = Sizes.kept_before c (kept_as_before c bytes p) n
 
 -- The condition on ligatures is needed: without it the small table forms another ligature than the source.
-pub closed_needed : ((Matches.less_one).number ≡ 0) × (ligate (table 3 Matches.two_ligatures) 5 (6 ∷ 7 ∷ []) ≡ some (20, 3)) × (ligate (table 3 (left Matches.less_one)) 0 (1 ∷ 2 ∷ []) ≡ some (3, 2))
+pub closed_needed : ((Matches.less_one).number ≡ 0) × (ligate (table 3 Matches.two_ligatures) 5 (6 ∷ 7 ∷ []) ≡ Some (20, 3)) × (ligate (table 3 (left Matches.less_one)) 0 (1 ∷ 2 ∷ []) ≡ Some (3, 2))
 closed_needed = Matches.condition_needed
 
 -- The condition on single substitutions is needed: a glyph whose substitute is not retained is replaced in the source and not in the small table; another one, in the same tables, is replaced in both.
-pub substitute_needed : ((Matches.less_substitute).number ≡ 0) × (substitute (table 5 Matches.by_list) 5 ≡ some 9) × (substitute (table 5 (left Matches.less_substitute)) 0 ≡ some 2)
-    × (substitute (table 5 Matches.by_list) 7 ≡ some 3) × (substitute (table 5 (left Matches.less_substitute)) 1 ≡ none)
+pub substitute_needed : ((Matches.less_substitute).number ≡ 0) × (substitute (table 5 Matches.by_list) 5 ≡ Some 9) × (substitute (table 5 (left Matches.less_substitute)) 0 ≡ Some 2)
+    × (substitute (table 5 Matches.by_list) 7 ≡ Some 3) × (substitute (table 5 (left Matches.less_substitute)) 1 ≡ None)
 substitute_needed = Matches.substitute_needed
 
 -- Records past their rule.
@@ -372,6 +370,6 @@ pub drops_the_other_rules : Passes drops_others → ⊥
 drops_the_other_rules = Wrong.drops_the_other_rules
 
 -- Both break demand 3 too: the source matches at a place, and what they leave of it does not match at that place of the renumbered string.
-pub miss_the_second_rule : (at_place (match (says Wrong.two)) [] (5 ∷ 7 ∷ []) 0 ≡ some (2, []))
-    × (at_place (match (table 1 (left (copies_others Wrong.two)))) [] (0 ∷ 2 ∷ []) 0 ≡ none) × (at_place (match (table 1 (left (drops_others Wrong.two)))) [] (0 ∷ 2 ∷ []) 0 ≡ none)
+pub miss_the_second_rule : (at_place (match (says Wrong.two)) [] (5 ∷ 7 ∷ []) 0 ≡ Some (2, []))
+    × (at_place (match (table 1 (left (copies_others Wrong.two)))) [] (0 ∷ 2 ∷ []) 0 ≡ None) × (at_place (match (table 1 (left (drops_others Wrong.two)))) [] (0 ∷ 2 ∷ []) 0 ≡ None)
 miss_the_second_rule = Wrong.miss_the_second_rule

@@ -1,9 +1,8 @@
 -- Demand 1: which number is given exactly when, in the written order of documents 01 and 02; what a refusal leaves; and that nothing else can meet the public statement.
-use Rattle.std.specs.Prelude.{ℕ, zero, suc, ◌≤◌, ◌<◌, ◌≡◌, Bool, cond, ◌&&◌, ◌||◌, take, drop, ltb}
+use Rattle.std.specs.Prelude.{ℕ, zero, suc, ◌≤◌, ◌<◌, ◌≡◌, Bool, cond, ◌&&◌, ◌||◌, take, drop, ltb, Option, None, Some, unwrap_or}
 use Rattle.std.proofs.Math.Path.{refl, ap}
 use Rattle.std.proofs.Common.{sym, ◌∙◌, true≢false, arith, length-append, length-drop}
 use Rattle.std.proofs.Math.Bool.{true, false, not}
-use Rattle.std.proofs.Math.Option.{Option, none, some, get_or}
 use mathlib.Core.List.{List, [], ◌∷◌, ◌++◌, map}
 use Rattle.std.proofs.Math.ListN.{length}
 use Rattle.std.proofs.Math.Dec.{eqb}
@@ -50,8 +49,8 @@ left? c = cut (glyph_map c) (lookup_map c) (table c.kind c.source)
 
 -- the words of what is left in the layout with this mark; none if nothing is
 unfoldable pub words? : ℕ → Option Table → List ℕ
-words? packing none = []
-words? packing (some t) = words_in packing t
+words? packing None = []
+words? packing (Some t) = words_in packing t
 
 -- the layout that is asked for: its words, and its bytes
 abbrev pub laid_words : Call → List ℕ
@@ -130,8 +129,8 @@ unfolded : (c : Call) (o : Option Table) → left? c ≡ o
     → written_in c.packing c.buffer o
     ≡ by_number c (cond (not (is_some o)) 8 (cond (too_big (words? c.packing o)) 9 (cond (ltb (length c.buffer) (length (flat (words? c.packing o)))) 10 0)))
 unfolding written_in laid_into words? is_some length_by by_number
-unfolded c none e = refl
-unfolded c (some t) e = step (too_big (words_in c.packing t)) (ltb (length c.buffer) (length bs))
+unfolded c None e = refl
+unfolded c (Some t) e = step (too_big (words_in c.packing t)) (ltb (length c.buffer) (length bs))
   where
     bs : List ℕ
     bs = flat (words_in c.packing t)
@@ -268,15 +267,15 @@ module _ (c : Call) where
   refused_length h i k = (answer_meets c).len ∙ rw (ne_eqb (answer c).number 0 h, ne_eqb (answer c).number 10 k, ne_eqb (answer c).number 6 i)
 
   -- with 6 it is the place of the lowest faulty part
-  pub malformed_place : (answer c).number ≡ 6 → some (answer c).len ≡ fault c.kind c.source
+  pub malformed_place : (answer c).number ≡ 6 → Some (answer c).len ≡ fault c.kind c.source
   unfolding length_by refusals is_some
   malformed_place h =
       let t = ((given_exactly (take 7 (refusals c)) 6 (is_some (fault c.kind c.source)) (drop 8 (refusals c)) refl).0 h).0 in
-      ap some ((answer_meets c).len ∙ rw h) ∙ step (fault c.kind c.source) t
+      ap Some ((answer_meets c).len ∙ rw h) ∙ step (fault c.kind c.source) t
     where
-      step : (o : Option ℕ) → is_some o ≡ true → some (get_or o 0) ≡ o
-      step none q = absurd (true≢false (sym q))
-      step (some p) q = refl
+      step : (o : Option ℕ) → is_some o ≡ true → Some (unwrap_or o 0) ≡ o
+      step None q = absurd (true≢false (sym q))
+      step (Some p) q = refl
 
   -- with 10 it is the length needed, and the buffer is shorter
   pub no_room : (answer c).number ≡ 10 → ((answer c).len ≡ length (laid c)) × (length c.buffer < length (laid c))

@@ -1,8 +1,7 @@
 -- Demand 3 for single substitutions, on trees: a retained glyph whose substitute is retained, or that has none, is replaced as in the source.
-use Rattle.std.specs.Prelude.{ℕ, ◌-◌, ◌≡◌, Bool, true, false, cond, eqb}
+use Rattle.std.specs.Prelude.{ℕ, ◌-◌, ◌≡◌, Bool, true, false, cond, eqb, Option, None, Some, option_map}
 use Rattle.std.proofs.Math.Path.{refl}
 use Rattle.std.proofs.Common.{sym, ◌∙◌, ap, ap₂, true≢false, arith, eqb-true}
-use Rattle.std.proofs.Math.Option.{Option, none, some, map}
 use mathlib.Core.List.{List, [], ◌∷◌}
 use Rattle.meaning.specs.Words.{find, bind, map_some, push, keys, values, is_some}
 use Rattle.meaning.specs.Tables.{Table, plus_delta, delta_pairs, list_pairs}
@@ -46,7 +45,7 @@ unfolding bind agree kept_singles substitute find
 kept_finds [] w y = refl
 kept_finds (e ∷ r) w y = step (agree (e ∷ r)) refl
   where
-    step : (t : Bool) → agree (e ∷ r) ≡ t → substitute (cond t (Table.single_delta (some (keys (e ∷ r))) (delta_of e)) (Table.single_list (some (keys (e ∷ r))) (values (e ∷ r)))) y ≡ find (e ∷ r) y
+    step : (t : Bool) → agree (e ∷ r) ≡ t → substitute (cond t (Table.single_delta (Some (keys (e ∷ r))) (delta_of e)) (Table.single_list (Some (keys (e ∷ r))) (values (e ∷ r)))) y ≡ find (e ∷ r) y
     step true q =
         let same = all_map (λ (x : ℕ × ℕ). eqb (delta_of x) (delta_of e) ≡ true) (λ x. delta_of x ≡ delta_of e) (λ x p. eqb-true (delta_of x) (delta_of e) p) r (all_every (λ x. eqb (delta_of x) (delta_of e)) r q) in
         ap (λ (l : List (ℕ × ℕ)). find l y) (delta_is (delta_of e) (e ∷ r) w (refl, same))
@@ -54,35 +53,35 @@ kept_finds (e ∷ r) w y = step (agree (e ∷ r)) refl
 
 -- a retained glyph is found among the kept pairs as it was, with its substitute renumbered
 module _ (g : List (ℕ × ℕ)) (i : Injective g) (x : ℕ) (rx : Retained g x) where
-  finds_same : (es : List (ℕ × ℕ)) → Opt (Retained g) (find es x) → find (kept_substitutes g es) (new g x) ≡ map (new g) (find es x)
+  finds_same : (es : List (ℕ × ℕ)) → Opt (Retained g) (find es x) → find (kept_substitutes g es) (new g x) ≡ option_map (new g) (find es x)
   unfolding find kept_substitutes map_some bind push is_some
   finds_same [] c = refl
   finds_same (e ∷ es) c = step (find g e.0) (find g e.1) refl (eqb e.0 x) (glyphs_carry g i e.0 x rx) c (finds_same es)
     where
       rest : List (ℕ × ℕ)
-      rest = map_some (λ e. bind (find g e.0) (λ n. bind (find g e.1) (λ m. some (n, m)))) es
+      rest = map_some (λ e. bind (find g e.0) (λ n. bind (find g e.1) (λ m. Some (n, m)))) es
 
-      step : (o p : Option ℕ) → find g e.1 ≡ p → (t : Bool) → held? eqb o (new g x) ≡ t → Opt (Retained g) (cond t (some e.1) (find es x))
-          → (Opt (Retained g) (find es x) → find rest (new g x) ≡ map (new g) (find es x))
-          → find (push (bind o (λ n. bind p (λ m. some (n, m)))) rest) (new g x) ≡ map (new g) (cond t (some e.1) (find es x))
-      step none p q true k c ih = absurd (true≢false (sym k))
-      step none p q false k c ih = ih c
-      step (some n) none q true k c ih = absurd (true≢false (sym (sym (ap is_some q) ∙ c)))
-      step (some n) none q false k c ih = ih c
-      step (some n) (some m) q true k c ih = rw (k, q)
-      step (some n) (some m) q false k c ih = rw k (ih c)
+      step : (o p : Option ℕ) → find g e.1 ≡ p → (t : Bool) → held? eqb o (new g x) ≡ t → Opt (Retained g) (cond t (Some e.1) (find es x))
+          → (Opt (Retained g) (find es x) → find rest (new g x) ≡ option_map (new g) (find es x))
+          → find (push (bind o (λ n. bind p (λ m. Some (n, m)))) rest) (new g x) ≡ option_map (new g) (cond t (Some e.1) (find es x))
+      step None p q true k c ih = absurd (true≢false (sym k))
+      step None p q false k c ih = ih c
+      step (Some n) None q true k c ih = absurd (true≢false (sym (sym (ap is_some q) ∙ c)))
+      step (Some n) None q false k c ih = ih c
+      step (Some n) (Some m) q true k c ih = rw (k, q)
+      step (Some n) (Some m) q false k c ih = rw k (ih c)
 
 -- A retained glyph whose substitute is retained is replaced as in the source, by a delta and by a list.
 pub delta_same : (g l : List (ℕ × ℕ)) → GoodMap g → (cover : Option (List ℕ)) (d : ℕ) → (x : ℕ) → Retained g x → SubstituteRetained g (Table.single_delta cover d) x
-    → bind (cut g l (Table.single_delta cover d)) (λ u. substitute u (new g x)) ≡ map (new g) (substitute (Table.single_delta cover d) x)
+    → bind (cut g l (Table.single_delta cover d)) (λ u. substitute u (new g x)) ≡ option_map (new g) (substitute (Table.single_delta cover d) x)
 unfolding cut substitute bind
-delta_same g l good none d x rx c = refl
-delta_same g l good (some cov) d x rx c =
+delta_same g l good None d x rx c = refl
+delta_same g l good (Some cov) d x rx c =
     kept_finds (kept_substitutes g (delta_pairs cov d)) (substitutes_words g good (delta_pairs cov d)) (new g x) ∙ finds_same g (injective g (up_ascends 0 (values g) good.new)) x rx (delta_pairs cov d) c
 
 pub list_same : (g l : List (ℕ × ℕ)) → GoodMap g → (cover : Option (List ℕ)) (subs : List ℕ) → (x : ℕ) → Retained g x → SubstituteRetained g (Table.single_list cover subs) x
-    → bind (cut g l (Table.single_list cover subs)) (λ u. substitute u (new g x)) ≡ map (new g) (substitute (Table.single_list cover subs) x)
+    → bind (cut g l (Table.single_list cover subs)) (λ u. substitute u (new g x)) ≡ option_map (new g) (substitute (Table.single_list cover subs) x)
 unfolding cut substitute bind
-list_same g l good none subs x rx c = refl
-list_same g l good (some cov) subs x rx c =
+list_same g l good None subs x rx c = refl
+list_same g l good (Some cov) subs x rx c =
     kept_finds (kept_substitutes g (list_pairs cov subs)) (substitutes_words g good (list_pairs cov subs)) (new g x) ∙ finds_same g (injective g (up_ascends 0 (values g) good.new)) x rx (list_pairs cov subs) c

@@ -1,6 +1,5 @@
 -- Sizes: a plain layout of at most 65,536 bytes, as was kept before the limit was raised, is not too big, and what was kept then is kept now.
-use Rattle.std.specs.Prelude.{ℕ, ◌≤◌, ◌≡◌, refl, Bool, true, false, ◌&&◌, ◌||◌, not, List, [], ◌∷◌, ◌++◌, length, drop, ltb, eqb}
-use Rattle.std.proofs.Math.Option.{Option, none, some}
+use Rattle.std.specs.Prelude.{ℕ, ◌≤◌, ◌≡◌, refl, Bool, true, false, ◌&&◌, ◌||◌, not, List, [], ◌∷◌, ◌++◌, length, drop, ltb, eqb, Option, None, Some}
 use Rattle.std.proofs.Common.{arith, le-ltb, ltb-false}
 use Rattle.std.proofs.lemmas.Bool.{not-false}
 use Rattle.meaning.specs.Words.{word, inside, is_some, every, flat}
@@ -33,8 +32,8 @@ nothing_big = refl
 -- what is left of a call's table, asked for in the plain layout
 pub left_fits : (packing kind : ℕ) (o : Option Table) → packing ≡ 0 → Opt (GoodOf kind) o → length (flat (words? packing o)) ≤ 65536 → too_big (words? packing o) ≡ false
 unfolding words? words_in
-left_fits packing kind none e g l = nothing_big
-left_fits packing kind (some t) e g l = rw e (small_fits t g.0 (rw e at l))
+left_fits packing kind None e g l = nothing_big
+left_fits packing kind (Some t) e g l = rw e (small_fits t g.0 (rw e at l))
 
 -- the table of refusals with the limits as they were before: 4 is a source over 65,536 bytes and 9 a plain layout over 65,536 bytes
 unfoldable pub refusals_before : Call → List (ℕ × Bool)
@@ -56,7 +55,7 @@ refusals_before c =
 
 -- what was kept then is kept now, with the same bytes, if no such layout is too big
 pub kept_before : (c : Call)
-    → (good_kind c.kind ≡ true → good_glyph_map c.form c.glyphs ≡ true → fault c.kind c.source ≡ none → length (laid c) ≤ 65536 → too_big (laid_words c) ≡ false)
+    → (good_kind c.kind ≡ true → good_glyph_map c.form c.glyphs ≡ true → fault c.kind c.source ≡ None → length (laid c) ≤ 65536 → too_big (laid_words c) ≡ false)
     → NoneOf (refusals_before c) → ((answer c).number ≡ 0) × ((answer c).out ≡ laid c ++ drop (length (laid c)) c.buffer)
 unfolding refusals_before refusals limit
 kept_before c fits (n1, (n13, (n14, (n2, (n3, (n4, (n5, (n6, (n7, (n12, (n8, (n9, (n10, u))))))))))))) =

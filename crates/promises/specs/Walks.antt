@@ -1,8 +1,7 @@
 -- Pairs along a string: as shapers go, pair by pair, the second glyph of a pair that is found under a nonzero second format is skipped, so that the next pair begins after it.
 -- What is left of a pair table finds the same pairs at the same places, with equal adjustments.
-use Rattle.std.specs.Prelude.{ℕ, ◌+◌, ◌≡◌, refl, Bool, true, false, cond, not, List, [], ◌∷◌, map, replicate, eqb, ℤ, pos}
+use Rattle.std.specs.Prelude.{ℕ, ◌+◌, ◌≡◌, refl, Bool, true, false, cond, not, List, [], ◌∷◌, map, replicate, eqb, ℤ, pos, Option, None, Some}
 use Rattle.std.proofs.Common.{ap, subst}
-use Rattle.std.proofs.Math.Option.{Option, none, some}
 use Rattle.meaning.specs.Words.{word, bytes2, flat}
 use Rattle.meaning.specs.Tables.{Table, pair_table, table}
 use Rattle.meaning.specs.Cut.{cut}
@@ -19,9 +18,9 @@ skipping t = not (eqb (second_format t) 0)
 
 -- the pairs found from place i on: the one at i, if it is found, and then those from its second glyph on, or, if that is skipped, those after it
 unfoldable pub found_at : ℕ → Option (Move × Move) → Bool → List (ℕ × (Move × Move)) → List (ℕ × (Move × Move)) → List (ℕ × (Move × Move))
-found_at i none skip from after = from
-found_at i (some moves) false from after = (i, moves) ∷ from
-found_at i (some moves) true from after = (i, moves) ∷ after
+found_at i None skip from after = from
+found_at i (Some moves) false from after = (i, moves) ∷ from
+found_at i (Some moves) true from after = (i, moves) ∷ after
 
 -- the pairs that a table finds along a string whose first glyph stands at place i: each with its place and how its glyphs are moved
 unfoldable pub walk : Table → ℕ → List ℕ → List (ℕ × (Move × Move))
@@ -42,7 +41,7 @@ walks_same g t u e k i (x ∷ y ∷ string) r =
     λ j. found_at i (k x y r.0 r.1.0 j) (e j) (from j) (after j)
 
 -- what is left of a pair table has a nonzero second format exactly if the source has one
-pub skipping_same : (g l : List (ℕ × ℕ)) (kind : ℕ) → kind ≡ 4 → (source : List ℕ) (small : Table) → cut g l (table kind source) ≡ some small → skipping small ≡ skipping (table kind source)
+pub skipping_same : (g l : List (ℕ × ℕ)) (kind : ℕ) → kind ≡ 4 → (source : List ℕ) (small : Table) → cut g l (table kind source) ≡ Some small → skipping small ≡ skipping (table kind source)
 unfolding table pair_table second_format
 skipping_same g l kind k source small e = ap not (subst (Opt (λ u. eqb (second_format u) 0 ≡ eqb (second_format (table kind source)) 0)) e (left kind k))
   where

@@ -1,8 +1,7 @@
 -- What is cut has no record past its rule, if the source has none: records keep their places, and rules their input counts. So what is kept is never refused as 12.
-use Rattle.std.specs.Prelude.{ℕ, suc, ◌≡◌, refl, Bool, true, false, cond, ◌&&◌, not, List, [], ◌∷◌, length, take, drop, ltb, eqb}
+use Rattle.std.specs.Prelude.{ℕ, suc, ◌≡◌, refl, Bool, true, false, cond, ◌&&◌, not, List, [], ◌∷◌, length, take, drop, ltb, eqb, Option, None, Some}
 use Rattle.std.proofs.Common.{sym, ap, ◌∙◌, subst}
 use Rattle.std.proofs.Math.Bool.{true≢false}
-use Rattle.std.proofs.Math.Option.{Option, none, some}
 use Rattle.meaning.specs.Words.{keys, values, every, find, bind, map_all, push, map_some}
 use Rattle.meaning.specs.Tables.{Rule, Ligature, Pair, Table, drop_null, delta_pairs, list_pairs, table}
 use Rattle.meaning.specs.Records.{indexes_below, rule_within, sets_within, records_within}
@@ -20,16 +19,16 @@ abbrev Anything : {A : Type 0} → A → Type 0
 Anything a = Unit {0}
 
 any : {A : Type 0} (o : Option A) → Opt Anything o
-any none = tt
-any (some a) = tt
+any None = tt
+any (Some a) = tt
 
 -- records keep their places
 cut_places : (n : ℕ) (l rs : List (ℕ × ℕ)) → indexes_below n rs ≡ true → indexes_below n (cut_records l rs) ≡ true
 unfolding indexes_below cut_records
 cut_places n l rs h =
     every_all (λ e. ltb e.0 n) (cut_records l rs)
-    (all_map_some (λ e. ltb e.0 n ≡ true) (λ e. ltb e.0 n ≡ true) (λ e. bind (find l e.1) (λ x. some (e.0, x)))
-    (λ e p. opt_bind Anything (λ e. ltb e.0 n ≡ true) (find l e.1) (λ x. some (e.0, x)) (any (find l e.1)) (λ x u. p)) rs (all_every (λ e. ltb e.0 n) rs h))
+    (all_map_some (λ e. ltb e.0 n ≡ true) (λ e. ltb e.0 n ≡ true) (λ e. bind (find l e.1) (λ x. Some (e.0, x)))
+    (λ e p. opt_bind Anything (λ e. ltb e.0 n ≡ true) (find l e.1) (λ x. Some (e.0, x)) (any (find l e.1)) (λ x u. p)) rs (all_every (λ e. ltb e.0 n) rs h))
 
 -- rules keep their counts
 abbrev RuleWithin : Rule → Type 0
@@ -57,14 +56,14 @@ cut_set_lem chained m rs h =
 sets_facts : (ss : List (Option (List Rule))) → sets_within ss ≡ true → All (Opt SetWithin) ss
 unfolding sets_within every drop_null
 sets_facts [] h = tt
-sets_facts (none ∷ ss) h = (tt, sets_facts ss h)
-sets_facts (some rs ∷ ss) h = (and_left (every rule_within rs) _ h, sets_facts ss (and_right (every rule_within rs) _ h))
+sets_facts (None ∷ ss) h = (tt, sets_facts ss h)
+sets_facts (Some rs ∷ ss) h = (and_left (every rule_within rs) _ h, sets_facts ss (and_right (every rule_within rs) _ h))
 
 sets_tested : (ss : List (Option (List Rule))) → All (Opt SetWithin) ss → sets_within ss ≡ true
 unfolding sets_within every drop_null
 sets_tested [] h = refl
-sets_tested (none ∷ ss) h = sets_tested ss h.1
-sets_tested (some rs ∷ ss) h = rw h.0 (sets_tested ss h.1)
+sets_tested (None ∷ ss) h = sets_tested ss h.1
+sets_tested (Some rs ∷ ss) h = rw h.0 (sets_tested ss h.1)
 
 -- kept sets
 kept_sets_lem : {A : Type 0} (P : A → Type 0) (f : A → Option A) → ((x : A) → P x → Opt P (f x)) → (g : List (ℕ × ℕ)) (cov : List ℕ) (ss : List (Option A)) → All (Opt P) ss → All (Opt P) (sets_of (kept_sets f g cov ss))
@@ -78,8 +77,8 @@ kept_sets_lem {A} P f k g (c ∷ cov) (s ∷ ss) h =
     Q e = P e.1
 
     step : (o : Option (ℕ × A)) → Opt Q o → All (Opt P) (sets_of (kept_sets f g cov ss)) → All (Opt P) (sets_of (push o (kept_sets f g cov ss)))
-    step none p i = i
-    step (some e) p i = (p, i)
+    step None p i = i
+    step (Some e) p i = (p, i)
 
 -- a coverage for each glyph of the input stays
 abbrev AsMany : {A B : Type 0} → List A → List B → Type 0
@@ -95,7 +94,7 @@ abbrev pub Within : Table → Type 0
 Within t = records_within t ≡ true
 
 by_cover_within : (chained : Bool) (l rs : List (ℕ × ℕ)) (i : List (Option (List ℕ))) (b' i' a' : Option (List (Option (List ℕ)))) → Opt (AsMany i) i' → indexes_below (length i) rs ≡ true
-    → Opt Within (bind b' (λ b. bind i' (λ i. bind a' (λ a. some (Table.by_cover chained b i a (cut_records l rs))))))
+    → Opt Within (bind b' (λ b. bind i' (λ i. bind a' (λ a. Some (Table.by_cover chained b i a (cut_records l rs))))))
 unfolding records_within
 by_cover_within chained l rs i b' i' a' e h =
     opt_bind Anything Within b' _ (any b') (λ b u. opt_bind (AsMany i) Within i' _ e (λ r n. opt_bind Anything Within a' _ (any a') (λ a v. rw n (cut_places (length i) l rs h))))
@@ -106,15 +105,15 @@ unfolding kept_singles records_within
 singles_within [] = tt
 singles_within (e ∷ r) = step (agree (e ∷ r))
   where
-    step : (t : Bool) → Within (cond t (Table.single_delta (some (keys (e ∷ r))) (delta_of e)) (Table.single_list (some (keys (e ∷ r))) (values (e ∷ r))))
+    step : (t : Bool) → Within (cond t (Table.single_delta (Some (keys (e ∷ r))) (delta_of e)) (Table.single_list (Some (keys (e ∷ r))) (values (e ∷ r))))
     step true = refl
     step false = refl
 
 -- What is cut of such a table is such a table.
 pub cut_within : (g l : List (ℕ × ℕ)) (t : Table) → Within t → Opt Within (cut g l t)
 unfolding cut records_within
-cut_within g l (Table.by_glyph chained none sets) h = tt
-cut_within g l (Table.by_glyph chained (some cov) sets) h = step (kept_sets (cut_set chained m) g cov sets) (kept_sets_lem SetWithin (cut_set chained m) (cut_set_lem chained m) g cov sets (sets_facts sets h))
+cut_within g l (Table.by_glyph chained None sets) h = tt
+cut_within g l (Table.by_glyph chained (Some cov) sets) h = step (kept_sets (cut_set chained m) g cov sets) (kept_sets_lem SetWithin (cut_set chained m) (cut_set_lem chained m) g cov sets (sets_facts sets h))
   where
     m : RuleMaps
     m = record { back = g; input = g; ahead = g; lookups = l }
@@ -122,9 +121,9 @@ cut_within g l (Table.by_glyph chained (some cov) sets) h = step (kept_sets (cut
     step : (ks : List (ℕ × List Rule)) → All (Opt SetWithin) (sets_of ks) → Opt Within (kept_by_glyph chained ks)
     step [] k = tt
     step (e ∷ ks) k = sets_tested (sets_of (e ∷ ks)) k
-cut_within g l (Table.by_class chained none b i a sets) h = tt
-cut_within g l (Table.by_class chained (some cov) b none a sets) h = tt
-cut_within g l (Table.by_class chained (some cov) b (some cs) a sets) h =
+cut_within g l (Table.by_class chained None b i a sets) h = tt
+cut_within g l (Table.by_class chained (Some cov) b None a sets) h = tt
+cut_within g l (Table.by_class chained (Some cov) b (Some cs) a sets) h =
     step (trim all) (trim_all SetWithin all (slots_all SetWithin (cut_set chained m) (cut_set_lem chained m) (held_by cs (retained g cov)) sets (held_by cs (keys g)) (sets_facts sets h)))
   where
     m : RuleMaps
@@ -133,38 +132,38 @@ cut_within g l (Table.by_class chained (some cov) b (some cs) a sets) h =
     all : List (Option (List Rule))
     all = slots (cut_set chained m) (held_by cs (retained g cov)) sets (held_by cs (keys g))
 
-    step : (ss : List (Option (List Rule))) → All (Opt SetWithin) ss → Opt Within (kept_by_class chained (new_coverage g cov) (new_classes? g b) (new_classes? g (some cs)) (new_classes? g a) ss)
+    step : (ss : List (Option (List Rule))) → All (Opt SetWithin) ss → Opt Within (kept_by_class chained (new_coverage g cov) (new_classes? g b) (new_classes? g (Some cs)) (new_classes? g a) ss)
     step [] k = tt
     step (s ∷ ss) k = sets_tested (s ∷ ss) k
 cut_within g l (Table.by_cover chained b i a rs) h = by_cover_within chained l rs i (covers_left g b) (covers_left g i) (covers_left g a) (all_length _ i) h
-cut_within g l (Table.ligatures none sets) h = tt
-cut_within g l (Table.ligatures (some cov) sets) h = step (kept_sets (cut_ligatures g) g cov sets)
+cut_within g l (Table.ligatures None sets) h = tt
+cut_within g l (Table.ligatures (Some cov) sets) h = step (kept_sets (cut_ligatures g) g cov sets)
   where
     step : (ks : List (ℕ × List Ligature)) → Opt Within (kept_ligatures ks)
     step [] = tt
     step (e ∷ ks) = refl
-cut_within g l (Table.pairs_of none f1 f2 sets) h = tt
-cut_within g l (Table.pairs_of (some cov) f1 f2 sets) h = step (kept_sets (cut_pairs g) g cov sets)
+cut_within g l (Table.pairs_of None f1 f2 sets) h = tt
+cut_within g l (Table.pairs_of (Some cov) f1 f2 sets) h = step (kept_sets (cut_pairs g) g cov sets)
   where
     step : (ks : List (ℕ × List Pair)) → Opt Within (kept_pairs f1 f2 ks)
     step [] = tt
     step (e ∷ ks) = refl
-cut_within g l (Table.class_pairs none first second f1 f2 n rows) h = tt
-cut_within g l (Table.class_pairs (some cov) none second f1 f2 n rows) h = tt
-cut_within g l (Table.class_pairs (some cov) (some cs) none f1 f2 n rows) h = tt
-cut_within g l (Table.class_pairs (some cov) (some cs) (some ds) f1 f2 n rows) h = step (covered_map g cov)
+cut_within g l (Table.class_pairs None first second f1 f2 n rows) h = tt
+cut_within g l (Table.class_pairs (Some cov) None second f1 f2 n rows) h = tt
+cut_within g l (Table.class_pairs (Some cov) (Some cs) None f1 f2 n rows) h = tt
+cut_within g l (Table.class_pairs (Some cov) (Some cs) (Some ds) f1 f2 n rows) h = step (covered_map g cov)
   where
     step : (covered : List (ℕ × ℕ)) → Opt Within (kept_class_pairs g covered cs ds f1 f2 rows)
     step [] = tt
     step (e ∷ r) = refl
-cut_within g l (Table.single_delta none d) h = tt
-cut_within g l (Table.single_delta (some cov) d) h = singles_within (kept_substitutes g (delta_pairs cov d))
-cut_within g l (Table.single_list none subs) h = tt
-cut_within g l (Table.single_list (some cov) subs) h = singles_within (kept_substitutes g (list_pairs cov subs))
+cut_within g l (Table.single_delta None d) h = tt
+cut_within g l (Table.single_delta (Some cov) d) h = singles_within (kept_substitutes g (delta_pairs cov d))
+cut_within g l (Table.single_list None subs) h = tt
+cut_within g l (Table.single_list (Some cov) subs) h = singles_within (kept_substitutes g (list_pairs cov subs))
 
 module _ (c : Call) where
   -- what a call keeps is one
-  pub kept_within : (answer c).number ≡ 0 → (small : Table) → left? c ≡ some small → Within small
+  pub kept_within : (answer c).number ≡ 0 → (small : Table) → left? c ≡ Some small → Within small
   kept_within h small e =
       let w = (passed c.kind c.form c.packing c.source c.glyphs c.lookups c.buffer h).within in
       subst (Opt Within) e (cut_within (glyph_map c) (lookup_map c) (table c.kind c.source) w)

@@ -2,14 +2,14 @@
 use Prim.Native.Nat.{ℕ, zero, suc, ◌+◌, ◌*◌, ◌/◌, ◌≤◌, ◌<◌}
 use mathlib.Core.Path.{◌≡◌, refl, ap, ◌∙◌}
 use mathlib.Core.Bool.{true}
-use mathlib.Core.Option.{none}
+use Rattle.std.specs.Prelude.{None}
 use mathlib.Core.List.{List, [], ◌∷◌}
 use native.Mathlib.Decide.{dec_lt}
 use native.Mathlib.Nat.{zero-add}
 use native.Mathlib.Omega.{arith}
 use lib.ListN.{length}
 use borrow.Author.Tests.{ne_eqb}
-use Rattle.meaning.specs.Words.{word, entries, keys, find, ascends}
+use Rattle.meaning.specs.Words.{word, keys, find, ascends}
 use Rattle.meaning.specs.Maps.{map_entries}
 use Rattle.laws.specs.Stands.{All}
 use Rattle.laws.specs.Runs.{Up}
@@ -21,7 +21,7 @@ use Rattle.range_meets.specs.Met.{met, entry_below}
 use Rattle.range_meets.specs.Walks.{rest, Reached}
 
 -- no entry is below the lowest
-pub find_below : (b low : ℕ) (es : List (ℕ × ℕ)) → b < low → Up low (keys es) → find es b ≡ none
+pub find_below : (b low : ℕ) (es : List (ℕ × ℕ)) → b < low → Up low (keys es) → find es b ≡ None
 unfolding find keys
 find_below b low [] h u = refl
 find_below b low ((o, v) ∷ es) h u = rw (ne_eqb o b (omega (arith, u.0))) (find_below b (o + 1) es (omega (arith, u.0)) u.1)

@@ -1,7 +1,7 @@
 -- What the loop over listed glyphs keeps, and each way through its turn.
 use Prim.Native.Nat.{ℕ, ◌+◌, ◌-◌, ◌*◌, ◌/◌, ◌%◌, ◌≤◌, ◌<◌}
 use mathlib.Core.Path.{◌≡◌, sym, ap, ◌∙◌}
-use mathlib.Core.Option.{none, some}
+use Rattle.std.specs.Prelude.{None, Some}
 use mathlib.Core.List.{List, [], ◌∷◌, ◌++◌, map, append-nil, append_assoc, map-append}
 use native.Mathlib.Omega.{arith}
 use lib.ListN.{length, set, length-append, length-map}
@@ -66,7 +66,7 @@ module _ {s : List ℕ} {at n : ℕ} {m : Map} {t₀ : List ℕ} {to : ℕ} wher
     unfolding met bind push
     listing_one g =
         let v = i * 65536 + e % 65536 in
-        let o : folded t₀ m glyph ≡ some (e % 65536) = ap (λ (x : ℕ). answer_in x glyph) (sym same_cell) ∙ answer_own e glyph g in
+        let o : folded t₀ m glyph ≡ Some (e % 65536) = ap (λ (x : ℕ). answer_in x glyph) (sym same_cell) ∙ answer_own e glyph g in
         let d : from s at n m t₀ to i ≡ (i, e % 65536) ∷ from s at n m t₀ to (i + 1) = rw (words_left_lem s at n i h, ← w, o) in
         let q : v / 65536 ≡ i = omega arith in
         let r : v % 65536 ≡ e % 65536 = omega arith in
@@ -85,7 +85,7 @@ module _ {s : List ℕ} {at n : ℕ} {m : Map} {t₀ : List ℕ} {to : ℕ} wher
     pub listing_none : (v : ℕ) → (e / 65536 ≡ glyph → ⊥) → Listing s at n m t₀ to (set t (to + k) v) k (i + 1)
     unfolding met bind push
     listing_none v g =
-        let o : folded t₀ m glyph ≡ none = ap (λ (x : ℕ). answer_in x glyph) (sym same_cell) ∙ answer_other e glyph g in
+        let o : folded t₀ m glyph ≡ None = ap (λ (x : ℕ). answer_in x glyph) (sym same_cell) ∙ answer_other e glyph g in
         let d : from s at n m t₀ to i ≡ from s at n m t₀ to (i + 1) = rw (words_left_lem s at n i h, ← w, o) in
         record {
           within = omega arith;

@@ -1,9 +1,8 @@
 -- The covered glyphs that a map has.
-use Rattle.std.specs.Prelude.{ℕ, suc, ◌+◌, ◌/◌, ◌%◌, ◌≤◌, ◌<◌, ◌≡◌, Bool, false, cond, length}
+use Rattle.std.specs.Prelude.{ℕ, suc, ◌+◌, ◌/◌, ◌%◌, ◌≤◌, ◌<◌, ◌≡◌, Bool, false, cond, length, Option, None, Some}
 use Rattle.std.proofs.Math.Path.{refl}
 use Rattle.std.proofs.Common.{sym, ap, ◌∙◌}
 use Rattle.std.proofs.Math.Bool.{true}
-use Rattle.std.proofs.Math.Option.{Option, none, some}
 use mathlib.Core.List.{List, [], ◌∷◌, map}
 use native.Mathlib.Omega.{arith}
 use Rattle.std.proofs.lemmas.List.{length-map}
@@ -22,7 +21,7 @@ use Rattle.area.specs.Part.{part, part_length, news, notes}
 -- the glyphs that the map f answers, in order, each as its coverage index and its new number; the first has the index i
 unfoldable pub met : (ℕ → Option ℕ) → ℕ → List ℕ → List (ℕ × ℕ)
 met f i [] = []
-met f i (c ∷ cov) = push (bind (f c) (λ n. some (i, n))) (met f (i + 1) cov)
+met f i (c ∷ cov) = push (bind (f c) (λ n. Some (i, n))) (met f (i + 1) cov)
 
 -- r cells from `to` on note the glyphs of cov that the map f answers, each as its coverage index times 65,536, plus its new number; the cells before `to` are as before
 pub record Met (f : ℕ → Option ℕ) (cov t₀ : List ℕ) (to : ℕ) (t : List ℕ) (r : ℕ) : Type 0 where
@@ -42,7 +41,7 @@ pub record Meets (s : List ℕ) (at : ℕ) (glyphs : List ℕ) (m : Map) (t : Li
 pub met_same : (f h : ℕ → Option ℕ) → ((x : ℕ) → f x ≡ h x) → (i : ℕ) (cov : List ℕ) → met f i cov ≡ met h i cov
 unfolding met
 met_same f h e i [] = refl
-met_same f h e i (c ∷ cov) = rw (e c) (ap (push (bind (h c) (λ n. some (i, n)))) (met_same f h e (i + 1) cov))
+met_same f h e i (c ∷ cov) = rw (e c) (ap (push (bind (h c) (λ n. Some (i, n)))) (met_same f h e (i + 1) cov))
 
 -- their new numbers are the new coverage
 pub met_values : (g : List (ℕ × ℕ)) (i : ℕ) (cov : List ℕ) → values (met (find g) i cov) ≡ new_coverage g cov
@@ -50,9 +49,9 @@ unfolding met values new_coverage map_some push bind
 met_values g i [] = refl
 met_values g i (c ∷ cov) = step (find g c) (met_values g (i + 1) cov)
   where
-    step : (o : Option ℕ) → values (met (find g) (i + 1) cov) ≡ new_coverage g cov → values (push (bind o (λ n. some (i, n))) (met (find g) (i + 1) cov)) ≡ push o (new_coverage g cov)
-    step none e = e
-    step (some n) e = ap (λ (l : List ℕ). n ∷ l) e
+    step : (o : Option ℕ) → values (met (find g) (i + 1) cov) ≡ new_coverage g cov → values (push (bind o (λ n. Some (i, n))) (met (find g) (i + 1) cov)) ≡ push o (new_coverage g cov)
+    step None e = e
+    step (Some n) e = ap (λ (l : List ℕ). n ∷ l) e
 
 values_notes : (l : List ℕ) → values (map (λ c. (c / 65536, c % 65536)) l) ≡ map (λ c. c % 65536) l
 unfolding values
@@ -91,7 +90,7 @@ module _ (k v : ℕ) (g : List (ℕ × ℕ)) where
   pub entry_below : (i : ℕ) (cov : List ℕ) → All (λ c. k < c) cov → met (find ((k, v) ∷ g)) i cov ≡ met (find g) i cov
   unfolding met find
   entry_below i [] h = refl
-  entry_below i (c ∷ cov) h = rw (ne_eqb k c (omega (arith, h.0))) (ap (push (bind (find g c) (λ n. some (i, n)))) (entry_below (i + 1) cov h.1))
+  entry_below i (c ∷ cov) h = rw (ne_eqb k c (omega (arith, h.0))) (ap (push (bind (find g c) (λ n. Some (i, n)))) (entry_below (i + 1) cov h.1))
 
   entry_retains : (i low : ℕ) (cov : List ℕ) → Up low cov → length (met (find ((k, v) ∷ g)) i cov) ≤ suc (length (met (find g) i cov))
   unfolding met find push bind
@@ -103,11 +102,11 @@ module _ (k v : ℕ) (g : List (ℕ × ℕ)) where
       above e (x ∷ l) h = (omega (arith, eqb-true k c e, h.0), above e l h.1)
 
       step : (b : Bool) → eqb k c ≡ b → (o : Option ℕ) → length (met (find ((k, v) ∷ g)) (i + 1) cov) ≤ suc (length (met (find g) (i + 1) cov))
-          → length (push (bind (cond b (some v) o) (λ n. some (i, n))) (met (find ((k, v) ∷ g)) (i + 1) cov)) ≤ suc (length (push (bind o (λ n. some (i, n))) (met (find g) (i + 1) cov)))
-      step true e none h = omega (arith, ap length (entry_below (i + 1) cov (above e cov (up_least (c + 1) cov u.1))))
-      step true e (some n) h = omega (arith, ap length (entry_below (i + 1) cov (above e cov (up_least (c + 1) cov u.1))))
-      step false e none h = h
-      step false e (some n) h = omega arith
+          → length (push (bind (cond b (Some v) o) (λ n. Some (i, n))) (met (find ((k, v) ∷ g)) (i + 1) cov)) ≤ suc (length (push (bind o (λ n. Some (i, n))) (met (find g) (i + 1) cov)))
+      step true e None h = omega (arith, ap length (entry_below (i + 1) cov (above e cov (up_least (c + 1) cov u.1))))
+      step true e (Some n) h = omega (arith, ap length (entry_below (i + 1) cov (above e cov (up_least (c + 1) cov u.1))))
+      step false e None h = h
+      step false e (Some n) h = omega arith
 
 pub met_few : (g : List (ℕ × ℕ)) (cov : List ℕ) → Up 0 cov → length (met (find g) 0 cov) ≤ length g
 met_few [] cov u = omega (arith, ap length (met_none 0 cov))

@@ -30,15 +30,14 @@ pub fn meet_range(
     requires { MeetsRange glyphs.now from first index t.old to }
     ensures { InRange glyphs.now from first last index t.old to t.new result }
 {
-    let mut k = 0;
-    while from + k < glyphs.len() / 4 {
+    let n = glyphs.len() / 4 - from;
+    for k in 0..n {
         let old = word_inside(glyphs, 4 * (from + k));
         if last < old {
             return k;
         }
         let new = word_inside(glyphs, 4 * (from + k) + 2);
         t[to + k] = ((index + (old - first)) * 65536 + new) as u32;
-        k += 1;
     }
-    k
+    n
 }

@@ -2,7 +2,7 @@
 use Prim.Native.Nat.{ℕ, ◌+◌, ◌-◌, ◌*◌, ◌/◌, ◌≤◌, ◌<◌}
 use mathlib.Core.Path.{◌≡◌, refl, sym, ap, ◌∙◌}
 use mathlib.Core.Bool.{Bool, true, false, ◌||◌}
-use mathlib.Core.Option.{none}
+use Rattle.std.specs.Prelude.{None}
 use mathlib.Core.List.{List}
 use native.Mathlib.Decide.{dec_lt}
 use native.Mathlib.Omega.{arith}
@@ -77,7 +77,7 @@ module _ {t : List ℕ} {m : Map} (k : Direct t m) where
       above = λ x l. step x l (eqb (bit_and x m.mask) c) refl;
     }
       where
-        step : (x : ℕ) → m.mask < x → (b : Bool) → eqb (bit_and x m.mask) c ≡ b → folded after m x ≡ none
+        step : (x : ℕ) → m.mask < x → (b : Bool) → eqb (bit_and x m.mask) c ≡ b → folded after m x ≡ None
         step x l true e =
             let f : bit_and x m.mask ≡ c = eqb-true _ _ e in
             ap (λ (e : ℕ). answer_in e x) (entry_folded after m odd x)

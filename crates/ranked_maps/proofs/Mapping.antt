@@ -2,7 +2,7 @@
 use Prim.Native.Nat.{ℕ, zero, suc, ◌+◌, ◌-◌, ◌%◌, ◌^◌, ◌≤◌, ◌<◌}
 use mathlib.Core.Path.{◌≡◌, refl, sym, ap, ◌∙◌}
 use mathlib.Core.Bool.{Bool, true, false, cond, ◌||◌}
-use mathlib.Core.Option.{none, some}
+use Rattle.std.specs.Prelude.{None, Some}
 use mathlib.Core.List.{List, [], ◌∷◌, map}
 use native.Mathlib.Decide.{dec_lt}
 use native.Mathlib.Omega.{arith}
@@ -47,7 +47,7 @@ module _ (cs : List (ℕ × ℕ)) (x : ℕ) where
   held_in (e ∷ g) = insert_member x (class_of cs e.0) (held_by cs (keys g)) ∙ step (eqb (class_of cs e.0) 0) refl (holds_zero cs g) (held_in g ∙ in_zero x (holds_zero cs g) (each_once (values (classed cs g))))
     where
       step : (b : Bool) → eqb (class_of cs e.0) 0 ≡ b → (z : Bool) → member x (held_by cs (keys g)) ≡ cond z (eqb 0 x || member x (each_once (values (classed cs g)))) (member x (each_once (values (classed cs g))))
-          → eqb (class_of cs e.0) x || member x (held_by cs (keys g)) ≡ member x (with_zero (b || z) (each_once (values (push (cond b none (some (e.1, class_of cs e.0))) (classed cs g)))))
+          → eqb (class_of cs e.0) x || member x (held_by cs (keys g)) ≡ member x (with_zero (b || z) (each_once (values (push (cond b None (Some (e.1, class_of cs e.0))) (classed cs g)))))
       step true q true k = rw (eqb-true (class_of cs e.0) 0 q, k) (sym (in_zero x true (each_once (values (classed cs g))) ∙ or_twice (eqb 0 x) (member x (each_once (values (classed cs g))))))
       step true q false k = rw (eqb-true (class_of cs e.0) 0 q, k) (sym (in_zero x true (each_once (values (classed cs g)))))
       step false q true k =

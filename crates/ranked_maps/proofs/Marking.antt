@@ -1,7 +1,7 @@
 -- The ways through the loops that mark and rank classes.
 use Prim.Native.Nat.{ℕ, ◌+◌, ◌-◌, ◌*◌, ◌/◌, ◌%◌, ◌≤◌, ◌<◌}
 use mathlib.Core.Path.{◌≡◌, refl, sym, ap, ◌∙◌}
-use mathlib.Core.Option.{none, some}
+use Rattle.std.specs.Prelude.{None, Some}
 use mathlib.Core.List.{List, [], ◌∷◌, map}
 use native.Mathlib.Decide.{dec_lt}
 use native.Mathlib.Omega.{arith}
@@ -20,7 +20,7 @@ use Rattle.ranked_maps.specs.Present.{top_of, present_from, present, present_up,
 use Rattle.ranked_maps.specs.Mapped.{Direct, ToMark, Marked, Ranked}
 use Rattle.ranked_maps.proofs.Direct.{top_mask, folded_own, class_inside, has_entry, has_none, entry_present, direct_set, cell_same, cell_other, present_set}
 
-nothing_found : (x : ℕ) → find [] x ≡ none
+nothing_found : (x : ℕ) → find [] x ≡ None
 unfolding find
 nothing_found x = refl
 
@@ -96,7 +96,7 @@ pub record Ranking (t₀ t : List ℕ) (m : Map) (count c : ℕ) : Type 0 where
   pub total : count + length (present_from t₀ m c (m.mask + 1 - c)) ≡ length (present t₀ m)
 
 -- a rank is found under its number, and not under another
-rank_own : (k c : ℕ) (l : List ℕ) → find (numbered k (c ∷ l)) c ≡ some k
+rank_own : (k c : ℕ) (l : List ℕ) → find (numbered k (c ∷ l)) c ≡ Some k
 unfolding numbered find
 rank_own k c l = rw (eq-eqb c c refl)
 
@@ -104,7 +104,7 @@ rank_other : (k c x : ℕ) (l : List ℕ) → c < x → find (numbered k (c ∷ 
 unfolding numbered find
 rank_other k c x l h = rw (ne_eqb c x (λ e. omega arith))
 
-no_rank : (k x : ℕ) → find (numbered k []) x ≡ none
+no_rank : (k x : ℕ) → find (numbered k []) x ≡ None
 unfolding numbered find
 no_rank k x = refl
 
@@ -167,7 +167,7 @@ module _ {t₀ : List ℕ} {m : Map} where
               let q : x ≡ c = omega arith in
               rw q (
               folded_own d c (omega arith) ∙ ap (λ (w : ℕ). answer_in w c) (cell_same k.direct c count (omega arith) small)
-              ∙ answer_own (c * 65536 + count) c (omega (arith, small)) ∙ ap some value
+              ∙ answer_own (c * 65536 + count) c (omega (arith, small)) ∙ ap Some value
               ∙ sym (rank_own count c (present_from t₀ m (c + 1) (m.mask + 1 - (c + 1)))) ∙ rw first at (k.left c (omega arith)))
 
     -- it has none

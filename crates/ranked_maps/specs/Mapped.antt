@@ -1,8 +1,6 @@
 -- What the functions of class maps ask and answer.
-use Rattle.std.specs.Prelude.{ℕ, zero, suc, ◌+◌, ◌/◌, ◌%◌, ◌≤◌, ◌<◌, ◌≡◌, refl, Bool, true, false, cond, ◌||◌, List, [], ◌∷◌, map, length, get_or, eqb}
+use Rattle.std.specs.Prelude.{ℕ, zero, suc, ◌+◌, ◌/◌, ◌%◌, ◌≤◌, ◌<◌, ◌≡◌, refl, Bool, true, false, cond, ◌||◌, List, [], ◌∷◌, map, length, get_or, eqb, None, Some, unwrap_or}
 use Rattle.std.proofs.Common.{ap, ◌∙◌, arith}
-use Rattle.std.proofs.Math.Option
-use Rattle.std.proofs.Math.Option.{none, some}
 use Rattle.meaning.specs.Words.{ascends, keys, values, find, member}
 use Rattle.meaning.specs.Cut.{insert_up, held_by, numbered, class_map, class_map?, classes_under, new_classes, second_map}
 use Rattle.laws.specs.Runs.{Up}
@@ -29,7 +27,7 @@ pub record Direct (t : List ℕ) (m : Map) : Type 0 where
   pub power : Power (m.mask + 1)
   pub few : m.mask < 65536
   pub inside : Inside t m
-  pub above : (x : ℕ) → m.mask < x → folded t m x ≡ none
+  pub above : (x : ℕ) → m.mask < x → folded t m x ≡ None
 
 -- The cells of m have no entry, and lie behind g cells from `list` on, whose classes have a cell.
 pub record ToMark (t : List ℕ) (m : Map) (list g : ℕ) : Type 0 where
@@ -90,7 +88,7 @@ pub record PutToo (t₀ t : List ℕ) (marks : ℕ) (cs : List ℕ) : Type 0 whe
 -- r's map holds these new numbers of classes, of which none is above its top, and r says how many they are.
 pub record Classes (es : List (ℕ × ℕ)) (t : List ℕ) (r : ClassMap) : Type 0 where
   pub holds : Holds t r.map es
-  pub above : (x : ℕ) → top_of r.map < x → find es x ≡ none
+  pub above : (x : ℕ) → top_of r.map < x → find es x ≡ None
   pub count : r.count ≡ length es
 
 -- classes with class 0 among them, if z says so
@@ -111,7 +109,7 @@ pub record Mapped (made : List (ℕ × ℕ) → List (ℕ × ℕ) → List (ℕ 
 pub record Entries (t₀ t : List ℕ) (list n : ℕ) (m : Map) (r : ℕ) : Type 0 where
   pub few : r ≤ n
   pub elsewhere : Elsewhere list (list + n) t₀ t
-  pub entries : (cs g es : List (ℕ × ℕ)) → Lists cs g t₀ list n → Holds t₀ m es → Option.get_or (find es 0) 0 ≡ 0 → notes t list r ≡ classes_under es g cs
+  pub entries : (cs g es : List (ℕ × ℕ)) → Lists cs g t₀ list n → Holds t₀ m es → unwrap_or (find es 0) 0 ≡ 0 → notes t list r ≡ classes_under es g cs
 
 -- what holds of all notes holds of each cell
 notes_each : (b : ℕ) (t : List ℕ) (list n : ℕ) → All {A = ℕ × ℕ} (λ e. e.1 ≤ b) (notes t list n) → (j : ℕ) → j < n → get_or t (list + j) 0 % 65536 ≤ b
@@ -138,20 +136,20 @@ module _ {cs g : List (ℕ × ℕ)} {t₀ t : List ℕ} {list : ℕ} {l : ClassL
   }
 
 -- class 0 has no other new number in either map
-zero_rank : (l : List ℕ) → Up 0 l → Option.get_or (find (numbered 0 l) 0) 0 ≡ 0
+zero_rank : (l : List ℕ) → Up 0 l → unwrap_or (find (numbered 0 l) 0) 0 ≡ 0
 unfolding numbered find
 zero_rank [] u = refl
 zero_rank (c ∷ l) u = step (eqb c 0) refl
   where
-    step : (b : Bool) → eqb c 0 ≡ b → Option.get_or (cond b (some 0) (find (numbered 1 l) 0)) 0 ≡ 0
+    step : (b : Bool) → eqb c 0 ≡ b → unwrap_or (cond b (Some 0) (find (numbered 1 l) 0)) 0 ≡ 0
     step true e = refl
     step false e = rw (find_low 1 0 l (c + 1) u.1 (omega arith))
 
-pub zero_first : (g cs : List (ℕ × ℕ)) → Option.get_or (find (class_map g cs) 0) 0 ≡ 0
+pub zero_first : (g cs : List (ℕ × ℕ)) → unwrap_or (find (class_map g cs) 0) 0 ≡ 0
 unfolding class_map
 zero_first g cs = zero_rank (held_by cs (keys g)) (held_up cs (keys g))
 
-pub zero_second : (g cs : List (ℕ × ℕ)) → Option.get_or (find (second_map g cs) 0) 0 ≡ 0
+pub zero_second : (g cs : List (ℕ × ℕ)) → unwrap_or (find (second_map g cs) 0) 0 ≡ 0
 unfolding second_map
 zero_second g cs = zero_rank (insert_up 0 (held_by cs (keys g))) (insert_up_lem 0 0 (held_by cs (keys g)) (omega arith) (held_up cs (keys g)))
 

@@ -1,10 +1,9 @@
 -- Which classes have an entry in the cells of a class map, found by a walk over the numbers that can have one.
 use Prim.Native.Nat.{ℕ, zero, suc, ◌+◌, ◌-◌, ◌%◌, ◌≤◌, ◌<◌}
-use Rattle.std.specs.Prelude.{◌≡◌, Bool, ◌||◌, List, [], ◌∷◌, eqb}
+use Rattle.std.specs.Prelude.{◌≡◌, Bool, ◌||◌, List, [], ◌∷◌, eqb, None, Some}
 use Rattle.std.proofs.Math.Path.{refl, sym, ap}
 use Rattle.std.proofs.Common.{◌∙◌, eq-eqb, ne_eqb}
 use Rattle.std.proofs.Math.Bool.{true, false, cond}
-use Rattle.std.proofs.Math.Option.{none, some}
 use Rattle.std.proofs.Math.Decide.{dec_lt}
 use native.Mathlib.Omega.{arith}
 use Rattle.meaning.specs.Words.{find, is_some, member, keys}
@@ -116,7 +115,7 @@ module _ (t : List ℕ) (m : Map) where
         rw d
 
   -- where no number above the top has an entry, one has an entry just if the walk finds it
-  pub found_present : ((x : ℕ) → top_of m < x → folded t m x ≡ none) → (x : ℕ) → is_some (folded t m x) ≡ member x (present t m)
+  pub found_present : ((x : ℕ) → top_of m < x → folded t m x ≡ None) → (x : ℕ) → is_some (folded t m x) ≡ member x (present t m)
   unfolding is_some
   found_present above x = step (dec_lt (top_of m) x)
     where
@@ -136,17 +135,17 @@ unfolding numbered find is_some member
 numbered_found k x [] = refl
 numbered_found k x (c ∷ l) = step (eqb c x) (numbered_found (k + 1) x l)
   where
-    step : (b : Bool) → is_some (find (numbered (k + 1) l) x) ≡ member x l → is_some (cond b (some k) (find (numbered (k + 1) l) x)) ≡ b || member x l
+    step : (b : Bool) → is_some (find (numbered (k + 1) l) x) ≡ member x l → is_some (cond b (Some k) (find (numbered (k + 1) l) x)) ≡ b || member x l
     step true e = refl
     step false e = e
 
 -- where the cells hold ranks, none for a number above the top, the walk finds the classes that have one
-present_ranks : {t : List ℕ} {m : Map} (l : List ℕ) → Up 0 l → Holds t m (numbered 0 l) → ((x : ℕ) → top_of m < x → find (numbered 0 l) x ≡ none) → present t m ≡ l
+present_ranks : {t : List ℕ} {m : Map} (l : List ℕ) → Up 0 l → Holds t m (numbered 0 l) → ((x : ℕ) → top_of m < x → find (numbered 0 l) x ≡ None) → present t m ≡ l
 present_ranks {t} {m} l u h above =
     same_members 0 0 (present t m) l (present_up t m 0 (top_of m + 1)) u
     (λ x. sym (found_present t m (λ y a. h.answers y ∙ above y a) x) ∙ ap is_some (h.answers x) ∙ numbered_found 0 x l)
 
 -- where they hold a class map, it finds the surviving classes
-pub present_held : {t : List ℕ} {m : Map} (g cs : List (ℕ × ℕ)) → Holds t m (class_map g cs) → ((x : ℕ) → top_of m < x → find (class_map g cs) x ≡ none) → present t m ≡ held_by cs (keys g)
+pub present_held : {t : List ℕ} {m : Map} (g cs : List (ℕ × ℕ)) → Holds t m (class_map g cs) → ((x : ℕ) → top_of m < x → find (class_map g cs) x ≡ None) → present t m ≡ held_by cs (keys g)
 unfolding class_map
 present_held g cs h above = present_ranks (held_by cs (keys g)) (held_up cs (keys g)) h above

@@ -1,9 +1,8 @@
 -- Ranks hold a map that numbers the members of an ascending list, from 0 on.
-use Rattle.std.specs.Prelude.{ℕ, ◌+◌, ◌*◌, ◌%◌, ◌<◌, ◌≡◌, Bool, cond, ◌&&◌, List}
+use Rattle.std.specs.Prelude.{ℕ, ◌+◌, ◌*◌, ◌%◌, ◌<◌, ◌≡◌, Bool, cond, ◌&&◌, List, Some}
 use Rattle.std.proofs.Math.Path.{refl, sym, ap}
 use Rattle.std.proofs.Common.{◌∙◌, arith}
 use Rattle.std.proofs.Math.Bool.{true, false}
-use Rattle.std.proofs.Math.Option.{some}
 use Rattle.std.proofs.Math.Dec.{ltb}
 use borrow.Author.Tests.{ltb-true, ltb-false}
 use Rattle.meaning.specs.Words.{find}
@@ -25,7 +24,7 @@ module _ {t : List ℕ} {at : ℕ} {l : List ℕ} (c : Counts t at) (s : MarksOf
       step true e true f =
           let h : x < 65536 = ltb-true x 65536 e in
           let r : (x * 65536 + rank_in t at x % 65536) % 65536 ≡ marks_below t at x = omega (arith, rank_is c x h, marks_few t at x) in
-          answer_own (x * 65536 + rank_in t at x % 65536) x (omega arith) ∙ ap some r ∙ sym (rw f at (ranks_found s x h))
+          answer_own (x * 65536 + rank_in t at x % 65536) x (omega arith) ∙ ap Some r ∙ sym (rw f at (ranks_found s x h))
 
 -- the cells of m, marks of the list's numbers and right counts, hold the map
 pub holds_ranks : {t : List ℕ} {m : Map} {l : List ℕ} → Inside t m → m.mask ≡ ranked_mask → Counts t m.at → MarksOf t m.at l → Holds t m (numbered 0 l)

@@ -23,9 +23,7 @@ fn put_listed(t: &mut [u32], list: usize, n: usize, marks: usize)
     requires { ToPut t.old list n marks }
     ensures { PutToo t.old t.new marks (news t.old list n) }
 {
-    let mut e = n;
-    while 0 < e {
-        e -= 1;
+    for e in (0..n).rev() {
         let class = t[list + e] as usize % 65536;
         put_bit(t, marks, class);
     }

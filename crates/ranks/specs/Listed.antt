@@ -1,11 +1,10 @@
 -- Marks of the numbers of an ascending list: the rank of a number is its place in the list.
 use Prim.Native.Nat.{ℕ, zero, suc, ◌+◌, ◌-◌, ◌/◌, ◌≤◌, ◌<◌}
-use Rattle.std.specs.Prelude.{◌≡◌, Bool, length}
+use Rattle.std.specs.Prelude.{◌≡◌, Bool, length, None, Some}
 use Rattle.std.proofs.Math.Path.{refl, sym}
 use Rattle.std.proofs.Common.{ap, ◌∙◌, inl, add-zero}
 use mathlib.Core.List.{List, [], ◌∷◌}
 use Rattle.std.proofs.Math.Bool.{true, false, cond}
-use Rattle.std.proofs.Math.Option.{none, some}
 use Rattle.std.proofs.Math.Decide.{dec_lt}
 use native.Mathlib.Omega.{arith}
 use Rattle.std.proofs.Math.Dec.{eqb}
@@ -68,20 +67,20 @@ module _ (t : List ℕ) (at : ℕ) where
       (n, marks_one c (h c u.0 b ∙ first_in c l) ∙ ap (λ (k : ℕ). k + 1) n)
 
   rank_from : (k low x : ℕ) (l : List ℕ) → Up low l → k ≡ marks_below t at low → low ≤ x → ((y : ℕ) → low ≤ y → y < x + 1 → marked t at y ≡ member y l)
-      → find (numbered k l) x ≡ cond (marked t at x) (some (marks_below t at x)) none
+      → find (numbered k l) x ≡ cond (marked t at x) (Some (marks_below t at x)) None
   unfolding find numbered
   rank_from k low x [] u e b h = rw (h x b (omega arith) ∙ none_in x)
   rank_from k low x (c ∷ l) u e b h = step (dec_lt x c) (eqb c x) refl (λ f. rank_from (k + 1) (c + 1) x l u.1 f)
     where
       step : Dec (x < c) → (q : Bool) → eqb c x ≡ q
-          → (k + 1 ≡ marks_below t at (c + 1) → c + 1 ≤ x → ((y : ℕ) → c + 1 ≤ y → y < x + 1 → marked t at y ≡ member y l) → find (numbered (k + 1) l) x ≡ cond (marked t at x) (some (marks_below t at x)) none)
-          → cond q (some k) (find (numbered (k + 1) l) x) ≡ cond (marked t at x) (some (marks_below t at x)) none
+          → (k + 1 ≡ marks_below t at (c + 1) → c + 1 ≤ x → ((y : ℕ) → c + 1 ≤ y → y < x + 1 → marked t at y ≡ member y l) → find (numbered (k + 1) l) x ≡ cond (marked t at x) (Some (marks_below t at x)) None)
+          → cond q (Some k) (find (numbered (k + 1) l) x) ≡ cond (marked t at x) (Some (marks_below t at x)) None
       step (yes p) true f r = absurd (omega (arith, eqb-true c x f))
       step (yes p) false f r = rw (h x b (omega arith) ∙ low_none c x (c ∷ l) (omega arith, u.1) p) (find_low (k + 1) x l (c + 1) u.1 (omega arith))
       step (no p) true f r =
           let g : c ≡ x = eqb-true c x f in
           let m = marks_first low (x + 1) c l u (omega arith) h in
-          rw (← g, h c u.0 (omega arith) ∙ first_in c l) (ap some (e ∙ sym m.0))
+          rw (← g, h c u.0 (omega arith) ∙ first_in c l) (ap Some (e ∙ sym m.0))
       step (no p) false f r =
           let g : c ≡ x → ⊥ = eqb-false c x f in
           let m = marks_first low (x + 1) c l u (omega arith) h in
@@ -98,7 +97,7 @@ module _ (t : List ℕ) (at : ℕ) where
       omega (arith, m.1, r)
 
 -- a number past all is not found
-find_high : (k n x : ℕ) (l : List ℕ) → All (λ c. c < n) l → n ≤ x → find (numbered k l) x ≡ none
+find_high : (k n x : ℕ) (l : List ℕ) → All (λ c. c < n) l → n ≤ x → find (numbered k l) x ≡ None
 unfolding find numbered
 find_high k n x [] w h = refl
 find_high k n x (c ∷ l) w h = rw (ne_eqb c x (λ e. omega (arith, w.0))) (find_high (k + 1) n x l w.1 h)
@@ -109,11 +108,11 @@ none_below t at = refl
 
 module _ {t : List ℕ} {at : ℕ} {l : List ℕ} (m : MarksOf t at l) where
   -- a word is found by its mark, and its number is its rank
-  pub ranks_found : (x : ℕ) → x < 65536 → find (numbered 0 l) x ≡ cond (marked t at x) (some (marks_below t at x)) none
+  pub ranks_found : (x : ℕ) → x < 65536 → find (numbered 0 l) x ≡ cond (marked t at x) (Some (marks_below t at x)) None
   ranks_found x h = rank_from t at 0 0 x l m.up (none_below t at) (omega arith) (λ y a b. m.each y (omega arith))
 
   -- no other number is found
-  pub ranks_past : (x : ℕ) → 65536 ≤ x → find (numbered 0 l) x ≡ none
+  pub ranks_past : (x : ℕ) → 65536 ≤ x → find (numbered 0 l) x ≡ None
   ranks_past x h = find_high 0 65536 x l m.words h
 
   -- there are as many marks as numbers

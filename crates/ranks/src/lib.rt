@@ -14,11 +14,9 @@ pub fn count_marks(t: &mut [u32], at: usize) -> usize
     ensures { Counted t.old t.new at result }
 {
     let mut count = 0;
-    let mut i = 0;
-    while i < CELLS {
+    for i in 0..CELLS {
         t[at + i + CELLS] = count as u32;
         count += u32::count_ones(t[at + i]) as usize;
-        i += 1;
     }
     count
 }

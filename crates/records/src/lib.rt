@@ -18,11 +18,9 @@ fn members(src: &[u8], slot: usize, n: usize) -> usize
     ensures { (result ≡ members_at src.now (words src.now slot n)) × (result ≤ 0x1_0000_0000) }
 {
     let mut total = 0;
-    let mut i = 0;
-    while i < n {
+    for i in 0..n {
         let at = word_at(src, slot + 2 * i);
         total += word_at(src, at);
-        i += 1;
     }
     total
 }

@@ -2,7 +2,7 @@
 use Prim.Native.Nat.{ℕ}
 use mathlib.Core.Path.{◌≡◌, ap, ◌∙◌}
 use mathlib.Core.Bool.{true, false, ◌&&◌, ◌||◌, not}
-use mathlib.Core.Option.{none, some}
+use Rattle.std.specs.Prelude.{None, Some, Result}
 use mathlib.Core.List.{List}
 use lib.ListN.{length}
 use lib.Dec.{ltb, eqb}
@@ -17,12 +17,10 @@ use Rattle.meaning.specs.Subset.{refused, limit, good_kind, has_format, has_devi
 use Rattle.laws.specs.CallBack.{subset_is}
 use Rattle.glyph_runs.specs.Runs.{GlyphMap}
 use Rattle.room.specs.Laid.{outcome_of}
-use Rattle.room.specs.declared.Laid.{Laid}
+use Rattle.room.specs.declared.NotLaid.{NotLaid}
 use Rattle.refusals.specs.Answers.{answer_of, outcome, same_outcome}
-use Rattle.refusals.specs.Refusals.{Passes, Judges}
-use Rattle.refusals.specs.declared.Answer.{Answer}
-use Rattle.refusals.specs.declared.Judged.{Judged}
-use Rattle.refusals.specs.declared.Judged.TheVariants.{Refused, Sound}
+use Rattle.refusals.specs.Refusals.{Passes}
+use Rattle.refusals.specs.declared.Refusal.{Refusal}
 
 -- none of the answers 1, 13, 14 and 2 to 5 applies; the glyph map is bytes
 pub record Tested (kind form layout : ℕ) (s g l : List ℕ) : Type 0 where
@@ -63,11 +61,11 @@ module _ (kind form layout : ℕ) (s g l : List ℕ) where
             at_format f h out = rw (subset_is kind form layout s g l out, a, b, c, d, e, f, h)
 
   module _ (t : Tested kind form layout s g l) where
-    pub at_malformed : {p : ℕ} → fault kind s ≡ some p → (out : List ℕ) → record { number = 6; len = p; out = out } ≡ subset kind form layout s g l out
+    pub at_malformed : {p : ℕ} → fault kind s ≡ Some p → (out : List ℕ) → record { number = 6; len = p; out = out } ≡ subset kind form layout s g l out
     unfolding is_some
     at_malformed f out = rw (subset_is kind form layout s g l out, t.good_kind_lem, t.good_form_lem, t.good_layout, t.good_glyphs_lem.good, t.good_lookups_lem, t.short, t.format, f)
 
-    module _ (f : fault kind s ≡ none) where
+    module _ (f : fault kind s ≡ None) where
       pub at_device : eqb kind 4 && (has_device (word s 4) || has_device (word s 6)) ≡ true → (out : List ℕ) → refused out 7 ≡ subset kind form layout s g l out
       unfolding is_some
       at_device h out = rw (subset_is kind form layout s g l out, t.good_kind_lem, t.good_form_lem, t.good_layout, t.good_glyphs_lem.good, t.good_lookups_lem, t.short, t.format, f, h)
@@ -85,17 +83,7 @@ module _ (kind form layout : ℕ) (s g l : List ℕ) where
           outcomes = λ out. rw (subset_is kind form layout s g l out, t.good_kind_lem, t.good_form_lem, t.good_layout, t.good_glyphs_lem.good, t.good_lookups_lem, t.short, t.format, f, h, w);
         }
 
--- What a judgement says of the call.
-module _ (kind form layout : ℕ) (s g l : List ℕ) (r : Judged) (j : Judges kind form layout s g l r) where
-  -- the answer that refuses is the call's
-  pub is_refused : {a : Answer} → r ≡ Refused a → (out : List ℕ) → outcome a out ≡ subset kind form layout s g l out
-  is_refused e = (rw e at j)
-
-  -- no test refused
-  pub is_sound : r ≡ Sound → Passes kind form layout s g l
-  is_sound e = (rw e at j)
-
 -- what was laid is the call's outcome
-pub cut_outcome : {kind form layout : ℕ} {s g l : List ℕ} → Passes kind form layout s g l → (out : List ℕ) (r : Laid) {x : Answer} {after : List ℕ}
+pub cut_outcome : {kind form layout : ℕ} {s g l : List ℕ} → Passes kind form layout s g l → (out : List ℕ) (r : Result ℕ NotLaid) {x : Result ℕ Refusal} {after : List ℕ}
     → outcome_of r after ≡ written_in layout out (cut (glyph_entries form g) (map_entries l) (table kind s)) → x ≡ answer_of r → outcome x after ≡ subset kind form layout s g l out
-cut_outcome p out r {x} {after} i j = ap (λ (y : Answer). outcome y after) j ∙ same_outcome r after ∙ i ∙ p.outcomes out
+cut_outcome p out r {x} {after} i j = ap (λ (y : Result ℕ Refusal). outcome y after) j ∙ same_outcome r after ∙ i ∙ p.outcomes out

@@ -1,9 +1,8 @@
 -- A new class table, made in the first cells when it is written.
-use Rattle.std.specs.Prelude.{ℕ, ◌+◌, ◌≤◌, ◌<◌, ◌≡◌, Bool, cond, length}
+use Rattle.std.specs.Prelude.{ℕ, ◌+◌, ◌≤◌, ◌<◌, ◌≡◌, Bool, cond, length, Option, None, Some}
 use Rattle.std.proofs.Math.Path.{refl, sym, ap}
 use Rattle.std.proofs.Common.{◌∙◌, arith}
 use Rattle.std.proofs.Math.Bool.{true, false}
-use Rattle.std.proofs.Math.Option.{Option, none, some}
 use mathlib.Core.List.{List}
 use Rattle.std.proofs.Math.Dec.{eqb}
 use borrow.Author.Tests.{eq-eqb, ne_eqb, eqb-true, eqb-false}
@@ -39,14 +38,14 @@ new_table g s at = block class_words (new_classes? g (table_at s at))
 
 -- the block of a new class table, whose entries are noted in cells; null if the old one is
 unfoldable pub table_block : List ℕ → NewTable → Option (List ℕ)
-table_block t n = cond (eqb n.old 0) none (some (class_words (notes t n.list n.len)))
+table_block t n = cond (eqb n.old 0) None (Some (class_words (notes t n.list n.len)))
 
 module _ (t : List ℕ) (n : NewTable) where
-  pub block_null : n.old ≡ 0 → table_block t n ≡ none
+  pub block_null : n.old ≡ 0 → table_block t n ≡ None
   unfolding table_block
   block_null z = rw (eq-eqb n.old 0 z)
 
-  pub block_there : (n.old ≡ 0 → ⊥) → table_block t n ≡ some (class_words (notes t n.list n.len))
+  pub block_there : (n.old ≡ 0 → ⊥) → table_block t n ≡ Some (class_words (notes t n.list n.len))
   unfolding table_block
   block_there z = rw (ne_eqb n.old 0 z)
 
@@ -61,7 +60,7 @@ module _ (t : List ℕ) (n : NewTable) where
           block_null z ∙ sym (rw (null_table s z) refl)
       step false q =
           let z : n.old ≡ 0 → ⊥ = eqb-false n.old 0 q in
-          block_there z ∙ ap (λ (es : List (ℕ × ℕ)). some (class_words es)) (e ∙ ap (new_classes g) (lists_there s z)) ∙ sym (rw (table_there s z) refl)
+          block_there z ∙ ap (λ (es : List (ℕ × ℕ)). Some (class_words es)) (e ∙ ap (new_classes g) (lists_there s z)) ∙ sym (rw (table_there s z) refl)
 
 -- the entries of a new class table stand in cells, and its glyphs ascend; its words fit, if its count does
 pub record TableIn (t : List ℕ) (n : NewTable) : Type 0 where

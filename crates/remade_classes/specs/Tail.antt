@@ -1,6 +1,5 @@
 -- What follows the sets: the coverage and the class tables, with their offsets in the header.
-use Rattle.std.specs.Prelude.{ℕ, ◌+◌, ◌-◌, ◌*◌, ◌≤◌, ◌<◌, ◌≡◌, refl, Bool, true, false, cond, ◌&&◌, List, [], ◌∷◌, ◌++◌, map, length, leb}
-use Rattle.std.proofs.Math.Option.{Option, none, some}
+use Rattle.std.specs.Prelude.{ℕ, ◌+◌, ◌-◌, ◌*◌, ◌≤◌, ◌<◌, ◌≡◌, refl, Bool, true, false, cond, ◌&&◌, List, [], ◌∷◌, ◌++◌, map, length, leb, Option, None, Some}
 use Rattle.std.proofs.Common.{arith, leb-false}
 use Rattle.std.proofs.lemmas.List.Edits.{sets}
 use Rattle.meaning.specs.Words.{flat, threes}
@@ -9,7 +8,7 @@ use Rattle.meaning.specs.Layout.{runs, indexed, coverage_words, words_fit}
 use Rattle.laws.specs.Stands.{threes_length}
 use Rattle.known_blocks.specs.Shared.{offsets_in, blocks_in}
 use Rattle.known_blocks.specs.Book.{book_cells, packs}
-use Rattle.class_spots.specs.Sets.{slots_at}
+use Rattle.class_places.specs.Places.{slots_at}
 use Rattle.class_spots.specs.Slots.{Noted}
 use Rattle.class_spots.specs.Placing.{Gathered, TurnIn}
 use Rattle.class_spots.specs.declared.Turn.{Turn}
@@ -66,8 +65,8 @@ tail_most = 393222
 -- no block is over 131,076 bytes: the count of a longer class table doesn't fit a word
 unfoldable pub short_blocks : List (Option (List ℕ)) → Bool
 short_blocks [] = true
-short_blocks (none ∷ bs) = short_blocks bs
-short_blocks (some b ∷ bs) = leb (length b) 65538 && short_blocks bs
+short_blocks (None ∷ bs) = short_blocks bs
+short_blocks (Some b ∷ bs) = leb (length b) 65538 && short_blocks bs
 
 -- the offsets of class tables that stand from q on fit words, and so do their counts
 unfoldable pub tables_fit : Bool → ℕ → List (Option (List ℕ)) → Bool

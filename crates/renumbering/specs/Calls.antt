@@ -1,7 +1,6 @@
 -- What a call leaves of a listed lookup.
-use Rattle.std.specs.Prelude.{ℕ, ◌≤◌, ◌≡◌, refl, Bool, true, false, cond, ◌||◌, List, ◌++◌, length, drop, ltb, eqb}
+use Rattle.std.specs.Prelude.{ℕ, ◌≤◌, ◌≡◌, refl, Bool, true, false, cond, ◌||◌, List, ◌++◌, length, drop, ltb, eqb, Option, Some}
 use Rattle.std.proofs.Common.{sym, ap, ◌∙◌, subst, arith, take_at}
-use Rattle.std.proofs.Math.Option.{Option, some}
 use Rattle.meaning.specs.Words.{word, flat}
 use Rattle.meaning.specs.Maps.{map_entries, glyph_entries}
 use Rattle.meaning.specs.Tables.{Table, table}
@@ -18,7 +17,7 @@ abbrev pub ListedKind : ℕ → Type 0
 ListedKind kind = eqb kind 1 || (eqb kind 2 || eqb kind 5) ≡ true
 
 -- what is written, where it is kept: the bytes of the layout, which are not over the limit
-written_bytes : (packing : ℕ) (out : List ℕ) (o : Option Table) (t : Table) → o ≡ some t → (written_in packing out o).number ≡ 0
+written_bytes : (packing : ℕ) (out : List ℕ) (o : Option Table) (t : Table) → o ≡ Some t → (written_in packing out o).number ≡ 0
     → (left (written_in packing out o) ≡ flat (words_in packing t)) × (length (flat (words_in packing t)) ≤ limit)
 unfolding written_in laid_into
 written_bytes packing out o t e h = rw e (step (too_big ws) (ltb (length out) (length bs)) refl (rw e at h))

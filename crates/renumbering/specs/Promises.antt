@@ -1,8 +1,6 @@
 -- The promise of request 14 over a source list and its cut, about the bytes. A reader who believes the definitions of `meaning` and `replaying` needs of this crate what stands here,
 -- and `Each` and `new_trace`, `new_run`, `RetainedRun`, each a line or two.
-use Rattle.std.specs.Prelude.{ℕ, zero, suc, ◌+◌, ◌≤◌, ◌<◌, ◌≡◌, true, ◌||◌, length, take, drop}
-use Rattle.std.proofs.Math.Option
-use Rattle.std.proofs.Math.Option.{none, some}
+use Rattle.std.specs.Prelude.{ℕ, zero, suc, ◌+◌, ◌≤◌, ◌<◌, ◌≡◌, true, ◌||◌, length, take, drop, None, Some, option_map}
 use mathlib.Core.List.{List, [], ◌∷◌, map}
 use Rattle.std.proofs.Math.Dec.{eqb}
 use Rattle.meaning.specs.Words.{find}
@@ -47,7 +45,7 @@ pub record CutEntry (form : ℕ) (glyphs lookups buffer cut : List ℕ) (x y : E
 pub record CutLists (form : ℕ) (glyphs lookups list buffer small cut : List ℕ) : Type 0 where
   pub long : length small ≡ length list
   pub each : Each (CutEntry form glyphs lookups buffer cut) (listed list) (listed small)
-  pub mapped : (n : ℕ) → n < length (listed list) → find (map_entries lookups) n ≡ some n
+  pub mapped : (n : ℕ) → n < length (listed list) → find (map_entries lookups) n ≡ Some n
 
 -- Bytes of a part.
 
@@ -93,7 +91,7 @@ module _ (form : ℕ) (glyphs lookups list buffer small cut : List ℕ) (bg : By
   each_of_lem (x ∷ xs) [] h c = absurd c
   each_of_lem (x ∷ xs) (y ∷ ys) h c = (cut_of x y h.0 c.0, each_of_lem xs ys h.1 c.1)
 
-  all_ordered : (es : List Entry) → first_refusal buffer es ≡ none → All (λ x. ordered (lookup_of buffer x) ≡ true) es
+  all_ordered : (es : List Entry) → first_refusal buffer es ≡ None → All (λ x. ordered (lookup_of buffer x) ≡ true) es
   unfolding first_refusal lookup_of
   all_ordered [] e = tt
   all_ordered (x ∷ es) e =
@@ -102,8 +100,8 @@ module _ (form : ℕ) (glyphs lookups list buffer small cut : List ℕ) (bg : By
 
   -- `results_same`: over a source list and its cut, a run of retained glyphs gives the renumbered result: what comes out of the cut list for the renumbered run is what comes out of the source list, renumbered,
   -- too deep or not, if the source list is not refused, every listed lookup is mapped to its own place and its cut is kept, and retained glyphs have retained substitutes.
-  pub results_same : (trace : List ℕ) → refusal list buffer trace ≡ none → CutLists form glyphs lookups list buffer small cut → AllClosed → (string : List ℕ) → All (Retained g) string
-      → run (lookups_of small cut) (map (new g) string) ≡ Option.map (map (new g)) (run (lookups_of list buffer) string)
+  pub results_same : (trace : List ℕ) → refusal list buffer trace ≡ None → CutLists form glyphs lookups list buffer small cut → AllClosed → (string : List ℕ) → All (Retained g) string
+      → run (lookups_of small cut) (map (new g) string) ≡ option_map (map (new g)) (run (lookups_of list buffer) string)
   results_same trace fine cuts closed string retained =
       let lists : CutList g l list buffer small cut = record {
         long = cuts.long;
@@ -112,8 +110,8 @@ module _ (form : ℕ) (glyphs lookups list buffer small cut : List ℕ) (bg : By
       } in
       Lists.results_same g l good_map list buffer small cut trace fine lists (all_ordered (listed list) (taken list buffer trace fine).fine) closed string retained
 
-  module _ (trace : List ℕ) (rs : List Run) (fine : refusal list buffer trace ≡ none) (cuts : CutLists form glyphs lookups list buffer small cut) (closed : AllClosed)
-      (reads : runs_of trace ≡ some rs) (retained : All (RetainedRun g) rs) where
+  module _ (trace : List ℕ) (rs : List Run) (fine : refusal list buffer trace ≡ None) (cuts : CutLists form glyphs lookups list buffer small cut) (closed : AllClosed)
+      (reads : runs_of trace ≡ Some rs) (retained : All (RetainedRun g) rs) where
     abbrev lists : CutList g l list buffer small cut
     lists = record {
       long = cuts.long;
@@ -128,5 +126,5 @@ module _ (form : ℕ) (glyphs lookups list buffer small cut : List ℕ) (bg : By
     replay_same = lists_same_trace g l good_map list buffer small cut trace rs fine lists (all_ordered (listed list) (taken list buffer trace fine).fine) closed reads retained
 
     -- The same of any trace whose runs are the renumbered ones.
-    pub replay_same_runs : (trace' : List ℕ) → runs_of trace' ≡ some (map (new_run g) rs) → replay small cut trace' ≡ replay list buffer trace
+    pub replay_same_runs : (trace' : List ℕ) → runs_of trace' ≡ Some (map (new_run g) rs) → replay small cut trace' ≡ replay list buffer trace
     replay_same_runs trace' reads' = lists_same g l good_map list buffer small cut trace trace' rs fine lists (all_ordered (listed list) (taken list buffer trace fine).fine) closed reads retained reads'

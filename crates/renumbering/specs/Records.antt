@@ -1,9 +1,9 @@
 -- What holds of every rule's input count and records in a table holds of what is left of the table, and of what the table matches.
-use Rattle.std.specs.Prelude.{ℕ, zero, suc, ◌≡◌, Bool, cond, ◌&&◌, not, length, get_or, drop, ltb}
+use Rattle.std.specs.Prelude.{ℕ, zero, suc, ◌≡◌, Bool, cond, ◌&&◌, not, length, get_or, drop, ltb, Option, None, Some, option_map}
 use Rattle.std.proofs.Math.Path.{refl, subst}
 use Rattle.std.proofs.Common.{sym}
 use Rattle.std.proofs.Math.Bool.{true, false}
-use Rattle.std.proofs.Math.Option.{Option, none, some, map, some-injective}
+use Rattle.std.proofs.lemmas.Option.{same_Some}
 use mathlib.Core.List.{List, [], ◌∷◌}
 use Rattle.std.proofs.Math.Dec.{eqb}
 use Rattle.meaning.specs.Words.{every, find, bind, map_all, push, map_some, member, keys, values}
@@ -47,14 +47,14 @@ module _ (test : ℕ → List (ℕ × ℕ) → Bool) where
   sets_all : (sets : List (Option (List Rule))) → every (every (λ r. test r.count r.records)) (drop_null sets) ≡ true → All (Opt (SetAll Passes)) sets
   unfolding drop_null every
   sets_all [] e = tt
-  sets_all (none ∷ sets) e = (tt, sets_all sets e)
-  sets_all (some rs ∷ sets) e = let q = both (every (λ r. test r.count r.records) rs) _ e in (all_every (λ r. test r.count r.records) rs q.0, sets_all sets q.1)
+  sets_all (None ∷ sets) e = (tt, sets_all sets e)
+  sets_all (Some rs ∷ sets) e = let q = both (every (λ r. test r.count r.records) rs) _ e in (all_every (λ r. test r.count r.records) rs q.0, sets_all sets q.1)
 
   all_sets : (sets : List (Option (List Rule))) → All (Opt (SetAll Passes)) sets → every (every (λ r. test r.count r.records)) (drop_null sets) ≡ true
   unfolding drop_null every
   all_sets [] h = refl
-  all_sets (none ∷ sets) h = all_sets sets h.1
-  all_sets (some rs ∷ sets) h = rw (every_all (λ r. test r.count r.records) rs h.0) (all_sets sets h.1)
+  all_sets (None ∷ sets) h = all_sets sets h.1
+  all_sets (Some rs ∷ sets) h = rw (every_all (λ r. test r.count r.records) rs h.0) (all_sets sets h.1)
 
 -- no record points past its rule
 abbrev pub Within : Told → Type 0
@@ -116,7 +116,7 @@ module _ (P : Told → Type 0) where
   first_told h [] before after p = tt
   first_told h (r ∷ rs) before after p = step (rule_fits h r before after) (first_told h rs before after p.1)
     where
-      step : (b : Bool) → Opt P (first_fit h rs before after) → Opt P (cond b (some (r.count, r.records)) (first_fit h rs before after))
+      step : (b : Bool) → Opt P (first_fit h rs before after) → Opt P (cond b (Some (r.count, r.records)) (first_fit h rs before after))
       step true k = p.0
       step false k = k
 
@@ -130,26 +130,26 @@ module _ (P : Told → Type 0) where
       step true k = h.0
       step false k = k
 
-  slot_found : {A : Type 0} (Q : A → Type 0) (sets : List (Option A)) (n : ℕ) → All (Opt Q) sets → Opt Q (get_or sets n none)
+  slot_found : {A : Type 0} (Q : A → Type 0) (sets : List (Option A)) (n : ℕ) → All (Opt Q) sets → Opt Q (get_or sets n None)
   slot_found Q [] n h = tt
   slot_found Q (s ∷ sets) zero h = h.0
   slot_found Q (s ∷ sets) (suc n) h = slot_found Q sets n h.1
 
   pub match_told : (t : Table) → RulesAll P t → (before : List ℕ) (x : ℕ) (after : List ℕ) → Opt P (match t before x after)
   unfolding match bind
-  match_told (Table.by_glyph chained none sets) h before x after = tt
-  match_told (Table.by_glyph chained (some cov) sets) h before x after =
+  match_told (Table.by_glyph chained None sets) h before x after = tt
+  match_told (Table.by_glyph chained (Some cov) sets) h before x after =
       opt_bind (SetAll P) P (set_at cov sets x) (λ rs. first_fit same_glyph rs before after) (set_found (SetAll P) cov sets x h) (λ rs p. first_told same_glyph rs before after p)
-  match_told (Table.by_class chained none b i a sets) h before x after = tt
-  match_told (Table.by_class chained (some cov) b none a sets) h before x after = tt
-  match_told (Table.by_class chained (some cov) b (some cs) a sets) h before x after = step (member x cov)
+  match_told (Table.by_class chained None b i a sets) h before x after = tt
+  match_told (Table.by_class chained (Some cov) b None a sets) h before x after = tt
+  match_told (Table.by_class chained (Some cov) b (Some cs) a sets) h before x after = step (member x cov)
     where
-      step : (t : Bool) → Opt P (cond t (bind (get_or sets (class_of cs x) none) (λ rs. first_fit (same_class b (some cs) a) rs before after)) none)
-      step true = opt_bind (SetAll P) P (get_or sets (class_of cs x) none) (λ rs. first_fit (same_class b (some cs) a) rs before after) (slot_found (SetAll P) sets (class_of cs x) h) (λ rs p. first_told (same_class b (some cs) a) rs before after p)
+      step : (t : Bool) → Opt P (cond t (bind (get_or sets (class_of cs x) None) (λ rs. first_fit (same_class b (Some cs) a) rs before after)) None)
+      step true = opt_bind (SetAll P) P (get_or sets (class_of cs x) None) (λ rs. first_fit (same_class b (Some cs) a) rs before after) (slot_found (SetAll P) sets (class_of cs x) h) (λ rs p. first_told (same_class b (Some cs) a) rs before after p)
       step false = tt
   match_told (Table.by_cover chained b i a rs) h before x after = step (ltb 0 (length i) && (fits covers? i (x ∷ after) && (fits covers? a (drop (length i) (x ∷ after)) && fits covers? b before)))
     where
-      step : (t : Bool) → Opt P (cond t (some (length i, rs)) none)
+      step : (t : Bool) → Opt P (cond t (Some (length i, rs)) None)
       step true = h
       step false = tt
   match_told (Table.ligatures cover sets) h before x after = tt
@@ -168,11 +168,11 @@ module _ (P Q : Told → Type 0) (l : List (ℕ × ℕ)) (f : (t : Told) → P t
       (step (map_all (find m.back) r.back) (map_all (find m.input) r.input) (map_all (find m.ahead) r.ahead))
     where
       step : (b i a : Option (List ℕ))
-          → Opt (λ (s : Rule). Q (s.count, s.records)) (bind b (λ b'. bind i (λ i'. bind a (λ a'. some (record { back = b'; count = r.count; input = i'; ahead = a'; records = cut_records m.lookups r.records })))))
-      step none i a = tt
-      step (some b) none a = tt
-      step (some b) (some i) none = tt
-      step (some b) (some i) (some a) = rw e (f (r.count, r.records) p)
+          → Opt (λ (s : Rule). Q (s.count, s.records)) (bind b (λ b'. bind i (λ i'. bind a (λ a'. Some (record { back = b'; count = r.count; input = i'; ahead = a'; records = cut_records m.lookups r.records })))))
+      step None i a = tt
+      step (Some b) None a = tt
+      step (Some b) (Some i) None = tt
+      step (Some b) (Some i) (Some a) = rw e (f (r.count, r.records) p)
 
   cut_set_lem : (chained : Bool) (m : RuleMaps) → m.lookups ≡ l → (rs : List Rule) → SetAll P rs → Opt (SetAll Q) (cut_set chained m rs)
   unfolding cut_set
@@ -187,15 +187,15 @@ module _ (P Q : Told → Type 0) (l : List (ℕ × ℕ)) (f : (t : Told) → P t
   kept_all R S one k g (c ∷ cov) [] h = tt
   kept_all R S one k g (c ∷ cov) (s ∷ sets) h = step (find g c) s h.0 (kept_all R S one k g cov sets h.1)
     where
-      put : (n : ℕ) (o : Option _) (ks : List (ℕ × _)) → Opt S o → All (Opt S) (sets_of ks) → All (Opt S) (sets_of (push (bind o (λ y. some (n, y))) ks))
-      put n none ks p q = q
-      put n (some y) ks p q = (p, q)
+      put : (n : ℕ) (o : Option _) (ks : List (ℕ × _)) → Opt S o → All (Opt S) (sets_of ks) → All (Opt S) (sets_of (push (bind o (λ y. Some (n, y))) ks))
+      put n None ks p q = q
+      put n (Some y) ks p q = (p, q)
 
       step : (o : Option ℕ) (s : Option _) → Opt R s → All (Opt S) (sets_of (kept_sets one g cov sets))
-          → All (Opt S) (sets_of (push (bind o (λ n. bind s (λ x. bind (one x) (λ y. some (n, y))))) (kept_sets one g cov sets)))
-      step none s p q = q
-      step (some n) none p q = q
-      step (some n) (some x) p q = put n (one x) (kept_sets one g cov sets) (k x p) q
+          → All (Opt S) (sets_of (push (bind o (λ n. bind s (λ x. bind (one x) (λ y. Some (n, y))))) (kept_sets one g cov sets)))
+      step None s p q = q
+      step (Some n) None p q = q
+      step (Some n) (Some x) p q = put n (one x) (kept_sets one g cov sets) (k x p) q
 
   -- sets by class
   slots_all : (R S : List Rule → Type 0) (one : List Rule → Option (List Rule)) → ((a : List Rule) → R a → Opt S (one a)) → (covered : List ℕ) (sets : List (Option (List Rule))) (cs : List ℕ) → All (Opt R) sets
@@ -204,8 +204,8 @@ module _ (P Q : Told → Type 0) (l : List (ℕ × ℕ)) (f : (t : Told) → P t
   slots_all R S one k covered sets [] h = tt
   slots_all R S one k covered sets (c ∷ cs) h = (step (member c covered), slots_all R S one k covered sets cs h)
     where
-      step : (b : Bool) → Opt S (cond b (bind (get_or sets c none) one) none)
-      step true = opt_bind R S (get_or sets c none) one (slot_found P R sets c h) k
+      step : (b : Bool) → Opt S (cond b (bind (get_or sets c None) one) None)
+      step true = opt_bind R S (get_or sets c None) one (slot_found P R sets c h) k
       step false = tt
 
   trim_all : {A : Type 0} (S : A → Type 0) (xs : List (Option A)) → All (Opt S) xs → All (Opt S) (trim xs)
@@ -214,9 +214,9 @@ module _ (P Q : Told → Type 0) (l : List (ℕ × ℕ)) (f : (t : Told) → P t
   trim_all S (x ∷ xs) h = step x (trim xs) h.0 (trim_all S xs h.1)
     where
       step : (x : Option _) (ys : List (Option _)) → Opt S x → All (Opt S) ys → All (Opt S) (keep_slot x ys)
-      step none [] p q = tt
-      step none (y ∷ ys) p q = (tt, q)
-      step (some a) ys p q = (p, q)
+      step None [] p q = tt
+      step None (y ∷ ys) p q = (tt, q)
+      step (Some a) ys p q = (p, q)
 
   by_glyph_all : (chained : Bool) (ks : List (ℕ × List Rule)) → All (Opt (SetAll Q)) (sets_of ks) → Opt (RulesAll Q) (kept_by_glyph chained ks)
   unfolding kept_by_glyph
@@ -228,13 +228,13 @@ module _ (P Q : Told → Type 0) (l : List (ℕ × ℕ)) (f : (t : Told) → P t
   by_class_all chained cov b i a [] h = tt
   by_class_all chained cov b i a (s ∷ ss) h = h
 
-  by_cover_all : (chained : Bool) (b i a : Option (List (Option (List ℕ)))) (n : ℕ) (rs : List (ℕ × ℕ)) → map length i ≡ bind i (λ k. some n) → Q (n, rs)
-      → Opt (RulesAll Q) (bind b (λ b'. bind i (λ i'. bind a (λ a'. some (Table.by_cover chained b' i' a' rs)))))
+  by_cover_all : (chained : Bool) (b i a : Option (List (Option (List ℕ)))) (n : ℕ) (rs : List (ℕ × ℕ)) → option_map length i ≡ bind i (λ k. Some n) → Q (n, rs)
+      → Opt (RulesAll Q) (bind b (λ b'. bind i (λ i'. bind a (λ a'. Some (Table.by_cover chained b' i' a' rs)))))
   unfolding bind
-  by_cover_all chained none i a n rs e q = tt
-  by_cover_all chained (some b) none a n rs e q = tt
-  by_cover_all chained (some b) (some i) none n rs e q = tt
-  by_cover_all chained (some b) (some i) (some a) n rs e q = subst (λ (m : ℕ). Q (m, rs)) (sym (some-injective (length i) n e)) q
+  by_cover_all chained None i a n rs e q = tt
+  by_cover_all chained (Some b) None a n rs e q = tt
+  by_cover_all chained (Some b) (Some i) None n rs e q = tt
+  by_cover_all chained (Some b) (Some i) (Some a) n rs e q = subst (λ (m : ℕ). Q (m, rs)) (sym (same_Some (length i) n e)) q
 
   no_ligature : (ks : List (ℕ × List Ligature)) → Opt (RulesAll Q) (kept_ligatures ks)
   unfolding kept_ligatures
@@ -256,35 +256,35 @@ module _ (P Q : Told → Type 0) (l : List (ℕ × ℕ)) (f : (t : Told) → P t
   no_single [] = tt
   no_single (e ∷ r) = go (agree (e ∷ r))
     where
-      go : (b : Bool) → RulesAll Q (cond b (Table.single_delta (some (keys (e ∷ r))) (delta_of e)) (Table.single_list (some (keys (e ∷ r))) (values (e ∷ r))))
+      go : (b : Bool) → RulesAll Q (cond b (Table.single_delta (Some (keys (e ∷ r))) (delta_of e)) (Table.single_list (Some (keys (e ∷ r))) (values (e ∷ r))))
       go true = tt
       go false = tt
 
   -- what holds of every rule of a table holds, with the records cut, of every rule of what is left
   pub cut_told : (g : List (ℕ × ℕ)) (t : Table) → RulesAll P t → Opt (RulesAll Q) (cut g l t)
   unfolding cut bind
-  cut_told g (Table.by_glyph chained none sets) h = tt
-  cut_told g (Table.by_glyph chained (some cov) sets) h =
+  cut_told g (Table.by_glyph chained None sets) h = tt
+  cut_told g (Table.by_glyph chained (Some cov) sets) h =
       let m : RuleMaps = record { back = g; input = g; ahead = g; lookups = l } in
       by_glyph_all chained (kept_sets (cut_set chained m) g cov sets) (kept_all (SetAll P) (SetAll Q) (cut_set chained m) (cut_set_lem chained m refl) g cov sets h)
-  cut_told g (Table.by_class chained none b i a sets) h = tt
-  cut_told g (Table.by_class chained (some cov) b none a sets) h = tt
-  cut_told g (Table.by_class chained (some cov) b (some cs) a sets) h =
+  cut_told g (Table.by_class chained None b i a sets) h = tt
+  cut_told g (Table.by_class chained (Some cov) b None a sets) h = tt
+  cut_told g (Table.by_class chained (Some cov) b (Some cs) a sets) h =
       let m : RuleMaps = record { back = class_map? g b; input = class_map g cs; ahead = class_map? g a; lookups = l } in
       let ss = slots (cut_set chained m) (held_by cs (retained g cov)) sets (held_by cs (keys g)) in
-      by_class_all chained (new_coverage g cov) (new_classes? g b) (new_classes? g (some cs)) (new_classes? g a) (trim ss)
+      by_class_all chained (new_coverage g cov) (new_classes? g b) (new_classes? g (Some cs)) (new_classes? g a) (trim ss)
       (trim_all (SetAll Q) ss (slots_all (SetAll P) (SetAll Q) (cut_set chained m) (cut_set_lem chained m refl) (held_by cs (retained g cov)) sets (held_by cs (keys g)) h))
   cut_told g (Table.by_cover chained b i a rs) h =
       by_cover_all chained (covers_left g b) (covers_left g i) (covers_left g a) (length i) (cut_records l rs) (left_length g i) (f (length i, rs) h)
-  cut_told g (Table.ligatures none sets) h = tt
-  cut_told g (Table.ligatures (some cov) sets) h = no_ligature (kept_sets (cut_ligatures g) g cov sets)
-  cut_told g (Table.pairs_of none f1 f2 sets) h = tt
-  cut_told g (Table.pairs_of (some cov) f1 f2 sets) h = no_pair f1 f2 (kept_sets (cut_pairs g) g cov sets)
-  cut_told g (Table.class_pairs none first second f1 f2 m rows) h = tt
-  cut_told g (Table.class_pairs (some cov) none second f1 f2 m rows) h = tt
-  cut_told g (Table.class_pairs (some cov) (some cs) none f1 f2 m rows) h = tt
-  cut_told g (Table.class_pairs (some cov) (some cs) (some ds) f1 f2 m rows) h = no_class_pair g (covered_map g cov) cs ds f1 f2 rows
-  cut_told g (Table.single_delta none d) h = tt
-  cut_told g (Table.single_delta (some cov) d) h = no_single (kept_substitutes g (delta_pairs cov d))
-  cut_told g (Table.single_list none subs) h = tt
-  cut_told g (Table.single_list (some cov) subs) h = no_single (kept_substitutes g (list_pairs cov subs))
+  cut_told g (Table.ligatures None sets) h = tt
+  cut_told g (Table.ligatures (Some cov) sets) h = no_ligature (kept_sets (cut_ligatures g) g cov sets)
+  cut_told g (Table.pairs_of None f1 f2 sets) h = tt
+  cut_told g (Table.pairs_of (Some cov) f1 f2 sets) h = no_pair f1 f2 (kept_sets (cut_pairs g) g cov sets)
+  cut_told g (Table.class_pairs None first second f1 f2 m rows) h = tt
+  cut_told g (Table.class_pairs (Some cov) None second f1 f2 m rows) h = tt
+  cut_told g (Table.class_pairs (Some cov) (Some cs) None f1 f2 m rows) h = tt
+  cut_told g (Table.class_pairs (Some cov) (Some cs) (Some ds) f1 f2 m rows) h = no_class_pair g (covered_map g cov) cs ds f1 f2 rows
+  cut_told g (Table.single_delta None d) h = tt
+  cut_told g (Table.single_delta (Some cov) d) h = no_single (kept_substitutes g (delta_pairs cov d))
+  cut_told g (Table.single_list None subs) h = tt
+  cut_told g (Table.single_list (Some cov) subs) h = no_single (kept_substitutes g (list_pairs cov subs))

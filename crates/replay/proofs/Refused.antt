@@ -1,6 +1,7 @@
 -- The ways through the refusals before any run.
 use Prim.Native.Nat.{ℕ}
 use mathlib.Core.Path.{◌≡◌, sym, ◌∙◌}
+use Rattle.std.specs.Prelude.{Option, None, Some}
 use mathlib.Core.Bool.{Bool, true, false, not}
 use mathlib.Core.List.{List}
 use borrow.Author.Tests.{not-true, not-false}
@@ -11,9 +12,6 @@ use Rattle.replaying.specs.Replay.{Replayed, refusing, refusal, replay, played, 
 use Rattle.replay_laws.specs.Tallies.{refused_first, replays}
 use Rattle.lookup_list.specs.Ready.{Ready}
 use Rattle.lookup_list.proofs.Readying.{list_ready}
-use Rattle.lookup_checks.specs.Checks.{refusal_by}
-use Rattle.lookup_checks.specs.declared.Checked.{Checked}
-use Rattle.lookup_checks.specs.declared.Checked.TheVariants.{Refused, Fine}
 
 module _ (list buffer trace : List ℕ) {g : Bool} (e : g ≡ good_list list buffer) where
   pub no_list : not g ≡ true → {r : Replayed} → r ≡ refusing (15, 0) → r ≡ replay list buffer trace
@@ -23,15 +21,15 @@ module _ (list buffer trace : List ℕ) {g : Bool} (e : g ≡ good_list list buf
   pub list_good : not g ≡ false → good_list list buffer ≡ true
   list_good z = sym e ∙ not-false g z
 
-  module _ (z : not g ≡ false) (k : Checked) (f : refusal_by k ≡ first_refusal buffer (listed list)) where
-    pub faulty : {n p : ℕ} → k ≡ Refused n p → {r : Replayed} → r ≡ refusing (n, p) → r ≡ replay list buffer trace
+  module _ (z : not g ≡ false) {k : Option (ℕ × ℕ)} (f : k ≡ first_refusal buffer (listed list)) where
+    pub faulty : {n p : ℕ} → k ≡ Some (n, p) → {r : Replayed} → r ≡ refusing (n, p) → r ≡ replay list buffer trace
     unfolding refusal or_else
     faulty {n} {p} h q = q ∙ sym (refused_first list buffer trace (n, p) (rw (← e, not-false g z, ← f, h)))
 
-    pub ready : k ≡ Fine → Ready list buffer
+    pub ready : k ≡ None → Ready list buffer
     ready h = list_ready list buffer (list_good z) (sym f ∙ rw h)
 
-    module _ (h : k ≡ Fine) {t : Bool} (i : t ≡ is_some (runs_of trace)) where
+    module _ (h : k ≡ None) {t : Bool} (i : t ≡ is_some (runs_of trace)) where
       pub short : not t ≡ true → {r : Replayed} → r ≡ refusing (16, 0) → r ≡ replay list buffer trace
       unfolding refusal or_else
       short y q = q ∙ sym (refused_first list buffer trace (16, 0) (rw (← e, not-false g z, ← f, h, ← i, not-true t y)))

@@ -7,37 +7,15 @@ ghost use Rattle.replaying.specs.Listed.{lookups_of};
 ghost use Rattle.replaying.specs.Trace.{runs_of};
 ghost use Rattle.replaying.specs.Replay.{changed, played, refusing, runs_in, replay};
 ghost use Rattle.lookup_list.specs.Ready.{Ready};
-ghost use Rattle.tallies.specs.Counting.{replayed_of, is_deep, does_agree};
+ghost use Rattle.tallies.specs.Counting.{replayed_of};
 
-use lookup_checks::{Checked, check_lookups};
+use lookup_checks::check_lookups;
 use lookup_list::good_list;
 use names::all_named;
-use runs::{Verdict, replay_run};
+use runs::replay_run;
 use tallies::{Replayed, Tally, changed};
 use traces::good_trace;
 use wire::word_at;
-
-// Whether a run went too deep.
-fn is_deep(v: Verdict) -> bool
-    ensures { result ≡ is_deep v }
-{
-    match v {
-        Verdict::Agrees => false,
-        Verdict::Differs => false,
-        Verdict::Deep => true,
-    }
-}
-
-// Whether a run agreed.
-fn does_agree(v: Verdict) -> bool
-    ensures { result ≡ does_agree v }
-{
-    match v {
-        Verdict::Agrees => true,
-        Verdict::Differs => false,
-        Verdict::Deep => false,
-    }
-}
 
 // Replays the runs of a trace, one after another.
 fn play_runs(list: &[u8], buffer: &[u8], trace: &[u8]) -> Replayed
@@ -50,16 +28,16 @@ fn play_runs(list: &[u8], buffer: &[u8], trace: &[u8]) -> Replayed
         first: 0,
     };
     let mut at = 0;
+    // Each run's count says where the next run stands.
     while at < trace.len() {
-        let v = replay_run(list, buffer, trace, at);
-        if is_deep(v) {
+        let Ok(agrees) = replay_run(list, buffer, trace, at) else {
             return Replayed {
                 number: 18,
                 place: 0,
                 tally,
             };
-        }
-        tally = changed(tally, does_agree(v));
+        };
+        tally = changed(tally, agrees);
         at += 2 + 4 * word_at(trace, at);
     }
     Replayed {
@@ -91,8 +69,8 @@ pub fn replay_all(list: &[u8], buffer: &[u8], trace: &[u8]) -> Replayed
     if !good_list(list, buffer) {
         return refusing(15, 0);
     }
-    if let Checked::Refused(number, place) = check_lookups(list, buffer) {
-        return refusing(number, place);
+    if let Err(refusal) = check_lookups(list, buffer) {
+        return refusing(refusal.number(), refusal.place());
     }
     if !good_trace(trace) {
         return refusing(16, 0);

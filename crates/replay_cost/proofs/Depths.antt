@@ -2,7 +2,7 @@
 use Prim.Native.Nat.{ℕ, zero, suc, ◌+◌, ◌-◌, ◌*◌, ◌/◌, ◌≤◌, ◌<◌}
 use mathlib.Core.Path.{◌≡◌, refl, sym, ap, ◌∙◌}
 use mathlib.Core.Bool.{Bool, true, false, cond}
-use mathlib.Core.Option.{Option, none, some}
+use Rattle.std.specs.Prelude.{Option, None, Some}
 use mathlib.Core.List.{List, [], ◌∷◌, ◌++◌, map, append-nil}
 use native.Mathlib.Omega.{arith}
 use lib.ListN.{length, get_or, set, drop, take, length-replicate}
@@ -175,10 +175,10 @@ module _ (list buffer : List ℕ) where
   list_good r e h = step (good_list list buffer) ((done_exactly list buffer []).0 (ap (λ (a : Replayed). a.number) (sym e) ∙ h)).0
     where
       is_none : Option (ℕ × ℕ) → ℕ
-      is_none none = 0
-      is_none (some a) = 1
+      is_none None = 0
+      is_none (Some a) = 1
 
-      step : (b : Bool) → or_else (cond b none (some (15, 0))) (or_else (first_refusal buffer (listed list)) (or_else (cond (is_some (runs_of [])) none (some (16, 0))) (cond (all_named (lookups_of list buffer)) none (some (17, 0))))) ≡ none → b ≡ true
+      step : (b : Bool) → or_else (cond b None (Some (15, 0))) (or_else (first_refusal buffer (listed list)) (or_else (cond (is_some (runs_of [])) None (Some (16, 0))) (cond (all_named (lookups_of list buffer)) None (Some (17, 0))))) ≡ None → b ≡ true
       step true q = refl
       step false q = absurd (omega (arith, ap is_none q))
 

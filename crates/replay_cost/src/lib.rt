@@ -38,11 +38,9 @@ fn level(list: &[u8], buffer: &[u8], steps: &[usize], next: &mut [usize])
     ensures { next.new ≡ sets next.old 0 (map (lookup_steps steps.now) (lookups_of list.now buffer.now)) }
 {
     let many = list.len() / 10;
-    let mut lookup = 0;
-    while lookup < many {
+    for lookup in 0..many {
         let rule = listed_steps(list, buffer, lookup, steps);
         put_steps(next, lookup, add_steps(1, rule));
-        lookup += 1;
     }
 }
 
@@ -51,10 +49,8 @@ fn sum_steps(steps: &[usize]) -> usize
     ensures { result ≡ sum_steps steps.now }
 {
     let mut sum = 0;
-    let mut i = 0;
-    while i < steps.len() {
+    for i in 0..steps.len() {
         sum = add_steps(sum, steps[i]);
-        i += 1;
     }
     sum
 }
@@ -64,11 +60,9 @@ fn levels(list: &[u8], buffer: &[u8], here: &mut [usize], there: &mut [usize]) -
     requires { (good_list list.now buffer.now ≡ true) × (here.old ≡ level_steps 0 (lookups_of list.now buffer.now)) × (length there.old ≡ length list.now / 10) }
     ensures { result ≡ list_steps (lookups_of list.now buffer.now) }
 {
-    let mut i = 0;
-    while i < TURNS {
+    for i in 0..TURNS {
         level(list, buffer, here, there);
         level(list, buffer, there, here);
-        i += 1;
     }
     sum_steps(here)
 }

@@ -7,7 +7,7 @@ ghost use Rattle.report_lines.specs.Text.{Put};
 ghost use Rattle.replay_job.specs.ReplayFile.{good_file, replay_file, printed, asks_cost, file_steps, cost_text, program};
 
 use file_parts::{ends_by, part_at};
-use input::{Input, read_input};
+use input::read_input;
 use lookup_list::long_at;
 use replay::{refusing, replay_all};
 use replay_cost::replay_cost;
@@ -127,7 +127,7 @@ fn unread() -> [u8; FILE] {
 // Reads the file, and writes the text at once. Where that fails, a sentence on standard error says so; a failed read leaves standard output empty.
 fn main(rt: HostRuntime) {
     let mut file = unread();
-    let Input::Bytes(n) = read_input(&mut rt.stdin(), &mut file) else {
+    let Ok(n) = read_input(&mut rt.stdin(), &mut file) else {
         let _ = eprintln!(rt; "replay_job: standard input could not be read");
         return;
     };

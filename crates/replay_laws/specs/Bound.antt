@@ -1,10 +1,9 @@
 -- The cost of a list is a bound: a replay asks at most that many lookups for each glyph of its trace, where the cost is below 2⁶³.
 use Prim.Native.Nat.{ℕ, zero, suc, ◌+◌, ◌-◌, ◌*◌, ◌≤◌, ◌<◌}
-use Rattle.std.specs.Prelude.{◌≡◌, refl, Bool, ◌&&◌, get_or, drop, ltb, eqb}
+use Rattle.std.specs.Prelude.{◌≡◌, refl, Bool, ◌&&◌, get_or, drop, ltb, eqb, Option, None, Some}
 use Rattle.std.proofs.Common.{sym, ◌∙◌, ltb-true, ltb-false}
 use Rattle.std.proofs.Math.Path.{ap, subst}
 use Rattle.std.proofs.Math.Bool.{true, false, cond}
-use Rattle.std.proofs.Math.Option.{Option, none, some}
 use mathlib.Core.List.{List, [], ◌∷◌, map}
 use native.Mathlib.Omega.{arith}
 use Rattle.std.proofs.Math.ListN.{length}
@@ -104,7 +103,7 @@ module _ (steps : List ℕ) where
   fit_under h [] m l before after = tt
   fit_under h (r ∷ rs) m l before after = step (rule_fits h r before after) (fit_under h rs m (up (larger_right (record_steps steps r.records) (largest (rule_steps steps) rs)) l) before after)
     where
-      step : (b : Bool) → Opt (Under m) (first_fit h rs before after) → Opt (Under m) (cond b (some (r.count, r.records)) (first_fit h rs before after))
+      step : (b : Bool) → Opt (Under m) (first_fit h rs before after) → Opt (Under m) (cond b (Some (r.count, r.records)) (first_fit h rs before after))
       step true k = up (larger_left (record_steps steps r.records) (largest (rule_steps steps) rs)) l
       step false k = k
 
@@ -114,8 +113,8 @@ module _ (steps : List ℕ) where
 
   set_first : (o : Option (List Rule)) (sets : List (Option (List Rule))) (m : ℕ) → sets_steps steps (o ∷ sets) ≤ m → Opt (SetUnder m) o × (sets_steps steps sets ≤ m)
   unfolding sets_steps drop_null largest
-  set_first none sets m l = (tt, l)
-  set_first (some rs) sets m l =
+  set_first None sets m l = (tt, l)
+  set_first (Some rs) sets m l =
       let a = largest (rule_steps steps) rs in
       let b = largest (largest (rule_steps steps)) (drop_null sets) in
       (up (larger_left a b) l, up (larger_right a b) l)
@@ -130,14 +129,14 @@ module _ (steps : List ℕ) where
       step true h k = h
       step false h k = k
 
-  class_under : (sets : List (Option (List Rule))) (i m : ℕ) → sets_steps steps sets ≤ m → Opt (SetUnder m) (get_or sets i none)
+  class_under : (sets : List (Option (List Rule))) (i m : ℕ) → sets_steps steps sets ≤ m → Opt (SetUnder m) (get_or sets i None)
   class_under [] i m l = tt
   class_under (o ∷ sets) zero m l = (set_first o sets m l).0
   class_under (o ∷ sets) (suc i) m l = class_under sets i m (set_first o sets m l).1
 
   any : {A : Type 0} (o : Option A) → Opt (λ a. Unit {0}) o
-  any none = tt
-  any (some a) = tt
+  any None = tt
+  any (Some a) = tt
 
   match_under : (t : Table) (before : List ℕ) (g : ℕ) (after : List ℕ) → Opt (Under (table_steps steps t)) (match t before g after)
   unfolding match table_steps
@@ -148,17 +147,17 @@ module _ (steps : List ℕ) where
   match_under (Table.by_class chained cover b i a sets) before g after =
       let m = sets_steps steps sets in
       let fit : List Rule → Option (ℕ × List (ℕ × ℕ)) = λ rs. first_fit (same_class b i a) rs before after in
-      opt_bind (λ c. Unit {0}) (Under m) cover (λ cov. bind i (λ cs. cond (member g cov) (bind (get_or sets (class_of cs g) none) fit) none)) (any cover) (λ cov u.
-      opt_bind (λ c. Unit {0}) (Under m) i (λ cs. cond (member g cov) (bind (get_or sets (class_of cs g) none) fit) none) (any i) (λ cs u.
-      step (member g cov) (get_or sets (class_of cs g) none) (class_under sets (class_of cs g) m (omega arith))))
+      opt_bind (λ c. Unit {0}) (Under m) cover (λ cov. bind i (λ cs. cond (member g cov) (bind (get_or sets (class_of cs g) None) fit) None)) (any cover) (λ cov u.
+      opt_bind (λ c. Unit {0}) (Under m) i (λ cs. cond (member g cov) (bind (get_or sets (class_of cs g) None) fit) None) (any i) (λ cs u.
+      step (member g cov) (get_or sets (class_of cs g) None) (class_under sets (class_of cs g) m (omega arith))))
     where
       step : (d : Bool) (o : Option (List Rule)) → Opt (SetUnder (sets_steps steps sets)) o
-          → Opt (Under (sets_steps steps sets)) (cond d (bind o (λ rs. first_fit (same_class b i a) rs before after)) none)
+          → Opt (Under (sets_steps steps sets)) (cond d (bind o (λ rs. first_fit (same_class b i a) rs before after)) None)
       step true o h = opt_bind (SetUnder (sets_steps steps sets)) (Under (sets_steps steps sets)) o (λ rs. first_fit (same_class b i a) rs before after) h (λ rs l. fit_under (same_class b i a) rs (sets_steps steps sets) l before after)
       step false o h = tt
   match_under (Table.by_cover chained b i a rs) before g after = step (ltb 0 (length i) && (fits covers? i (g ∷ after) && (fits covers? a (drop (length i) (g ∷ after)) && fits covers? b before)))
     where
-      step : (d : Bool) → Opt (Under (record_steps steps rs)) (cond d (some (length i, rs)) none)
+      step : (d : Bool) → Opt (Under (record_steps steps rs)) (cond d (Some (length i, rs)) None)
       step true = omega arith
       step false = tt
   match_under (Table.ligatures cover sets) before g after = tt
@@ -184,9 +183,9 @@ module _ (steps : List ℕ) where
   ask_under t string place = step (at_place (match t) [] string place) (at_place (λ before g after. substitute t g) [] string place) (place_under t [] string place)
     where
       step : (o : Option (ℕ × List (ℕ × ℕ))) (q : Option ℕ) → Opt (Under (table_steps steps t)) o → AnswerUnder (table_steps steps t) (answer_of o q)
-      step (some rule) q h = h
-      step none (some g) h = tt
-      step none none h = tt
+      step (Some rule) q h = h
+      step None (Some g) h = tt
+      step None None h = tt
 
 -- A lookup at a place asks no more than its level's steps.
 
@@ -210,8 +209,8 @@ module _ (once : ℕ → List ℕ → ℕ → Option Step) (asks : ℕ → List 
     where
       step : (o : Option Step) → asks r.1 string (place + r.0) ≤ steps_of steps r.1 → ((s : List ℕ) → records_ask once asks rs s place ≤ record_steps steps rs)
           → asks r.1 string (place + r.0) + if_some o 0 (λ step. records_ask once asks rs step.string place) ≤ cut_off (steps_of steps r.1 + record_steps steps rs)
-      step none a b = let e = below_limit (steps_of steps r.1 + record_steps steps rs) h in omega (arith, e.0)
-      step (some s) a b =
+      step None a b = let e = below_limit (steps_of steps r.1 + record_steps steps rs) h in omega (arith, e.0)
+      step (Some s) a b =
           let e = below_limit (steps_of steps r.1 + record_steps steps rs) h in
           let c = b s.string in
           omega (arith, e.0)
@@ -253,8 +252,8 @@ module _ (once : List ℕ → ℕ → Option Step) (asks : List ℕ → ℕ → 
     where
       step : (o : Option Step) → ((skip : ℕ) (s : List ℕ) → sweep_asks once asks left skip s (place + 1) ≤ left * m)
           → asks string place + if_some o 0 (λ step. sweep_asks once asks left (step.took - 1) step.string (place + 1)) ≤ suc left * m
-      step none h = let a = k string place in omega arith
-      step (some s) h =
+      step None h = let a = k string place in omega arith
+      step (Some s) h =
           let a = k string place in
           let b = h (s.took - 1) s.string in
           omega arith
@@ -299,8 +298,8 @@ module _ (ts : List Table) where
       step : (o : Option (List ℕ)) → Opt (λ s. length s ≡ length string) o → {a : ℕ} → a ≤ length string * x
           → ((s : List ℕ) → order_asks ts (up_from (n + 1) (length l)) s ≤ length s * sum_steps l)
           → a + if_some o 0 (order_asks ts (up_from (n + 1) (length l))) ≤ length string * (x + sum_steps l)
-      step none e h q = omega arith
-      step (some s) e h q = let b = rw e at (q s) in omega arith
+      step None e h q = omega arith
+      step (Some s) e h q = let b = rw e at (q s) in omega arith
 
   mapped : (f : Table → ℕ) (l : List Table) → length (map f l) ≡ length l
   mapped f [] = refl
@@ -326,8 +325,8 @@ module _ (ts : List Table) where
     where
       step : (o : Option (List ℕ)) → run_asks ts r.given ≤ length r.given * list_steps ts → runs_ask ts rs ≤ glyphs_in rs * list_steps ts
           → run_asks ts r.given + if_some o 0 (λ s. runs_ask ts rs) ≤ (length r.given + glyphs_in rs) * list_steps ts
-      step none a b = omega arith
-      step (some s) a b = omega arith
+      step None a b = omega arith
+      step (Some s) a b = omega arith
 
 -- `cost_bounds`: where the call gives 0 and fewer than 2⁶³ steps, the runs of any trace ask at most that many lookups for each glyph that went in.
 pub cost_bounds : (list buffer : List ℕ) (runs : List Run) → (replay_cost list buffer).number ≡ 0 → (replay_cost list buffer).steps < step_limit

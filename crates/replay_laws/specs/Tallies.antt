@@ -1,7 +1,6 @@
 -- Facts about the tally: it is one state that each run changes, equal to what is counted over the trace so far.
-use Rattle.std.specs.Prelude.{ℕ, zero, suc, ◌+◌, ◌≤◌, ◌<◌, ◌≡◌, refl, Bool, true, false, cond, ◌&&◌, List, [], ◌∷◌, ◌++◌, length, get_or, eqb}
+use Rattle.std.specs.Prelude.{ℕ, zero, suc, ◌+◌, ◌≤◌, ◌<◌, ◌≡◌, refl, Bool, true, false, cond, ◌&&◌, List, [], ◌∷◌, ◌++◌, length, get_or, eqb, Option, None, Some}
 use Rattle.std.proofs.Common.{sym, ap, ◌∙◌, true≢false, append-nil, append_assoc, arith, length-append, ne_eqb}
-use Rattle.std.proofs.Math.Option.{Option, none, some}
 use Rattle.meaning.specs.Words.{eq_list, is_some}
 use Rattle.meaning.specs.Tables.{Table}
 use Rattle.replaying.specs.Trace.{Run, runs_of}
@@ -130,8 +129,8 @@ play_counts ts vs (r ∷ rs) = step (run ts r.given) (λ ws. play_counts ts ws r
     step : (o : Option (List ℕ)) → ((ws : List Bool) → play ts (counted ws) rs ≡ record { number = cond (shallow ts rs) 0 18; place = 0; tally = counted (ws ++ verdicts ts rs) })
         → if_some o (record { number = 18; place = 0; tally = counted vs }) (λ s. play ts (changed (eq_list s r.came) (counted vs)) rs)
         ≡ record { number = cond (is_some o && shallow ts rs) 0 18; place = 0; tally = counted (vs ++ if_some o [] (λ s. eq_list s r.came ∷ verdicts ts rs)) }
-    step none h = rw (append-nil vs)
-    step (some s) h =
+    step None h = rw (append-nil vs)
+    step (Some s) h =
         let v = eq_list s r.came in
         ap (λ (t : Tally). play ts t rs) (sym (one_more vs v))
         ∙ h (vs ++ (v ∷ []))
@@ -158,8 +157,8 @@ verdicts_both ts (r ∷ before) after h = step (run ts r.given) h (verdicts_both
   where
     step : (o : Option (List ℕ)) → is_some o && shallow ts before ≡ true → (shallow ts before ≡ true → verdicts ts (before ++ after) ≡ verdicts ts before ++ verdicts ts after)
         → if_some o [] (λ s. eq_list s r.came ∷ verdicts ts (before ++ after)) ≡ if_some o [] (λ s. eq_list s r.came ∷ verdicts ts before) ++ verdicts ts after
-    step none h k = absurd (true≢false (sym h))
-    step (some s) h k = ap (λ (l : List Bool). eq_list s r.came ∷ l) (k h)
+    step None h k = absurd (true≢false (sym h))
+    step (Some s) h k = ap (λ (l : List Bool). eq_list s r.came ∷ l) (k h)
 
 -- `so_far`: where none of the first runs goes too deep, the loop stands after them at the tally that the definition counts over them, and goes on from there
 pub so_far : (ts : List Table) (before after : List Run) → shallow ts before ≡ true → play ts (played ts before).tally after ≡ played ts (before ++ after)
@@ -169,11 +168,11 @@ so_far ts before after h = rw (shallow_both ts before after h, verdicts_both ts 
 -- The whole answer.
 
 -- a refusal before any run: its number, its place, and a tally of 0, 0, 0
-pub refused_first : (list buffer trace : List ℕ) (r : ℕ × ℕ) → refusal list buffer trace ≡ some r → replay list buffer trace ≡ refusing r
+pub refused_first : (list buffer trace : List ℕ) (r : ℕ × ℕ) → refusal list buffer trace ≡ Some r → replay list buffer trace ≡ refusing r
 unfolding replay
 refused_first list buffer trace r e = ap (λ (o : Option (ℕ × ℕ)). if_some o (played (lookups_of list buffer) (runs_in (runs_of trace))) refusing) e
 
 -- otherwise the runs, over what the list and the trace say
-pub replays : (list buffer trace : List ℕ) → refusal list buffer trace ≡ none → replay list buffer trace ≡ played (lookups_of list buffer) (runs_in (runs_of trace))
+pub replays : (list buffer trace : List ℕ) → refusal list buffer trace ≡ None → replay list buffer trace ≡ played (lookups_of list buffer) (runs_in (runs_of trace))
 unfolding replay
 replays list buffer trace e = ap (λ (o : Option (ℕ × ℕ)). if_some o (played (lookups_of list buffer) (runs_in (runs_of trace))) refusing) e

@@ -1,10 +1,9 @@
 -- What loops over the trace, the places of a string, a rule's records and the list need: each turn is one unfolding, with no bound that is counted down.
 use Prim.Native.Nat.{ℕ, zero, suc, ◌+◌, ◌-◌, ◌*◌, ◌≤◌, ◌<◌}
-use Rattle.std.specs.Prelude.{◌≡◌, Bool, true, false, ltb}
+use Rattle.std.specs.Prelude.{◌≡◌, Bool, true, false, ltb, Option, None, Some}
 use Rattle.std.proofs.Math.Path.{refl, ap, subst}
 use Rattle.std.proofs.Common.{◌∙◌, add-zero, lt-ltb, le-ltb}
 use Rattle.std.proofs.Math.Bool.{cond}
-use Rattle.std.proofs.Math.Option.{Option, none, some}
 use mathlib.Core.List.{List, [], ◌∷◌}
 use native.Mathlib.Omega.{arith}
 use Rattle.std.proofs.Math.ListN.{length, length-set}
@@ -25,7 +24,7 @@ runs_enough zero zero t at h k = refl
 runs_enough zero (suc b) t at h k = rw (le-ltb at (length t) (omega arith))
 runs_enough (suc a) zero t at h k = rw (le-ltb at (length t) (omega arith))
 runs_enough (suc a) (suc b) t at h k =
-    ap (λ (o : Option (List Run)). cond (ltb at (length t)) (cond (good_run t at) (bind o (λ rs. some (run_at t at ∷ rs))) none) (some []))
+    ap (λ (o : Option (List Run)). cond (ltb at (length t)) (cond (good_run t at) (bind o (λ rs. Some (run_at t at ∷ rs))) None) (Some []))
     (runs_enough a b t (at + (2 + 4 * word t at)) (omega arith) (omega arith))
 
 -- the runs from `at` on
@@ -38,24 +37,24 @@ runs_all t = refl
 
 module _ (t : List ℕ) (at : ℕ) where
   -- a place in the trace has bytes before its end
-  runs_one : at < length t → runs_left t at ≡ cond (good_run t at) (bind (runs_left t (at + run_length t at)) (λ rs. some (run_at t at ∷ rs))) none
+  runs_one : at < length t → runs_left t at ≡ cond (good_run t at) (bind (runs_left t (at + run_length t at)) (λ rs. Some (run_at t at ∷ rs))) None
   unfolding runs_from run_length
   runs_one h =
       let m : ℕ = length t - 1 in
       runs_enough (length t) (suc m) t at (omega arith) (omega arith)
-      ∙ ap (λ (b : Bool). cond b (cond (good_run t at) (bind (runs_from m t (at + run_length t at)) (λ rs. some (run_at t at ∷ rs))) none) (some [])) (lt-ltb at (length t) h)
-      ∙ ap (λ (o : Option (List Run)). cond (good_run t at) (bind o (λ rs. some (run_at t at ∷ rs))) none) (runs_enough m (length t) t (at + run_length t at) (more h) (omega arith))
+      ∙ ap (λ (b : Bool). cond b (cond (good_run t at) (bind (runs_from m t (at + run_length t at)) (λ rs. Some (run_at t at ∷ rs))) None) (Some [])) (lt-ltb at (length t) h)
+      ∙ ap (λ (o : Option (List Run)). cond (good_run t at) (bind o (λ rs. Some (run_at t at ∷ rs))) None) (runs_enough m (length t) t (at + run_length t at) (more h) (omega arith))
     where
       more : at < length t → length t ≤ at + run_length t at + (length t - 1)
       more h = omega arith
 
-  pub runs_turn : at < length t → good_run t at ≡ true → runs_left t at ≡ bind (runs_left t (at + run_length t at)) (λ rs. some (run_at t at ∷ rs))
+  pub runs_turn : at < length t → good_run t at ≡ true → runs_left t at ≡ bind (runs_left t (at + run_length t at)) (λ rs. Some (run_at t at ∷ rs))
   runs_turn h e = runs_one h ∙ rw e
 
-  pub runs_short : at < length t → good_run t at ≡ false → runs_left t at ≡ none
+  pub runs_short : at < length t → good_run t at ≡ false → runs_left t at ≡ None
   runs_short h e = runs_one h ∙ rw e
 
-  pub runs_end : length t ≤ at → runs_left t at ≡ some []
+  pub runs_end : length t ≤ at → runs_left t at ≡ Some []
   unfolding runs_from
   runs_end h = runs_enough (length t) 0 t at (omega arith) (omega arith)
 
@@ -99,10 +98,10 @@ sweep_turn once n string place h =
         sweep_skip once (n - (place + 1)) (suc k - 1) s (place + 1) ∙ at_both (n - (place + 1) - (suc k - 1)) (n - (place + suc k)) (place + 1 + (suc k - 1)) (place + suc k) s (omega arith) (omega arith)
 
     step : (o : Option Step) → bind o (λ step. sweep once (n - (place + 1)) (step.took - 1) step.string (place + 1)) ≡ bind o (λ step. sweep_left once n step.string (place + onward step.took))
-    step none = refl
-    step (some s) = on s.took s.string
+    step None = refl
+    step (Some s) = on s.took s.string
 
-pub sweep_end : (once : List ℕ → ℕ → Option Step) (n : ℕ) (string : List ℕ) (place : ℕ) → n ≤ place → sweep_left once n string place ≡ some string
+pub sweep_end : (once : List ℕ → ℕ → Option Step) (n : ℕ) (string : List ℕ) (place : ℕ) → n ≤ place → sweep_left once n string place ≡ Some string
 unfolding sweep
 sweep_end once n string place h =
     let e : n - place ≡ 0 = omega arith in
@@ -119,7 +118,7 @@ records_turn once s at n i string place h =
     let f : at + 4 * (i + 1) ≡ at + 4 * i + 4 = omega arith in
     rw (e, f)
 
-pub records_end : (once : ℕ → List ℕ → ℕ → Option Step) (s : List ℕ) (at n i : ℕ) (string : List ℕ) (place : ℕ) → n ≤ i → run_records once (entries s (at + 4 * i) (n - i)) string place ≡ some string
+pub records_end : (once : ℕ → List ℕ → ℕ → Option Step) (s : List ℕ) (at n i : ℕ) (string : List ℕ) (place : ℕ) → n ≤ i → run_records once (entries s (at + 4 * i) (n - i)) string place ≡ Some string
 unfolding entries run_records
 records_end once s at n i string place h =
     let e : n - i ≡ 0 = omega arith in
@@ -133,7 +132,7 @@ order_turn ts k n string h =
     let e : k - n ≡ suc (k - (n + 1)) = omega arith in
     rw e
 
-pub order_end : (ts : List Table) (k n : ℕ) (string : List ℕ) → k ≤ n → in_order ts (up_from n (k - n)) string ≡ some string
+pub order_end : (ts : List Table) (k n : ℕ) (string : List ℕ) → k ≤ n → in_order ts (up_from n (k - n)) string ≡ Some string
 unfolding in_order up_from
 order_end ts k n string h =
     let e : k - n ≡ 0 = omega arith in
@@ -157,7 +156,7 @@ module _ (once : ℕ → List ℕ → ℕ → Option Step) (k : (n : ℕ) (strin
   act_long Answer.nothing string place = refl
   act_long (Answer.instead x) string place = length-set string place x
   act_long (Answer.matched n rs) string place =
-      opt_bind (λ s. length s ≡ length string) (λ s. length s.string ≡ length string) (run_records once rs string place) (λ s. some (record { string = s; took = n })) (records_long rs string place) (λ s e. e)
+      opt_bind (λ s. length s ≡ length string) (λ s. length s.string ≡ length string) (run_records once rs string place) (λ s. Some (record { string = s; took = n })) (records_long rs string place) (λ s e. e)
 
 pub apply_long : (depth : ℕ) (ts : List Table) (n : ℕ) (string : List ℕ) (place : ℕ) → AsLong string (apply depth ts n string place)
 unfolding apply

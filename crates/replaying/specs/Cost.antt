@@ -1,6 +1,5 @@
 -- How many steps a replay may take at most, reckoned from the list before any run. A step is one lookup, asked at one place.
-use Rattle.std.specs.Prelude.{ℕ, zero, suc, ◌+◌, cond, List, [], ◌∷◌, map, get_or, ltb, eqb}
-use Rattle.std.proofs.Math.Option.{Option}
+use Rattle.std.specs.Prelude.{ℕ, zero, suc, ◌+◌, cond, List, [], ◌∷◌, map, get_or, ltb, eqb, Option}
 use Rattle.meaning.specs.Tables.{Rule, Table, drop_null}
 use Rattle.replaying.specs.Listed.{lookups_of}
 use Rattle.replaying.specs.Applying.{depth_limit}

@@ -1,6 +1,5 @@
 -- The list of lookups: kind, start and length in the lent buffer, 10 bytes each, as in a job's trailer. What is wrong with it, and with the lookups themselves.
-use Rattle.std.specs.Prelude.{ℕ, zero, suc, ◌+◌, ◌/◌, ◌%◌, Bool, true, cond, ◌&&◌, ◌||◌, not, List, [], ◌∷◌, map, length, leb, ltb, eqb}
-use Rattle.std.proofs.Math.Option.{Option, none, some}
+use Rattle.std.specs.Prelude.{ℕ, zero, suc, ◌+◌, ◌/◌, ◌%◌, Bool, true, cond, ◌&&◌, ◌||◌, not, List, [], ◌∷◌, map, length, leb, ltb, eqb, Option, None, Some}
 use Rattle.meaning.specs.Words.{word, inside, every}
 use Rattle.meaning.specs.Tables.{Rule, Table, drop_null, table}
 use Rattle.meaning.specs.Fault.{fault}
@@ -10,13 +9,13 @@ use Rattle.meaning.specs.Job.{Part, part_at, bytes_of}
 
 -- the first of two answers
 unfoldable pub or_else : {A : Type 0} → Option A → Option A → Option A
-or_else none q = q
-or_else (some a) q = some a
+or_else None q = q
+or_else (Some a) q = Some a
 
 -- what an answer gives, where there is one, and otherwise this
 unfoldable pub if_some : {A B : Type 0} → Option A → B → (A → B) → B
-if_some none b f = b
-if_some (some a) b f = f a
+if_some None b f = b
+if_some (Some a) b f = f a
 
 -- an entry: a lookup's kind, and where its subtable stands in the buffer
 pub record Entry : Type 0 where
@@ -63,19 +62,19 @@ lookups_of list buffer = map (lookup_of buffer) (listed list)
 
 -- malformed, with the place of the lowest faulty part
 unfoldable pub malformed : Option ℕ → Option (ℕ × ℕ)
-malformed none = none
-malformed (some at) = some (6, at)
+malformed None = None
+malformed (Some at) = Some (6, at)
 
 -- what is wrong with a lookup: over the limit, a format that its kind has not, malformed, a record past its rule
 unfoldable pub lookup_refusal : ℕ → List ℕ → Option (ℕ × ℕ)
 lookup_refusal kind s =
-    cond (ltb limit (length s)) (some (4, 0))
-    (cond (inside s 0 2 && not (has_format kind (word s 0))) (some (5, 0))
-    (or_else (malformed (fault kind s)) (cond (records_within (table kind s)) none (some (12, 0)))))
+    cond (ltb limit (length s)) (Some (4, 0))
+    (cond (inside s 0 2 && not (has_format kind (word s 0))) (Some (5, 0))
+    (or_else (malformed (fault kind s)) (cond (records_within (table kind s)) None (Some (12, 0)))))
 
 -- what is wrong with the first faulty lookup
 unfoldable pub first_refusal : List ℕ → List Entry → Option (ℕ × ℕ)
-first_refusal buffer [] = none
+first_refusal buffer [] = None
 first_refusal buffer (e ∷ es) = or_else (lookup_refusal e.kind (source_of buffer e)) (first_refusal buffer es)
 
 -- each record names one of n lookups; otherwise 17

@@ -1,6 +1,5 @@
 -- The replay: the refusals before any run, the runs, and the tally.
-use Rattle.std.specs.Prelude.{ℕ, ◌+◌, Bool, true, false, cond, ◌&&◌, List, [], ◌∷◌, length, eqb}
-use Rattle.std.proofs.Math.Option.{Option, none, some}
+use Rattle.std.specs.Prelude.{ℕ, ◌+◌, Bool, true, false, cond, ◌&&◌, List, [], ◌∷◌, length, eqb, Option, None, Some}
 use Rattle.meaning.specs.Words.{word, inside, every, is_some, eq_list}
 use Rattle.meaning.specs.Tables.{Table, drop_null, table}
 use Rattle.meaning.specs.Fault.{fault}
@@ -65,15 +64,15 @@ refusing r = record { number = r.0; place = r.1; tally = counted [] }
 -- the refusals in order: 15; then 4, 5, 6 or 12 for the first faulty lookup; 16; 17
 unfoldable pub refusal : List ℕ → List ℕ → List ℕ → Option (ℕ × ℕ)
 refusal list buffer trace =
-    or_else (cond (good_list list buffer) none (some (15, 0)))
+    or_else (cond (good_list list buffer) None (Some (15, 0)))
     (or_else (first_refusal buffer (listed list))
-    (or_else (cond (is_some (runs_of trace)) none (some (16, 0)))
-    (cond (all_named (lookups_of list buffer)) none (some (17, 0)))))
+    (or_else (cond (is_some (runs_of trace)) None (Some (16, 0)))
+    (cond (all_named (lookups_of list buffer)) None (Some (17, 0)))))
 
 -- the runs that there are
 unfoldable pub runs_in : Option (List Run) → List Run
-runs_in none = []
-runs_in (some rs) = rs
+runs_in None = []
+runs_in (Some rs) = rs
 
 -- the replay of a trace over a list of lookups in a buffer
 unfoldable pub replay : List ℕ → List ℕ → List ℕ → Replayed

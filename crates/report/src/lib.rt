@@ -6,7 +6,6 @@ ghost use Rattle.meaning.specs.Job.{decimal, printed};
 ghost use Rattle.report_lines.specs.Text.{Put, Spelled, Printable, line_text, kept_text};
 
 use report_lines::{NEWLINE, put_lines, put_one};
-use wire::byte;
 
 // The bytes of `s` from `at` on.
 fn put_text(text: &mut [u8], at: usize, s: &[u8]) -> usize
@@ -14,10 +13,8 @@ fn put_text(text: &mut [u8], at: usize, s: &[u8]) -> usize
     ensures { Put text.old at s.now text.new result }
 {
     let mut p = at;
-    let mut i = 0;
-    while i < s.len() {
-        p = put_one(text, p, byte(s, i));
-        i += 1;
+    for b in s {
+        p = put_one(text, p, *b as usize);
     }
     p
 }
@@ -29,6 +26,7 @@ fn spell(n: usize, small: &mut [u8]) -> usize
 {
     let mut at = 20;
     let mut left = n;
+    // A while: each step takes off a digit.
     while 10 <= left {
         at -= 1;
         small[at] = (48 + left % 10) as u8;

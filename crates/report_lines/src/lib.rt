@@ -6,7 +6,6 @@ ghost use Rattle.meaning.specs.Job.{hex_digit, hex_lines};
 ghost use Rattle.report_lines.specs.Text.{Put};
 
 use put_words::put_byte;
-use wire::byte;
 
 // Ends a line.
 pub const NEWLINE: usize = 10;
@@ -47,16 +46,13 @@ pub fn put_lines(text: &mut [u8], at: usize, bytes: &[u8]) -> usize
 {
     let mut p = at;
     let mut room: usize = 16;
-    let mut i = 0;
-    while i < bytes.len() {
+    for b in bytes {
         if room == 0 {
             p = put_one(text, p, NEWLINE);
             room = 16;
-            continue;
         }
-        p = put_hex(text, p, byte(bytes, i));
+        p = put_hex(text, p, *b as usize);
         room -= 1;
-        i += 1;
     }
     put_one(text, p, NEWLINE)
 }

@@ -16,27 +16,27 @@ pub const HIGHEST: usize = 65535;
 // The most bytes of a class table whose count fits a word.
 pub const LONGEST: usize = 131076;
 
-// What became of a table: nothing of it survives, its layout is over the limit or has an offset or a count that doesn't fit a word, the buffer is shorter than the layout, or it was laid, with the layout's length.
-#[derive(Clone, Copy)]
-pub enum Laid {
+// Why nothing was laid: nothing of the table survives, its layout is over the limit or has an offset or a count that doesn't fit a word, or the buffer is shorter than the layout, whose length stands here.
+#[derive(Clone, Copy, Debug, PartialEq, Eq)]
+pub enum NotLaid {
     Nothing,
     TooBig,
     NoRoom(usize),
-    Kept(usize),
 }
 
-// What becomes of a layout of `size` bytes in a buffer of `len` bytes; `fits` says whether each of its offsets and counts fits a word.
-pub fn room(size: usize, fits: bool, len: usize) -> Laid
+// What becomes of a layout of `size` bytes in a buffer of `len` bytes: it is laid, with its length, or not; `fits` says whether each of its offsets and counts fits a word.
+#[tactic(auto, unfolding(crate::specs::Laid::laid_for, meaning::specs::Subset::limit))]
+pub fn room(size: usize, fits: bool, len: usize) -> Result<usize, NotLaid>
     ensures { result ≡ laid_for size fits len }
 {
     if LIMIT < size {
-        return Laid::TooBig;
+        return Err(NotLaid::TooBig);
     }
     if !fits {
-        return Laid::TooBig;
+        return Err(NotLaid::TooBig);
     }
     if len < size {
-        return Laid::NoRoom(size);
+        return Err(NotLaid::NoRoom(size));
     }
-    Laid::Kept(size)
+    Ok(size)
 }

@@ -2,7 +2,7 @@
 use Prim.Native.Nat.{ℕ, suc, ◌+◌, ◌-◌, ◌≤◌, ◌<◌}
 use mathlib.Core.Path.{◌≡◌, refl, sym, ap, ◌∙◌}
 use mathlib.Core.Bool.{Bool, true, false, cond}
-use mathlib.Core.Option.{some}
+use Rattle.std.specs.Prelude.{Some}
 use mathlib.Core.List.{List, [], ◌∷◌}
 use native.Mathlib.Omega.{arith}
 use lib.ListN.{get_or}
@@ -23,14 +23,14 @@ module _ (g i p : ℕ) where
   unfolding left_rule
   left_stays h e =
       let s : p ≡ suc (p - 1) = omega arith in
-      let t : left_rule g i (some (p - 1)) ≡ [] = rw (eq-eqb i (p - 1) e) in
+      let t : left_rule g i (Some (p - 1)) ≡ [] = rw (eq-eqb i (p - 1) e) in
       (listed_said listed_none (sym (ap (λ (x : ℕ). left_rule g i (rank_of x)) s ∙ t)), omega arith)
 
   pub left_moved : {out next : List ℕ} {pos q : ℕ} → (p ≡ 0 → ⊥) → (i ≡ p - 1 → ⊥) → Listed (entry_of 4 0 g i i (p - 1) ∷ []) out pos next q → Listed (left_rule g i (rank_of p)) out pos next q × (q ≤ pos + 12)
   unfolding left_rule
   left_moved h e l =
       let s : p ≡ suc (p - 1) = omega arith in
-      let t : left_rule g i (some (p - 1)) ≡ entry_of 4 0 g i i (p - 1) ∷ [] = rw (ne_eqb i (p - 1) e) in
+      let t : left_rule g i (Some (p - 1)) ≡ entry_of 4 0 g i i (p - 1) ∷ [] = rw (ne_eqb i (p - 1) e) in
       (listed_said l (sym (ap (λ (x : ℕ). left_rule g i (rank_of x)) s ∙ t)), omega (arith, l.place))
 
   pub right_alone : {out next : List ℕ} {pos q : ℕ} → p ≡ 0 → Listed (entry_of 3 1 g i 0 0 ∷ []) out pos next q → Listed (right_rule g i (rank_of p)) out pos next q × (q ≤ pos + 12)
@@ -41,7 +41,7 @@ module _ (g i p : ℕ) where
   unfolding right_rule
   right_paired h =
       let s : p ≡ suc (p - 1) = omega arith in
-      let t : right_rule g i (some (p - 1)) ≡ [] = refl in
+      let t : right_rule g i (Some (p - 1)) ≡ [] = refl in
       (listed_said listed_none (sym (ap (λ (x : ℕ). right_rule g i (rank_of x)) s ∙ t)), omega arith)
 
 module _ (s : List ℕ) (m g i : ℕ) where

@@ -1,15 +1,14 @@
 -- Rules rank by rank, where each rule's partner is known.
-use Rattle.std.specs.Prelude.{ℕ, zero, suc, ◌+◌, ◌-◌, ◌*◌, ◌≤◌, ◌<◌, ◌≡◌, refl, Bool, true, false, cond, List, [], ◌∷◌, ◌++◌, length, get_or, ltb}
+use Rattle.std.specs.Prelude.{ℕ, zero, suc, ◌+◌, ◌-◌, ◌*◌, ◌≤◌, ◌<◌, ◌≡◌, refl, Bool, true, false, cond, List, [], ◌∷◌, ◌++◌, length, get_or, ltb, Option, None, Some}
 use Rattle.std.proofs.Common.{sym, ap, ap₂, ◌∙◌, arith, ltb-true, ltb-false}
-use Rattle.std.proofs.Math.Option.{Option, none, some}
 use Rattle.meaning.specs.Words.{up_from}
 use Rattle.differences.specs.Entries.{Entry, each, ranked, partner, left_rule, right_rule, if_there, at_rank, longer, rule_entries}
 use Rattle.difference_laws.specs.Ranks.{each_ranks}
 
 -- the rank that a cell stands for: 0 for none
 abbrev pub rank_of : ℕ → Option ℕ
-rank_of zero = none
-rank_of (suc j) = some j
+rank_of zero = None
+rank_of (suc j) = Some j
 
 -- what is listed of the left rule of rank i, where there are m, and of the right one, where there are n
 abbrev pub left_at : List ℕ → ℕ → ℕ → ℕ → List Entry
@@ -25,16 +24,16 @@ both_at lefts m rights n g i = left_at lefts m g i ++ right_at rights n g i
 module _ {A : Type 0} (same : A → A → Bool) where
   -- The partners of `own` among `others` stand in these cells.
   pub record Partners (own others : List A) (cells : List ℕ) : Type 0 where
-    pub stand : (i : ℕ) (x : A) → ranked own i ≡ some x → rank_of (get_or cells i 0) ≡ partner same own others i x
+    pub stand : (i : ℕ) (x : A) → ranked own i ≡ Some x → rank_of (get_or cells i 0) ≡ partner same own others i x
 
 -- a rank below the length has a member, and no other has
-ranked_there : {A : Type 0} (l : List A) (i : ℕ) → i < length l → (x : A) × (ranked l i ≡ some x)
+ranked_there : {A : Type 0} (l : List A) (i : ℕ) → i < length l → (x : A) × (ranked l i ≡ Some x)
 unfolding ranked
 ranked_there [] i h = absurd (omega arith)
 ranked_there (a ∷ l) zero h = (a, refl)
 ranked_there (a ∷ l) (suc i) h = ranked_there l i (omega arith)
 
-ranked_none : {A : Type 0} (l : List A) (i : ℕ) → length l ≤ i → ranked l i ≡ none
+ranked_none : {A : Type 0} (l : List A) (i : ℕ) → length l ≤ i → ranked l i ≡ None
 unfolding ranked
 ranked_none [] i h = refl
 ranked_none (a ∷ l) zero h = absurd (omega arith)

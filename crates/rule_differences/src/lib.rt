@@ -82,11 +82,9 @@ pub fn list_ranks(
 {
     let end = longer(m, n);
     let mut at = pos;
-    let mut i = 0;
-    while i < end {
+    for i in 0..end {
         let p = list_left(lefts, m, g, i, out, at);
         at = list_right(rights, n, g, i, out, p);
-        i += 1;
     }
     at
 }

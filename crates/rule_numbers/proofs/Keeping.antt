@@ -3,6 +3,7 @@ use Prim.Native.Nat.{ℕ, zero, suc, ◌+◌, ◌*◌, ◌≤◌, ◌<◌}
 use mathlib.Core.Path.{◌≡◌, refl, sym, ap, ◌∙◌}
 use mathlib.Core.Bool.{Bool, true, false}
 use mathlib.Core.List.{List, [], ◌∷◌}
+use Rattle.std.specs.Prelude.{None, Some}
 use native.Mathlib.Decide.{dec_lt}
 use native.Mathlib.Omega.{arith}
 use lib.ListN.{length, get_or, set, length-set}
@@ -45,11 +46,11 @@ module _ {A : Type 0} {says : ℕ → A} {print : A → ℕ} where
             let q : j ≡ k = omega arith in
             d (rw q at s)
 
-    pub seeking_found : {k : ℕ} → Seeking says print came c k → (k ≡ 0 → ⊥) → says (code_at came k) ≡ says c → Sought says came c k
-    seeking_found w z e = record { there = λ n. ((w.live z).0, e); none = λ q. absurd (z q) }
+    pub seeking_found : {k : ℕ} → Seeking says print came c k → (k ≡ 0 → ⊥) → says (code_at came k) ≡ says c → Sought says came c (Some k)
+    seeking_found w z e = ((w.live z).0, e)
 
-    pub seeking_end : {k : ℕ} → Seeking says print came c k → k ≡ 0 → Sought says came c 0
-    seeking_end w z = record { there = λ n. absurd (n refl); none = λ q j i s. w.past j i (omega (arith, i.some)) s }
+    pub seeking_end : {k : ℕ} → Seeking says print came c k → k ≡ 0 → Sought says came c None
+    seeking_end w z = λ j i s. w.past j i (omega (arith, i.some)) s
 
 -- a cell that was 0 is filled
 filled_set : (l : List ℕ) (i v : ℕ) → i < length l → get_or l i 0 ≡ 0 → 0 < v → filled (set l i v) ≡ suc (filled l)
@@ -232,15 +233,14 @@ module _ {A : Type 0} {says : ℕ → A} {print : A → ℕ} {num came : List �
       numbered_next = rw e (record { book = book_next; here = sym (get_or-set_same num c r 0 i); some = n; few = omega (arith, few, length-set num c r); stay = others_stay r })
 
     -- a code that says what an earlier one does
-    pub numbered_found : {next : List ℕ} {r : ℕ} → Sought says came c r → (r ≡ 0 → ⊥) → next ≡ set num c r → Numbered says print num c next came r
-    numbered_found {next} {r} s n e =
-        let h = s.there n in
-        numbered_next (positive r n) e (omega (arith, h.0.few, b.enough, filled_few num)) (omega arith) refl b.firsts h (λ k q. (q, refl))
+    pub numbered_found : {next : List ℕ} {r : ℕ} → Sought says came c (Some r) → next ≡ set num c r → Numbered says print num c next came r
+    numbered_found h e =
+        numbered_next h.0.some e (omega (arith, h.0.few, b.enough, filled_few num)) (omega arith) refl b.firsts h (λ k q. (q, refl))
 
     -- one that is first
-    pub numbered_new : {next after : List ℕ} {p r s : ℕ} → Sought says came c s → s ≡ 0 → p < 65536 → p ≡ print (says c) → r ≡ count came + 1 → Added came after c p → length after ≡ length came → next ≡ set num c r → Numbered says print num c next after r
-    numbered_new {next} {after} {p} {r} s q l g h d w e =
-        numbered_next (omega (arith, h)) e (omega (arith, h, room)) (omega (arith, d.count_is)) w (firsts_more b.firsts d l g (s.none q))
+    pub numbered_new : {next after : List ℕ} {p r : ℕ} → Sought says came c None → p < 65536 → p ≡ print (says c) → r ≡ count came + 1 → Added came after c p → length after ≡ length came → next ≡ set num c r → Numbered says print num c next after r
+    numbered_new {next} {after} {p} {r} s l g h d w e =
+        numbered_next (omega (arith, h)) e (omega (arith, h, room)) (omega (arith, d.count_is)) w (firsts_more b.firsts d l g s)
         (record { some = omega (arith, h); few = omega (arith, h, d.count_is) }, ap (λ (k : ℕ). says (code_at after k)) h ∙ ap says d.code_new)
         (λ k y. (record { some = y.some; few = omega (arith, y.few, d.count_is) }, d.code_old k y))
 

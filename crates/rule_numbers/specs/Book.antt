@@ -1,5 +1,5 @@
 -- Numbers of contents, each with the code that came first with it, found by their prints.
-use Rattle.std.specs.Prelude.{ℕ, zero, suc, ◌+◌, ◌*◌, ◌≤◌, ◌<◌, ◌≡◌, List, [], ◌∷◌, length, get_or}
+use Rattle.std.specs.Prelude.{ℕ, zero, suc, ◌+◌, ◌*◌, ◌≤◌, ◌<◌, ◌≡◌, Option, None, Some, List, [], ◌∷◌, length, get_or}
 
 -- how many cells are not 0
 unfoldable pub filled : List ℕ → ℕ
@@ -33,10 +33,10 @@ pub record Added (came after : List ℕ) (c p : ℕ) : Type 0 where
   pub print_old : (q : ℕ) → q < 65536 → (q ≡ p → ⊥) → get_or after q 0 ≡ get_or came q 0
 
 module _ {A : Type 0} (says : ℕ → A) where
-  -- what a search for what the code c says answers: the number whose first code says the same, or 0 if there is none
-  pub record Sought (came : List ℕ) (c r : ℕ) : Type 0 where
-    pub there : (r ≡ 0 → ⊥) → Is came r × (says (code_at came r) ≡ says c)
-    pub none : r ≡ 0 → (k : ℕ) → Is came k → says (code_at came k) ≡ says c → ⊥
+  -- what a search for what the code c says answers: the number whose first code says the same, if there is one
+  abbrev pub Sought : List ℕ → ℕ → Option ℕ → Type 0
+  Sought came c (Some k) = Is came k × (says (code_at came k) ≡ says c)
+  Sought came c None = (k : ℕ) → Is came k → says (code_at came k) ≡ says c → ⊥
 
   module _ (print : A → ℕ) where
     -- No two first codes say the same, and the numbers with one print are chained from the latest on.

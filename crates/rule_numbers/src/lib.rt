@@ -2,14 +2,14 @@
 // `came` has, for each print, the latest number of a rule with this print; then how many numbers there are; then for each number the code that came first with it, and the number before it with the same print.
 #![tactic(auto)]
 
-ghost use Rattle.std.specs.Prelude.{◌≡◌, ◌+◌, ◌*◌, ◌≤◌, ◌<◌, length, get_or, set};
+ghost use Rattle.std.specs.Prelude.{◌≡◌, ◌+◌, ◌*◌, ◌≤◌, ◌<◌, length, get_or, set, IfSome};
 ghost use Rattle.rule_says.specs.Said.{says_by, print_says};
 ghost use Rattle.rule_numbers.specs.Book.{count, Added, Firsts, Sought, Book, Numbered};
 
 use cells::{cell, put_cell};
 use rule_says::{Shape, print, same};
 
-// The number whose first code says what `code` says, from the number `latest` on back; 0 if there is none.
+// The number whose first code says what `code` says, if there is one, from the number `latest` on back.
 fn seek(
     shape: Shape,
     left: &[u8],
@@ -18,18 +18,20 @@ fn seek(
     came: &[u32],
     latest: usize,
     code: usize,
-) -> usize
+) -> Option<usize>
     requires { (code < 0x1_0000_0000) × (latest < 0x1_0000_0000) × (print_says (says_by shape left.now right.now t.now code) < 65536) × (latest ≡ get_or came.now (print_says (says_by shape left.now right.now t.now code)) 0) × Firsts (says_by shape left.now right.now t.now) print_says came.now }
-    ensures { Sought (says_by shape left.now right.now t.now) came.now code result × (result < 0x1_0000_0000) }
+    ensures sought { Sought (says_by shape left.now right.now t.now) came.now code result }
+    ensures small { IfSome result (λ k. k < 0x1_0000_0000) }
 {
     let mut k = latest;
+    // A while: it follows links.
     while k != 0 {
         if same(shape, left, right, t, cell(came, 65536 + 2 * k), code) {
-            return k;
+            return Some(k);
         }
         k = cell(came, 65537 + 2 * k);
     }
-    0
+    None
 }
 
 // The next number for `code`, which came first with what it says and has the print `p`.
@@ -65,8 +67,7 @@ pub fn number(
         return k;
     }
     let p = print(shape, left, right, t, code);
-    let r = seek(shape, left, right, t, came, cell(came, p), code);
-    if r != 0 {
+    if let Some(r) = seek(shape, left, right, t, came, cell(came, p), code) {
         put_cell(num, code, r);
         return r;
     }

@@ -44,14 +44,12 @@ pub fn same_row(left: &[u8], right: &[u8], t: &[u32], x: Run, y: Run, n: usize) 
     requires { Reads x × Reads y × (n < 0x1_0000_0000) }
     ensures { result ≡ same_list eqb (numbers_of left.now right.now t.now x n) (numbers_of left.now right.now t.now y n) }
 {
-    let mut i = 0;
-    while i < n {
+    for i in 0..n {
         let a = number_at(left, right, t, x, i);
         let b = number_at(left, right, t, y, i);
         if a != b {
             return false;
         }
-        i += 1;
     }
     true
 }
@@ -70,11 +68,9 @@ pub fn print_row(left: &[u8], right: &[u8], t: &[u32], x: Run, n: usize, h: usiz
     ensures { (result ≡ print_numbers h (numbers_of left.now right.now t.now x n)) × (result < 65536) }
 {
     let mut print = h;
-    let mut i = 0;
-    while i < n {
+    for i in 0..n {
         let w = number_at(left, right, t, x, i);
         print = mix(print, w);
-        i += 1;
     }
     print
 }

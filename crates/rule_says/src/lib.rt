@@ -7,7 +7,7 @@ ghost use Rattle.rule_rows.specs.Rows.{side_of, numbers_of, Reads};
 ghost use Rattle.rule_says.specs.Said.{forms_at, base_of, run_of, says_by, print_says, IsPart};
 
 use rule_rows::{Run, print_row, same_row, word_of};
-use rules::{Row, RuleParts, after_first, rule_parts};
+use rules::{Row, RuleParts, rule_parts};
 use wire::word_at;
 
 // What the codes of two subtables stand for: plain rules (kind 1), chained ones (2) or ligatures (3); and whether their words are classes (1) or glyphs (0).
@@ -29,7 +29,7 @@ fn ligature_parts(src: &[u8], at: usize) -> RuleParts
         count,
         input: Row {
             at: at + 4,
-            len: after_first(count),
+            len: count.saturating_sub(1),
         },
         ahead: none,
         records: none,

@@ -1,8 +1,7 @@
 // Sets of rules of contexts, plain and chained: what is left of them, written into the area in one walk.
 #![tactic(auto)]
 
-ghost use Rattle.std.specs.Prelude.{◌≡◌, ◌+◌, ◌≤◌, ◌<◌, length};
-ghost use Rattle.std.proofs.Math.Option.{none};
+ghost use Rattle.std.specs.Prelude.{◌≡◌, ◌+◌, ◌≤◌, ◌<◌, length, None};
 ghost use Rattle.meaning.specs.Tables.{rule_set};
 ghost use Rattle.meaning.specs.Fault.{rule_fault, set_fault};
 ghost use Rattle.meaning.specs.Cut.{cut_set};
@@ -30,7 +29,7 @@ fn write_once(
     area: &mut [u8],
     pos: usize,
 ) -> usize
-    requires { (rule_fault chained src.now at ≡ none) × AllInside t.now maps × (0 < pos) × (pos ≤ length area.old) × Dead (rule_left chained (maps_in t.now maps) src.now) dead.old }
+    requires { (rule_fault chained src.now at ≡ None) × AllInside t.now maps × (0 < pos) × (pos ≤ length area.old) × Dead (rule_left chained (maps_in t.now maps) src.now) dead.old }
     ensures { Leaves area.old pos (rule_left chained (maps_in t.now maps) src.now at) (rule_size chained src.now at) area.new result × Dead (rule_left chained (maps_in t.now maps) src.now) dead.new }
 {
     if has_bit(dead, 0, at) {
@@ -54,7 +53,7 @@ pub fn write_rules(
     area: &mut [u8],
     pos: usize,
 ) -> usize
-    requires { (set_fault (rule_fault chained src.now) src.now at ≡ none) × (length src.now ≤ limit) × AllInside t.now maps × (pos ≤ length area.old) × Dead (rule_left chained (maps_in t.now maps) src.now) dead.old }
+    requires { (set_fault (rule_fault chained src.now) src.now at ≡ None) × (length src.now ≤ limit) × AllInside t.now maps × (pos ≤ length area.old) × Dead (rule_left chained (maps_in t.now maps) src.now) dead.old }
     ensures { Leaves area.old pos (block (set_words (rule_words chained)) (cut_set chained (maps_in t.now maps) (rule_set chained src.now at))) (set_most (rule_words chained) (cut_set chained (maps_in t.now maps) (rule_set chained src.now at)) src.now) area.new result × Dead (rule_left chained (maps_in t.now maps) src.now) dead.new }
 {
     let n = word_inside(src, at);
@@ -64,10 +63,8 @@ pub fn write_rules(
     }
     let mut k = 0;
     let mut p = first;
-    let mut i = 0;
-    while i < n {
+    for i in 0..n {
         let off = word_inside(src, at + 2 + 2 * i);
-        i += 1;
         if off == 0 {
             continue;
         }
@@ -75,11 +72,12 @@ pub fn write_rules(
         if area.len() < q {
             return q;
         }
-        if q != 0 {
-            put(area, pos + 2 + 2 * k, p - pos);
-            k += 1;
-            p = q;
+        if q == 0 {
+            continue;
         }
+        put(area, pos + 2 + 2 * k, p - pos);
+        k += 1;
+        p = q;
     }
     close_set(area, pos, k, first, p)
 }

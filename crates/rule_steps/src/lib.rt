@@ -30,14 +30,11 @@ fn most_in_set(
 {
     let n = word_at(src, set);
     let mut top = most;
-    let mut i = 0;
-    while i < n {
+    for i in 0..n {
         let off = word_at(src, set + 2 + 2 * i);
-        i += 1;
-        if off == 0 {
-            continue;
+        if off != 0 {
+            top = most_once(chained, src, set + off, steps, top, marks);
         }
-        top = most_once(chained, src, set + off, steps, top, marks);
     }
     top
 }
@@ -56,14 +53,11 @@ fn most_in_sets(
     ensures { result ≡ sets_steps steps.now (reaches (rule_set chained src.now) src.now 0 slot n) }
 {
     let mut top = 0;
-    let mut i = 0;
-    while i < n {
+    for i in 0..n {
         let set = word_at(src, slot + 2 * i);
-        i += 1;
-        if set == 0 {
-            continue;
+        if set != 0 {
+            top = most_in_set(chained, src, set, steps, top, marks);
         }
-        top = most_in_set(chained, src, set, steps, top, marks);
     }
     top
 }

@@ -6,10 +6,8 @@ ghost use Rattle.meaning.specs.Words.{entries};
 ghost use Rattle.meaning.specs.Tables.{rule};
 ghost use Rattle.meaning.specs.Fault.{rule_fault};
 ghost use Rattle.meaning.specs.Records.{indexes_below, rule_within};
-ghost use Rattle.faults.specs.Fault.{fault_of};
 ghost use Rattle.rules.specs.Parts.{IsRule};
 
-use faults::Fault;
 use wire::{inside, word_at};
 
 // Numbers or records in a row: where the first stands, and how many there are.
@@ -29,23 +27,13 @@ pub struct RuleParts {
     pub records: Row,
 }
 
-// How many glyphs a count leaves after the first: a count of 0 or 1 leaves none.
-pub fn after_first(count: usize) -> usize
-    ensures { result ≡ count - 1 }
-{
-    if count == 0 {
-        return 0;
-    }
-    count - 1
-}
-
 // Where the parts of the plain rule at `at` stand; it has neither backtrack nor lookahead.
 fn plain_parts(src: &[u8], at: usize) -> RuleParts
     requires { at < 0x1_0000_0000_0000 }
     ensures { IsRule false src.now at result }
 {
     let count = word_at(src, at);
-    let n = after_first(count);
+    let n = count.saturating_sub(1);
     RuleParts {
         back: Row { at, len: 0 },
         count,
@@ -66,7 +54,7 @@ fn chained_parts(src: &[u8], at: usize) -> RuleParts
     let backs = word_at(src, at);
     let i = at + 2 + 2 * backs;
     let count = word_at(src, i);
-    let n = after_first(count);
+    let n = count.saturating_sub(1);
     let a = i + 2 + 2 * n;
     let aheads = word_at(src, a);
     let r = a + 2 + 2 * aheads;
@@ -100,15 +88,16 @@ pub fn rule_parts(chained: bool, src: &[u8], at: usize) -> RuleParts
 }
 
 // The fault of the rule at `at`: it is sound if it ends inside the source.
-pub fn check_rule(chained: bool, src: &[u8], at: usize) -> Fault
+#[tactic(auto, unfolding(meaning::specs::Fault::rule_fault, meaning::specs::Fault::part_fault))]
+pub fn check_rule(chained: bool, src: &[u8], at: usize) -> Option<usize>
     requires { at < 0x8000_0000_0000 }
-    ensures { result ≡ fault_of (rule_fault chained src.now at) }
+    ensures { result ≡ rule_fault chained src.now at }
 {
     let r = rule_parts(chained, src, at);
     if inside(src, r.records.at, 4 * r.records.len) {
-        return Fault::Sound;
+        return None;
     }
-    Fault::At(at)
+    Some(at)
 }
 
 // Whether each of the `n` records from `at` on has a sequence index below `count`, the count of an input.
@@ -116,12 +105,10 @@ pub fn indexes_below(src: &[u8], at: usize, n: usize, count: usize) -> bool
     requires { at + 4 * n < 0x1_0000_0000_0000 }
     ensures { result ≡ indexes_below count (entries src.now at n) }
 {
-    let mut i = 0;
-    while i < n {
+    for i in 0..n {
         if count <= word_at(src, at + 4 * i) {
             return false;
         }
-        i += 1;
     }
     true
 }

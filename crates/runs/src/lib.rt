@@ -1,7 +1,8 @@
 // A run of the trace, replayed: what comes out of its glyphs, held against what the trace says.
 #![tactic(auto)]
 
-ghost use Rattle.std.specs.Prelude.{◌≡◌, ◌+◌, ◌*◌, ◌<◌};
+ghost use Rattle.std.specs.Prelude.{◌≡◌, ◌+◌, ◌*◌, ◌<◌, option_map};
+ghost use Rattle.std.specs.Result.{result_ok};
 ghost use Rattle.meaning.specs.Words.{words};
 ghost use Rattle.meaning.specs.Job.{eq_list};
 ghost use Rattle.replaying.specs.Listed.{lookups_of};
@@ -10,31 +11,20 @@ ghost use Rattle.replaying.specs.Trace.{run_at};
 ghost use Rattle.lookup_list.specs.Ready.{Ready};
 ghost use Rattle.steps.specs.Stepping.{Room};
 ghost use Rattle.traces.specs.Whole.{Whole};
-ghost use Rattle.runs.specs.Verdicts.{verdict_of};
 
 use put_words::put;
-use steps::run_lookups;
+use steps::{TooDeep, run_lookups};
 use wire::word_at;
-
-// What a run shows: that it agrees with the trace or differs from it, or that a lookup went too deep.
-#[derive(Clone, Copy)]
-pub enum Verdict {
-    Agrees,
-    Differs,
-    Deep,
-}
 
 // Whether the `n` words from `at` on are those from `from` on in another slice.
 fn same_words(a: &[u8], at: usize, b: &[u8], from: usize, n: usize) -> bool
     requires { (at + 2 * n < 0x1_0000_0000_0000_0000) × (from + 2 * n < 0x1_0000_0000_0000_0000) }
     ensures { result ≡ eq_list (words a.now at n) (words b.now from n) }
 {
-    let mut i = 0;
-    while i < n {
+    for i in 0..n {
         if word_at(a, at + 2 * i) != word_at(b, from + 2 * i) {
             return false;
         }
-        i += 1;
     }
     true
 }
@@ -44,26 +34,19 @@ fn copy_words(src: &[u8], at: usize, out: &mut [u8], n: usize)
     requires { (at + 2 * n < 0x1_0000_0000_0000_0000) × Room n out.old }
     ensures { words out.new 0 n ≡ words src.now at n }
 {
-    let mut i = 0;
-    while i < n {
+    for i in 0..n {
         put(out, 2 * i, word_at(src, at + 2 * i));
-        i += 1;
     }
 }
 
 // Replays the run of the trace whose count stands at `at`: whether what comes out is what the trace says.
-pub fn replay_run(list: &[u8], buffer: &[u8], trace: &[u8], at: usize) -> Verdict
+pub fn replay_run(list: &[u8], buffer: &[u8], trace: &[u8], at: usize) -> Result<bool, TooDeep>
     requires { Ready list.now buffer.now × Whole trace.now at }
-    ensures { result ≡ verdict_of (run (lookups_of list.now buffer.now) (run_at trace.now at).given) (run_at trace.now at).came }
+    ensures { result_ok result ≡ option_map (λ s. eq_list s (run_at trace.now at).came) (run (lookups_of list.now buffer.now) (run_at trace.now at).given) }
 {
     let n = word_at(trace, at);
     let mut string = [0u8; 128];
     copy_words(trace, at + 2, &mut string, n);
-    if !run_lookups(list, buffer, &mut string, n) {
-        return Verdict::Deep;
-    }
-    if same_words(&string, 0, trace, at + 2 + 2 * n, n) {
-        return Verdict::Agrees;
-    }
-    Verdict::Differs
+    run_lookups(list, buffer, &mut string, n)?;
+    Ok(same_words(&string, 0, trace, at + 2 + 2 * n, n))
 }

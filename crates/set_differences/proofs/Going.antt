@@ -1,15 +1,13 @@
 -- The ways through the list of one first glyph by numbers, and the walk over all glyphs.
 use Prim.Native.Nat.{ℕ, ◌+◌, ◌≤◌, ◌<◌}
-use mathlib.Core.Path.{◌≡◌, refl, ◌∙◌}
-use mathlib.Core.Option.{some}
+use mathlib.Core.Path.{◌≡◌, refl, sym, ◌∙◌}
+use Rattle.std.specs.Prelude.{None, Some}
 use mathlib.Core.List.{List, [], ◌∷◌}
 use native.Mathlib.Omega.{arith}
 use lib.ListN.{length, get_or}
 use lib.Dec.{eqb}
 use Rattle.meaning.specs.Words.{bind, up_from}
-use Rattle.coverage_index.specs.Index.{index_of, covered_of, is_at, is_not}
-use Rattle.coverage_index.specs.declared.Covered.{Covered}
-use Rattle.coverage_index.specs.declared.Covered.TheVariants.{At, Not}
+use Rattle.coverage_index.specs.Index.{index_of}
 use Rattle.differences.specs.Entries.{Entry, each, beside, longer, rule_entries}
 use Rattle.listing.specs.Listed.{entry_of, Listed, listed_said, Through, through_all, through_turn, through_end}
 use Rattle.first_glyphs.specs.First.{right_only, at_glyph, at_right, at_left, at_both}
@@ -17,20 +15,20 @@ use Rattle.set_numbers.specs.Sets.{codes_of}
 use Rattle.gathered.specs.Gathered.{numbers_at, Fit, Remembered}
 
 -- One first glyph. The numbers of its rules are h i on the left and k j on the right, by its indices i and j.
-module _ (ns ms : List (ℕ × List ℕ)) (c d : List ℕ) (h k : ℕ → List ℕ) (g : ℕ) (e : beside ns g ≡ bind (index_of c g) (λ i. some (h i))) (f : beside ms g ≡ bind (index_of d g) (λ j. some (k j)))
-    {r : Covered} (p : r ≡ covered_of (index_of c g)) {out next : List ℕ} {pos q : ℕ} where
+module _ (ns ms : List (ℕ × List ℕ)) (c d : List ℕ) (h k : ℕ → List ℕ) (g : ℕ) (e : beside ns g ≡ bind (index_of c g) (λ i. Some (h i))) (f : beside ms g ≡ bind (index_of d g) (λ j. Some (k j)))
+    {out next : List ℕ} {pos q : ℕ} where
   -- the left does not cover it
-  pub glyph_right : r ≡ Not → Listed (right_only g (index_of d g)) out pos next q × (q ≤ pos + 12) → Listed (at_glyph (rule_entries eqb) ns ms g) out pos next q × (q ≤ pos + 0x18_0000)
-  glyph_right x l = (listed_said l.0 (at_right (rule_entries eqb) ns ms c d h k g e f (is_not (index_of c g) x p)), omega (arith, l.1))
+  pub glyph_right : None ≡ index_of c g → Listed (right_only g (index_of d g)) out pos next q × (q ≤ pos + 12) → Listed (at_glyph (rule_entries eqb) ns ms g) out pos next q × (q ≤ pos + 0x18_0000)
+  glyph_right x l = (listed_said l.0 (at_right (rule_entries eqb) ns ms c d h k g e f (sym x)), omega (arith, l.1))
 
-  module _ {i : ℕ} (x : r ≡ At i) {u : Covered} (w : u ≡ covered_of (index_of d g)) where
+  module _ {i : ℕ} (x : Some i ≡ index_of c g) where
     -- only the left covers it
-    pub glyph_left : u ≡ Not → Listed (entry_of 2 0 g 0 0 0 ∷ []) out pos next q → Listed (at_glyph (rule_entries eqb) ns ms g) out pos next q × (q ≤ pos + 0x18_0000)
-    glyph_left y l = (listed_said l (at_left (rule_entries eqb) ns ms c d h k g e f (is_at (index_of c g) x p) (is_not (index_of d g) y w)), omega (arith, l.place))
+    pub glyph_left : None ≡ index_of d g → Listed (entry_of 2 0 g 0 0 0 ∷ []) out pos next q → Listed (at_glyph (rule_entries eqb) ns ms g) out pos next q × (q ≤ pos + 0x18_0000)
+    glyph_left y l = (listed_said l (at_left (rule_entries eqb) ns ms c d h k g e f (sym x) (sym y)), omega (arith, l.place))
 
     -- both cover it
-    pub glyph_both : {j : ℕ} → u ≡ At j → Listed (rule_entries eqb g (h i) (k j)) out pos next q → Listed (at_glyph (rule_entries eqb) ns ms g) out pos next q
-    glyph_both y l = listed_said l (at_both (rule_entries eqb) ns ms c d h k g e f (is_at (index_of c g) x p) (is_at (index_of d g) y w))
+    pub glyph_both : {j : ℕ} → Some j ≡ index_of d g → Listed (rule_entries eqb g (h i) (k j)) out pos next q → Listed (at_glyph (rule_entries eqb) ns ms g) out pos next q
+    glyph_both y l = listed_said l (at_both (rule_entries eqb) ns ms c d h k g e f (sym x) (sym y))
 
 -- two null sets list nothing
 remembered_null : (num l r : List ℕ) {nums : List ℕ} → (get_or nums 131072 0 ≡ 0) × (get_or nums 131073 0 ≡ 0) × (get_or nums 131074 0 ≡ 0) → Remembered num l r nums

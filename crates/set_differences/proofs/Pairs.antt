@@ -3,7 +3,8 @@ use Prim.Native.Nat.{ℕ, zero, suc, ◌+◌, ◌-◌, ◌*◌, ◌≤◌, ◌<�
 use mathlib.Core.Path.{◌≡◌, refl, sym, ap, ap₂, ◌∙◌}
 use mathlib.Core.Bool.{Bool, true, false, cond, true≢false}
 use mathlib.Core.Logic.{◌⊎◌, inl, inr}
-use mathlib.Core.Option.{Option, none, some, none-ne-some}
+use Rattle.std.specs.Prelude.{Option, None, Some}
+use Rattle.std.proofs.lemmas.Option.{none-some}
 use mathlib.Core.List.{List, [], ◌∷◌, map}
 use native.Mathlib.Nat.{zero-add}
 use native.Mathlib.Omega.{arith}
@@ -56,9 +57,9 @@ numbers_kept old new i zero k = refl
 numbers_kept old new i (suc n) k = ap₂ (λ (x : ℕ) (l : List ℕ). x ∷ l) (k i (omega arith)) (numbers_kept old new (i + 1) n (λ j h. k j (omega arith)))
 
 -- the ranks of a row of n numbers are below n
-ranked_below : (t : List ℕ) (i n k x : ℕ) → ranked (numbers_from t i n) k ≡ some x → k < n
+ranked_below : (t : List ℕ) (i n k x : ℕ) → ranked (numbers_from t i n) k ≡ Some x → k < n
 unfolding numbers_from ranked
-ranked_below t i zero k x e = absurd (none-ne-some _ e)
+ranked_below t i zero k x e = absurd (none-some _ e)
 ranked_below t i (suc n) zero x e = omega arith
 ranked_below t i (suc n) (suc k) x e = omega (arith, ranked_below t (i + 1) n k x e)
 
@@ -101,8 +102,8 @@ module _ {xs ys old mid new : List ℕ} {m n : ℕ} (a : Gathered xs 0 old mid m
 
 left_length : (g i : ℕ) (o : Option ℕ) → length (left_rule g i o) ≡ length (left_rule 0 i o)
 unfolding left_rule
-left_length g i none = refl
-left_length g i (some j) = one (eqb i j) (entry_of 4 0 g i i j) (entry_of 4 0 0 i i j)
+left_length g i None = refl
+left_length g i (Some j) = one (eqb i j) (entry_of 4 0 g i i j) (entry_of 4 0 0 i i j)
   where
     one : (b : Bool) (x y : Entry) → length (cond b [] (x ∷ [])) ≡ length (cond b [] (y ∷ []))
     one true x y = refl
@@ -110,13 +111,13 @@ left_length g i (some j) = one (eqb i j) (entry_of 4 0 g i i j) (entry_of 4 0 0 
 
 right_length : (g i : ℕ) (o : Option ℕ) → length (right_rule g i o) ≡ length (right_rule 0 i o)
 unfolding right_rule
-right_length g i none = refl
-right_length g i (some j) = refl
+right_length g i None = refl
+right_length g i (Some j) = refl
 
 there_length : (f h : ℕ → List Entry) → ((x : ℕ) → length (f x) ≡ length (h x)) → (o : Option ℕ) → length (if_there f o) ≡ length (if_there h o)
 unfolding if_there
-there_length f h e none = refl
-there_length f h e (some x) = e x
+there_length f h e None = refl
+there_length f h e (Some x) = e x
 
 each_length : (f h : ℕ → List Entry) → ((i : ℕ) → length (f i) ≡ length (h i)) → (ks : List ℕ) → length (each f ks) ≡ length (each h ks)
 unfolding each

@@ -1,10 +1,9 @@
 -- What sets say, by the codes of their rules, and first glyphs listed by numbers.
 use Prim.Native.Nat.{ℕ, zero, suc, ◌+◌, ◌*◌}
-use Rattle.std.specs.Prelude.{◌≡◌, Bool, cond, length, get_or}
+use Rattle.std.specs.Prelude.{◌≡◌, Bool, cond, length, get_or, Option, None, Some}
 use Rattle.std.proofs.Math.Path.{refl, ap₂}
 use Rattle.std.proofs.Common.{sym, ◌∙◌, zero-add, arith}
 use Rattle.std.proofs.Math.Bool.{true, false}
-use Rattle.std.proofs.Math.Option.{Option, none, some}
 use mathlib.Core.List.{List, [], ◌∷◌, map}
 use Rattle.std.proofs.Math.Dec.{eqb}
 use Rattle.meaning.specs.Words.{word, bind}
@@ -24,7 +23,7 @@ module _ {A B : Type 0} (read : ℕ → A) (say : A → B) (says : ℕ → B) (s
   codes_say base slot (suc n) = step (eqb (word s slot) 0) (codes_say base (slot + 2) n)
     where
       step : (b : Bool) → map say (drop_null (reaches read s base (slot + 2) n)) ≡ map says (codes_from s side base (slot + 2) n)
-          → map say (drop_null (cond b none (some (read (base + word s slot))) ∷ reaches read s base (slot + 2) n))
+          → map say (drop_null (cond b None (Some (read (base + word s slot))) ∷ reaches read s base (slot + 2) n))
           ≡ map says (cond b (codes_from s side base (slot + 2) n) ((2 * (base + word s slot) + side) ∷ codes_from s side base (slot + 2) n))
       step true h = h
       step false h = ap₂ (λ (x : B) (l : List B). x ∷ l) (sym (e (base + word s slot))) h
@@ -47,7 +46,7 @@ module _ {A B : Type 0} (read : ℕ → A) (say : A → B) (says : ℕ → B) (s
         let h : map say (set_holds (reach set s 0 slot)) ≡ map say (cond (eqb (word s slot) 0) [] (set (word s slot))) = rw (zero-add (word s slot)) (holds (eqb (word s slot) 0)) in
         h ∙ place_says (word s slot)
       where
-        holds : (b : Bool) → map say (set_holds (cond b none (some (set (word s slot))))) ≡ map say (cond b [] (set (word s slot)))
+        holds : (b : Bool) → map say (set_holds (cond b None (Some (set (word s slot))))) ≡ map say (cond b [] (set (word s slot)))
         holds true = refl
         holds false = refl
 
@@ -56,7 +55,7 @@ pub set_numbers_lem : (num s : List ℕ) (side slot : ℕ) → map (number_in nu
 unfolding reach set_holds numbers_at codes_of
 set_numbers_lem num s side slot = rw (zero-add (word s slot)) (step (eqb (word s slot) 0) (codes_from s side (word s slot) (word s slot + 2) (word s (word s slot))))
   where
-    step : (b : Bool) (codes : List ℕ) → map (number_in num) (set_holds (cond b none (some (cond b [] codes)))) ≡ map (number_in num) (cond b [] codes)
+    step : (b : Bool) (codes : List ℕ) → map (number_in num) (set_holds (cond b None (Some (cond b [] codes)))) ≡ map (number_in num) (cond b [] codes)
     step true codes = refl
     step false codes = refl
 
@@ -73,20 +72,20 @@ module _ (num : List ℕ) (says : ℕ → Says) (tells : (c d : ℕ) → (get_or
 
   -- at one glyph, where the codes of its rules are l i on the left and r j on the right, by its indices i and j
   pub glyph_told : (ns ms : List (ℕ × List ℕ)) (xs ys : List (ℕ × List Says)) (g : ℕ) (o p : Option ℕ) (l r : ℕ → List ℕ)
-      → beside ns g ≡ bind o (λ i. some (map (number_in num) (l i))) → beside ms g ≡ bind p (λ j. some (map (number_in num) (r j)))
-      → beside xs g ≡ bind o (λ i. some (map says (l i))) → beside ys g ≡ bind p (λ j. some (map says (r j)))
-      → ((i : ℕ) → o ≡ some i → AllNumbered num (l i)) → ((j : ℕ) → p ≡ some j → AllNumbered num (r j))
+      → beside ns g ≡ bind o (λ i. Some (map (number_in num) (l i))) → beside ms g ≡ bind p (λ j. Some (map (number_in num) (r j)))
+      → beside xs g ≡ bind o (λ i. Some (map says (l i))) → beside ys g ≡ bind p (λ j. Some (map says (r j)))
+      → ((i : ℕ) → o ≡ Some i → AllNumbered num (l i)) → ((j : ℕ) → p ≡ Some j → AllNumbered num (r j))
       → at_glyph (rule_entries eqb) ns ms g ≡ at_glyph (rule_entries same_says) xs ys g
   unfolding at_glyph at_key bind
   glyph_told ns ms xs ys g o p l r a b c d h k = rw (a, b, c, d) (step o p h k)
     where
-      step : (o p : Option ℕ) → ((i : ℕ) → o ≡ some i → AllNumbered num (l i)) → ((j : ℕ) → p ≡ some j → AllNumbered num (r j))
-          → at_key (only_at g) (rule_entries eqb g) (bind o (λ i. some (map (number_in num) (l i)))) (bind p (λ j. some (map (number_in num) (r j))))
-          ≡ at_key (only_at g) (rule_entries same_says g) (bind o (λ i. some (map says (l i)))) (bind p (λ j. some (map says (r j))))
-      step none none h k = refl
-      step none (some j) h k = refl
-      step (some i) none h k = refl
-      step (some i) (some j) h k = numbered_entries g (l i) (r j) (h i refl) (k j refl)
+      step : (o p : Option ℕ) → ((i : ℕ) → o ≡ Some i → AllNumbered num (l i)) → ((j : ℕ) → p ≡ Some j → AllNumbered num (r j))
+          → at_key (only_at g) (rule_entries eqb g) (bind o (λ i. Some (map (number_in num) (l i)))) (bind p (λ j. Some (map (number_in num) (r j))))
+          ≡ at_key (only_at g) (rule_entries same_says g) (bind o (λ i. Some (map says (l i)))) (bind p (λ j. Some (map says (r j))))
+      step None None h k = refl
+      step None (Some j) h k = refl
+      step (Some i) None h k = refl
+      step (Some i) (Some j) h k = numbered_entries g (l i) (r j) (h i refl) (k j refl)
 
 -- Cells that are enough are so for numbers of rules, and for pairing by these.
 pub scratch_cells : {num nums heads links : ℕ} → Scratch num nums heads links → Cells num heads

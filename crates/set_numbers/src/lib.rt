@@ -39,12 +39,10 @@ fn number_set(
         return;
     }
     let n = word_of(left, right, set.side, set.at);
-    let mut i = 0;
-    'slots: while i < n {
+    for i in 0..n {
         let offset = word_of(left, right, set.side, set.at + 2 + 2 * i);
         if offset == 0 {
-            i += 1;
-            continue 'slots;
+            continue;
         }
         number(
             shape,
@@ -55,7 +53,6 @@ fn number_set(
             came,
             2 * (set.at + offset) + set.side,
         );
-        i += 1;
     }
 }
 
@@ -74,12 +71,10 @@ fn number_side(
 {
     let n = word_of(left, right, slots.side, slots.at - 2);
     let mut last = 0;
-    let mut i = 0;
-    'slots: while i < n {
+    for i in 0..n {
         let at = word_of(left, right, slots.side, slots.at + 2 * i);
         if at == last {
-            i += 1;
-            continue 'slots;
+            continue;
         }
         let set = Set {
             side: slots.side,
@@ -87,7 +82,6 @@ fn number_side(
         };
         number_set(shape, left, right, t, num, came, set);
         last = at;
-        i += 1;
     }
 }
 

@@ -3,14 +3,13 @@
 
 ghost use Rattle.std.specs.Prelude.{◌≡◌};
 ghost use Rattle.meaning.specs.Fault.{equal_count, single_fault};
-ghost use Rattle.faults.specs.Fault.{fault_of};
 ghost use Rattle.single_checks.specs.Header.{good_header};
 
-use faults::Fault;
 use view::{header, subtable_place};
 use wire::inside;
 
 // Whether there is a substitute for each covered glyph, and no other, where there are `n`; not judged where the coverage is null or faulty.
+#[tactic(auto, unfolding(meaning::specs::Fault::equal_count, meaning::specs::Fault::coverage_fault, meaning::specs::Fault::part_fault))]
 fn equal_count(src: &[u8], n: usize) -> bool
     ensures { result ≡ equal_count src.now n }
 {
@@ -18,9 +17,9 @@ fn equal_count(src: &[u8], n: usize) -> bool
     if at == 0 {
         return true;
     }
-    let Fault::Sound = coverage::check(src, at) else {
+    if coverage::check(src, at).is_some() {
         return true;
-    };
+    }
     coverage_glyphs::count(src, at) == n
 }
 
@@ -39,15 +38,16 @@ fn good_header(src: &[u8]) -> bool
 }
 
 // Where the lowest faulty part of a single substitution starts, header or coverage, or that it is sound.
-pub fn check(src: &[u8]) -> Fault
-    ensures { result ≡ fault_of (single_fault src.now) }
+#[tactic(auto, unfolding(meaning::specs::Fault::single_fault, meaning::specs::Fault::fault_through, meaning::specs::Fault::part_fault, meaning::specs::Fault::lowest))]
+pub fn check(src: &[u8]) -> Option<usize>
+    ensures { result ≡ single_fault src.now }
 {
     if !good_header(src) {
-        return Fault::At(0);
+        return Some(0);
     }
     let cover = subtable_place(src, 2);
     if cover == 0 {
-        return Fault::Sound;
+        return None;
     }
     coverage::check(src, cover)
 }

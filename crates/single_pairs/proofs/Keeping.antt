@@ -1,6 +1,6 @@
 -- The substitutes, and what the loop over the notes keeps.
 use Rattle.std.proofs.Common.{◌≡◌, ℕ, zero, suc, ◌+◌, ◌*◌, ◌/◌, ◌%◌, ◌<◌, ◌≤◌, Bool, true, false, cond, ◌&&◌, eqb, List, [], ◌∷◌, ◌++◌, map, length, get_or, set, sym, refl, ap, ◌∙◌, subst, append-nil, arith, length-set, get_or-set_other, eq-eqb, ne_eqb, eqb-true}
-use mathlib.Core.Option.{Option, none, some}
+use Rattle.std.specs.Prelude.{Option, None, Some}
 use mathlib.Core.List.{map-append}
 use borrow.Author.Tests.{eqb-false}
 use Rattle.meaning.specs.Words.{word, every, bind, push, map_some}
@@ -111,8 +111,8 @@ some_more f [] x = refl
 some_more f (a ∷ l) x = step (f a) (some_more f l x)
   where
     step : (o : Option _) → map_some f (l ++ (x ∷ [])) ≡ map_some f l ++ push (f x) [] → push o (map_some f (l ++ (x ∷ []))) ≡ push o (map_some f l) ++ push (f x) []
-    step none h = h
-    step (some y) h = ap (λ (r : List _). y ∷ r) h
+    step None h = h
+    step (Some y) h = ap (λ (r : List _). y ∷ r) h
 
 notes_more : (t : List ℕ) (at i : ℕ) → notes t at (i + 1) ≡ notes t at i ++ ((get_or t (at + i) 0 / 65536, get_or t (at + i) 0 % 65536) ∷ [])
 unfolding part
@@ -185,12 +185,12 @@ module _ {s t₀ : List ℕ} {m : Map} {at n : ℕ} where
       stays : (b : Bool) → eqb (e / 65536) old ≡ b → next ≡ cond b (k + 1) k → pairs after at next ≡ pairs t at k ++ push (pair_at (folded t₀ m) (substitutes s) (old_at t₀ (at + i), get_or t₀ (at + i) 0 % 65536)) []
       unfolding push bind
       stays true f q =
-          let o : folded t₀ m old ≡ some (e % 65536) = answer_own e old (eqb-true (e / 65536) old f) in
+          let o : folded t₀ m old ≡ Some (e % 65536) = answer_own e old (eqb-true (e / 65536) old f) in
           let x : v % 65536 ≡ get_or t₀ (at + i) 0 % 65536 = omega arith in
           let y : v / 65536 ≡ e % 65536 = omega arith in
           rw (q, is_stored, o) (ap (map pair_of) (part_store t at k v (omega (arith, c.few, a.behind, c.kept.size))) ∙ map-append pair_of (part t at k) (v ∷ []) ∙ ap (λ (z : ℕ × ℕ). pairs t at k ++ (z ∷ [])) (λ j. (x j, y j)))
       stays false f q =
-          let o : folded t₀ m old ≡ none = answer_other e old (eqb-false (e / 65536) old f) in
+          let o : folded t₀ m old ≡ None = answer_other e old (eqb-false (e / 65536) old f) in
           rw (q, o) (before_same ∙ sym (append-nil (pairs t at k)))
 
       pub keeping_turn : {again : Bool} → again ≡ agree (pairs after at next) → Keeping s t₀ m at n after next again (i + 1)

@@ -1,6 +1,5 @@
 -- The pairs of glyph and substitute that stay.
-use Rattle.std.specs.Prelude.{◌≡◌, ℕ, ◌+◌, ◌*◌, ◌/◌, ◌%◌, ◌<◌, ◌≤◌, Bool, cond, List, map, length, ◌==◌, slice_index, slice_set}
-use Rattle.std.proofs.Math.Option.{Option, none, some}
+use Rattle.std.specs.Prelude.{◌≡◌, ℕ, ◌+◌, ◌*◌, ◌/◌, ◌%◌, ◌<◌, ◌≤◌, Bool, cond, List, map, length, ◌==◌, slice_index, slice_set, Option, None, Some}
 use Rattle.meaning.specs.Words.{word, words, bind, map_some}
 use Rattle.meaning.specs.Parts.{coverage}
 use Rattle.meaning.specs.Tables.{plus_delta}
@@ -20,7 +19,7 @@ substitutes s = cond (word s 0 == 1) (map (plus_delta (word s 4)) (covered s)) (
 
 -- what a substitute asks: the table has no fault, its coverage is not null and has the index i
 pub record Singles (s : List ℕ) (i : ℕ) : Type 0 where
-  pub sound : single_fault s ≡ none
+  pub sound : single_fault s ≡ None
   pub cover : word s 2 ≡ 0 → ⊥
   pub index : i < length (covered s)
 
@@ -42,7 +41,7 @@ subs t at n = map (λ c. c / 65536) (part t at n)
 
 -- the pair of a note, if its substitute is answered by the map f: `all` has the substitute of each coverage index
 abbrev pub pair_at : (ℕ → Option ℕ) → List ℕ → ℕ × ℕ → Option (ℕ × ℕ)
-pair_at f all e = bind (f (slice_index all e.0)) (λ m. some (e.1, m))
+pair_at f all e = bind (f (slice_index all e.0)) (λ m. Some (e.1, m))
 
 -- the cell that a note becomes, where e is the cell of its substitute in the glyph map
 abbrev pub pair_cell : ℕ → ℕ → ℕ
@@ -66,7 +65,7 @@ pub record KeptPair (s t : List ℕ) (m : Map) (at i k : ℕ) (after : List ℕ)
 
 -- what keeping the n notes from `at` on asks
 pub record KeepsPairs (s t : List ℕ) (m : Map) (at n : ℕ) : Type 0 where
-  pub sound : single_fault s ≡ none
+  pub sound : single_fault s ≡ None
   pub cover : word s 2 ≡ 0 → ⊥
   pub indexes : (j : ℕ) → j < n → old_at t (at + j) < length (covered s)
   pub cells : Inside t m

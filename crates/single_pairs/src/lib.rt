@@ -73,12 +73,10 @@ pub fn keep_pairs(src: &[u8], t: &mut [u32], m: Map, at: usize, n: usize) -> Pai
 {
     let mut k = 0;
     let mut same = true;
-    let mut i = 0;
-    while i < n {
+    for i in 0..n {
         let next = keep_pair(src, t, m, at, i, k);
         same = still_agree(t, at, k, next, same);
         k = next;
-        i += 1;
     }
     Pairs { count: k, same }
 }

@@ -2,7 +2,7 @@
 use Prim.Native.Nat.{ℕ, zero, suc, ◌+◌, ◌≤◌, ◌<◌}
 use mathlib.Core.Path.{◌≡◌, refl, sym, ap, ◌∙◌, subst}
 use mathlib.Core.Bool.{Bool, true, false, cond}
-use mathlib.Core.Option.{Option, none, some}
+use Rattle.std.specs.Prelude.{Option, None, Some, Result}
 use mathlib.Core.List.{List, [], ◌∷◌, map}
 use native.Mathlib.Decide.{dec_lt}
 use native.Mathlib.Nat.{zero-add}
@@ -32,7 +32,7 @@ use Rattle.area.specs.Part.{part, notes, old_at}
 use Rattle.range_meets.specs.Met.{met, Met, met_few, met_count}
 use Rattle.meets.specs.Either.{Most, MeetsGlyphs}
 use Rattle.tried.specs.Tries.{Tries, tries_less}
-use Rattle.tried.specs.declared.Tried.{Tried}
+use Rattle.tried.specs.declared.NotCut.{NotCut}
 use Rattle.single_pairs.specs.Pairs.{covered, substitutes, pairs, pair_at, KeepsPairs, KeptPairs}
 use Rattle.single_tables.specs.Writing.{Writes}
 use Rattle.single_subst.specs.Whole.{Sound, MapLaid, enough_cells}
@@ -44,9 +44,9 @@ unfolding met push bind
 met_indexes f i n [] h = tt
 met_indexes f i n (c ∷ cov) h = step (f c) (met_indexes f (i + 1) n cov (omega arith))
   where
-    step : (o : Option ℕ) → All (λ e. e.0 < n) (met f (i + 1) cov) → All (λ e. e.0 < n) (push (bind o (λ x. some (i, x))) (met f (i + 1) cov))
-    step none k = k
-    step (some x) k = (omega arith, k)
+    step : (o : Option ℕ) → All (λ e. e.0 < n) (met f (i + 1) cov) → All (λ e. e.0 < n) (push (bind o (λ x. Some (i, x))) (met f (i + 1) cov))
+    step None k = k
+    step (Some x) k = (omega arith, k)
 
 notes_each : (P : ℕ → Type 0) (t : List ℕ) (at n : ℕ) → All (λ e. P e.0) (notes t at n) → (j : ℕ) → j < n → P (old_at t (at + j))
 unfolding part
@@ -64,14 +64,14 @@ module _ (g : List (ℕ × ℕ)) (all : List ℕ) where
       rw (drop-cons all i 0 (omega arith), e) (step (find g c) (notes_pairs (i + 1) cov (omega arith)))
     where
       step : (o : Option ℕ) → map_some (pair_at (find g) all) (met (find g) (i + 1) cov) ≡ kept_substitutes g (list_pairs cov (drop (i + 1) all))
-          → map_some (pair_at (find g) all) (push (bind o (λ n. some (i, n))) (met (find g) (i + 1) cov)) ≡ push (bind o (λ n. bind (find g (get_or all i 0)) (λ m. some (n, m)))) (kept_substitutes g (list_pairs cov (drop (i + 1) all)))
-      step none k = k
-      step (some n) k = ap (push (bind (find g (get_or all i 0)) (λ m. some (n, m)))) k
+          → map_some (pair_at (find g) all) (push (bind o (λ n. Some (i, n))) (met (find g) (i + 1) cov)) ≡ push (bind o (λ n. bind (find g (get_or all i 0)) (λ m. Some (n, m)))) (kept_substitutes g (list_pairs cov (drop (i + 1) all)))
+      step None k = k
+      step (Some n) k = ap (push (bind (find g (get_or all i 0)) (λ m. Some (n, m)))) k
 
 pairs_same : (f h : ℕ → Option ℕ) → ((x : ℕ) → f x ≡ h x) → (all : List ℕ) (es : List (ℕ × ℕ)) → map_some (pair_at f all) es ≡ map_some (pair_at h all) es
 unfolding map_some
 pairs_same f h e all [] = refl
-pairs_same f h e all ((i, n) ∷ es) = rw (e (get_or all i 0)) (ap (push (bind (h (get_or all i 0)) (λ m. some (n, m)))) (pairs_same f h e all es))
+pairs_same f h e all ((i, n) ∷ es) = rw (e (get_or all i 0)) (ap (push (bind (h (get_or all i 0)) (λ m. Some (n, m)))) (pairs_same f h e all es))
 
 -- A delta's pairs are those of the list that it stands for.
 delta_list : (cov : List ℕ) (d : ℕ) → delta_pairs cov d ≡ list_pairs cov (map (plus_delta d) cov)
@@ -81,28 +81,28 @@ delta_list (c ∷ cov) d = ap (λ (l : List (ℕ × ℕ)). (c, plus_delta d c) �
 
 -- What is left, by the coverage.
 module _ (g : List (ℕ × ℕ)) where
-  cut_delta : (cov : List ℕ) (d : ℕ) → cut g [] (Table.single_delta (some cov) d) ≡ kept_singles (kept_substitutes g (delta_pairs cov d))
+  cut_delta : (cov : List ℕ) (d : ℕ) → cut g [] (Table.single_delta (Some cov) d) ≡ kept_singles (kept_substitutes g (delta_pairs cov d))
   unfolding cut
   cut_delta cov d = refl
 
-  cut_list : (cov xs : List ℕ) → cut g [] (Table.single_list (some cov) xs) ≡ kept_singles (kept_substitutes g (list_pairs cov xs))
+  cut_list : (cov xs : List ℕ) → cut g [] (Table.single_list (Some cov) xs) ≡ kept_singles (kept_substitutes g (list_pairs cov xs))
   unfolding cut
   cut_list cov xs = refl
 
-  null_delta : (d : ℕ) → cut g [] (Table.single_delta none d) ≡ none
+  null_delta : (d : ℕ) → cut g [] (Table.single_delta None d) ≡ None
   unfolding cut
   null_delta d = refl
 
-  null_list : (xs : List ℕ) → cut g [] (Table.single_list none xs) ≡ none
+  null_list : (xs : List ℕ) → cut g [] (Table.single_list None xs) ≡ None
   unfolding cut
   null_list xs = refl
 
-cover_null : (s : List ℕ) → word s 2 ≡ 0 → reach (coverage s) s 0 2 ≡ none
+cover_null : (s : List ℕ) → word s 2 ≡ 0 → reach (coverage s) s 0 2 ≡ None
 unfolding reach
 cover_null s z = rw z refl
 
 module _ (s : List ℕ) (z : word s 2 ≡ 0 → ⊥) where
-  cover_there : reach (coverage s) s 0 2 ≡ some (covered s)
+  cover_there : reach (coverage s) s 0 2 ≡ Some (covered s)
   unfolding reach
   cover_there = rw (ne_eqb (word s 2) 0 z, zero-add) refl
 
@@ -130,7 +130,7 @@ pub null_cut : (s : List ℕ) (g : List (ℕ × ℕ)) (out : List ℕ) {at : ℕ
 unfolding single written
 null_cut s g out w z = sym (ap (written out) (step (eqb (word s 0) 1)))
   where
-    step : (t : Bool) → cut g [] (cond t (Table.single_delta (reach (coverage s) s 0 2) (word s 4)) (Table.single_list (reach (coverage s) s 0 2) (words s 6 (word s 4)))) ≡ none
+    step : (t : Bool) → cut g [] (cond t (Table.single_delta (reach (coverage s) s 0 2) (word s 4)) (Table.single_list (reach (coverage s) s 0 2) (words s 6 (word s 4)))) ≡ None
     step true = ap (λ (c : Option (List ℕ)). cut g [] (Table.single_delta c (word s 4))) (cover_null s (sym w ∙ z)) ∙ null_delta g (word s 4)
     step false = ap (λ (c : Option (List ℕ)). cut g [] (Table.single_list c (words s 6 (word s 4)))) (cover_null s (sym w ∙ z)) ∙ null_list g (words s 6 (word s 4))
 
@@ -152,7 +152,7 @@ module _ {form : ℕ} {s glyphs : List ℕ} (o : Sound form s glyphs) where
   map_laid a z w h = record { front = a.place; mask = a.few; holds = a.holds z; cover = λ e. h (w ∙ e) }
 
   -- as many cells as before
-  pub cells_same : {t₀ t : List ℕ} {m : Map} → LaidGlyphs form glyphs t₀ t 0 m → (short : Type 0) (r : Tried) (out after : List ℕ) (made : Outcome) → Tries (length t < enough_cells) short r out after made → Tries (length t₀ < enough_cells) short r out after made
+  pub cells_same : {t₀ t : List ℕ} {m : Map} → LaidGlyphs form glyphs t₀ t 0 m → (short : Type 0) (r : Result ℕ NotCut) (out after : List ℕ) (made : Outcome) → Tries (length t < enough_cells) short r out after made → Tries (length t₀ < enough_cells) short r out after made
   cells_same {t₀} {t} {m} a short r out after made h = tries_less (length t < enough_cells) short (length t₀ < enough_cells) short r out after made (λ f. omega (arith, a.kept.size)) (λ f. f) h
 
   module _ {m : Map} {t : List ℕ} (l : MapLaid form s glyphs m t) where
@@ -204,7 +204,7 @@ module _ {form : ℕ} {s glyphs : List ℕ} (o : Sound form s glyphs) where
               good = rw left_is (subst (λ (n : ℕ). Opt (GoodOf n) (cut (glyph_entries form glyphs) [] (single s))) t.1 c);
             }
 
-        pub cut_tries : (r : Tried) (area out end : List ℕ) → Tries (⊥) (length area < limit) r out end (written out (kept_singles (pairs after at count)))
+        pub cut_tries : (r : Result ℕ NotCut) (area out end : List ℕ) → Tries (⊥) (length area < limit) r out end (written out (kept_singles (pairs after at count)))
             → Tries (length t < enough_cells) (length area < limit) r out end (written out (cut (glyph_entries form glyphs) [] (single s)))
         cut_tries r area out end h =
             tries_less ⊥ (length area < limit) (length t < enough_cells) (length area < limit) r out end (written out (cut (glyph_entries form glyphs) [] (single s))) (λ f. absurd f) (λ f. f)

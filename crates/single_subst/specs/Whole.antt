@@ -1,6 +1,5 @@
 -- What a cut asks, and what it asks of the cells.
-use Rattle.std.specs.Prelude.{ℕ, ◌≤◌, ◌<◌, ◌≡◌, refl, Bool, true, false, cond, List, [], length, eqb}
-use Rattle.std.proofs.Math.Option.{none}
+use Rattle.std.specs.Prelude.{ℕ, ◌≤◌, ◌<◌, ◌≡◌, refl, Bool, true, false, cond, List, [], length, eqb, None}
 use Rattle.meaning.specs.Words.{word, words}
 use Rattle.meaning.specs.Maps.{glyph_entries}
 use Rattle.meaning.specs.Parts.{coverage}
@@ -14,7 +13,7 @@ use Rattle.cell_maps.specs.declared.Map.{Map}
 
 -- the source has no fault and is not over the limit, and the glyph map is good
 pub record Sound (form : ℕ) (s glyphs : List ℕ) : Type 0 where
-  pub sound : single_fault s ≡ none
+  pub sound : single_fault s ≡ None
   pub source : length s ≤ limit
   pub map : GlyphMap form glyphs
 

@@ -15,10 +15,10 @@ use fold::entry;
 use fold_glyphs::lay_glyphs;
 use meet_runs::meet;
 use meets::most;
-use room::Laid;
+use room::NotLaid;
 use single_layouts::lay_pairs;
 use single_pairs::keep_pairs;
-use tried::Tried;
+use tried::NotCut;
 use wire::word_inside;
 
 // What is left of a sound single substitution, with the glyph map in cells from the first on, laid into the buffer if there is room.
@@ -30,14 +30,14 @@ fn cut_singles(
     t: &mut [u32],
     area: &mut [u8],
     out: &mut [u8],
-) -> Tried
+) -> Result<usize, NotCut>
     requires { Sound form src.now glyphs.now × MapLaid form src.now glyphs.now m t.old }
     ensures { Tries (length t.old < enough_cells) (length area.old < limit) result out.old out.new (written out.old (cut (glyph_entries form glyphs.now) [] (single src.now))) }
 {
     let cover = word_inside(src, 2);
     let notes = m.mask + 1;
     if t.len() <= notes + most(src, cover, glyphs, form) {
-        return Tried::FewCells;
+        return Err(NotCut::FewCells);
     }
     let n = meet(src, cover, glyphs, form, m, t, notes);
     let kept = keep_pairs(src, t, m, notes, n);
@@ -53,16 +53,16 @@ pub fn singles(
     t: &mut [u32],
     area: &mut [u8],
     out: &mut [u8],
-) -> Tried
+) -> Result<usize, NotCut>
     requires { Sound form src.now glyphs.now }
     ensures { Tries (length t.old < enough_cells) (length area.old < limit) result out.old out.new (written out.old (cut (glyph_entries form glyphs.now) [] (single src.now))) }
 {
     if word_inside(src, 2) == 0 {
-        return Tried::Became(Laid::Nothing);
+        return Err(NotCut::Refused(NotLaid::Nothing));
     }
     let m = lay_glyphs(glyphs, form, t, 0);
     if m.mask == 0 {
-        return Tried::FewCells;
+        return Err(NotCut::FewCells);
     }
     cut_singles(src, glyphs, form, m, t, area, out)
 }

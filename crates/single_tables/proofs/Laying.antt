@@ -2,7 +2,7 @@
 use Prim.Native.Nat.{ℕ, suc, ◌+◌, ◌-◌, ◌*◌, ◌/◌, ◌%◌, ◌≤◌, ◌<◌}
 use mathlib.Core.Path.{◌≡◌, refl, sym, ap, ◌∙◌, subst}
 use mathlib.Core.Bool.{Bool, true, false, cond, true≢false}
-use mathlib.Core.Option.{some}
+use Rattle.std.specs.Prelude.{Some, Result, Err}
 use mathlib.Core.List.{List, [], ◌∷◌, ◌++◌, map, append-nil}
 use native.Mathlib.Omega.{arith}
 use lib.ListN.{length, get_or, length-append, length-map}
@@ -24,10 +24,10 @@ use Rattle.laws.specs.FitsExactly.{fits_exactly, single_delta_fits, single_list_
 use Rattle.area.specs.Extends.{Tried, extends_more, wrote_extends}
 use Rattle.area.specs.Part.{part, part_length, part_all, part_left, part_none, take_part, news}
 use Rattle.room.specs.Laid.{outcome_of, laid_as, laid_words_lem, laid_unfit}
-use Rattle.room.specs.declared.Laid.{Laid}
-use Rattle.tried.specs.Tries.{Tries, tries_less}
-use Rattle.tried.specs.declared.Tried as Answer
-use Rattle.tried.specs.declared.Tried.TheVariants.{Short, Became}
+use Rattle.room.specs.declared.NotLaid.{NotLaid}
+use Rattle.tried.specs.Tries.{became, Tries, tries_became, tries_less}
+use Rattle.tried.specs.declared.NotCut.{NotCut}
+use Rattle.tried.specs.declared.NotCut.TheVariants.{Short}
 use Rattle.single_pairs.specs.Pairs.{pair_of, pairs, subs}
 use Rattle.single_tables.specs.Writing.{delta_layout, list_layout, Standing, Stands, Hands, Writes}
 
@@ -100,12 +100,12 @@ module _ (t : List ℕ) (at n : ℕ) {a b c : List ℕ} {r : ℕ} where
 
 -- What is handed over.
 module _ {area : List ℕ} {end : ℕ} {out : List ℕ} where
-  pub hands_short : length area < end → Hands area end Short out out
+  pub hands_short : length area < end → Hands area end (Err Short) out out
   hands_short h = record { handed = λ {before = before} {ws = ws} k. (omega (arith, k.full (omega (arith, k.same))), refl) }
 
-  pub hands_over : {laid : Laid} {after : List ℕ} → end ≤ length area → outcome_of laid after ≡ laid_as true out (part area 0 0 ++ part area 0 (end - 0)) → Hands area end (Became laid) out after
+  pub hands_over : (laid : Result ℕ NotLaid) {after : List ℕ} → end ≤ length area → outcome_of laid after ≡ laid_as true out (part area 0 0 ++ part area 0 (end - 0)) → Hands area end (became laid) out after
   unfolding part
-  hands_over l e = record { handed = λ {before = before} {ws = ws} k. e ∙ ap (laid_as true out) (stands k) }
+  hands_over laid {after} l e = record { handed = λ {before = before} {ws = ws} k. tries_became ⊥ (length before < 2 * length ws) laid out after (laid_as true out (flat ws)) (e ∙ ap (laid_as true out) (stands k)) }
     where
       stands : {before ws : List ℕ} → Stands before ws area end → part area 0 (end - 0) ≡ flat ws
       stands {before} {ws} k =
@@ -115,7 +115,7 @@ module _ {area : List ℕ} {end : ℕ} {out : List ℕ} where
           rw g (sym (rw f at (take_part area 0 end (omega arith))) ∙ x.front)
 
 -- Both formats are far shorter than the limit.
-module _ {t : List ℕ} {at n : ℕ} (k : Standing t at n) {area next : List ℕ} {end : ℕ} {r : Answer.Tried} {out after : List ℕ} where
+module _ {t : List ℕ} {at n : ℕ} (k : Standing t at n) {area next : List ℕ} {end : ℕ} {r : Result ℕ NotCut} {out after : List ℕ} where
   pub delta_tries : Stands area (delta_layout t at n) next end → Hands next end r out after → Tries (⊥) (length area < limit) r out after (laid_as true out (flat (delta_layout t at n)))
   unfolding limit
   delta_tries w h =
@@ -152,11 +152,11 @@ unfolding values
 values_pairs [] = refl
 values_pairs (c ∷ l) = ap (λ (r : List ℕ). c / 65536 ∷ r) (values_pairs l)
 
-delta_words : (gs : List ℕ) (d : ℕ) → table_words (Table.single_delta (some gs) d) ≡ 1 ∷ 6 ∷ d ∷ coverage_words gs
+delta_words : (gs : List ℕ) (d : ℕ) → table_words (Table.single_delta (Some gs) d) ≡ 1 ∷ 6 ∷ d ∷ coverage_words gs
 unfolding table_words cover_layout offsets blocks block
 delta_words gs d = ap (λ (l : List ℕ). 1 ∷ 6 ∷ d ∷ l) (append-nil (coverage_words gs))
 
-list_words : (gs xs : List ℕ) (n : ℕ) → length xs ≡ n → table_words (Table.single_list (some gs) xs) ≡ 2 ∷ (6 + 2 * n) ∷ n ∷ (xs ++ coverage_words gs)
+list_words : (gs xs : List ℕ) (n : ℕ) → length xs ≡ n → table_words (Table.single_list (Some gs) xs) ≡ 2 ∷ (6 + 2 * n) ∷ n ∷ (xs ++ coverage_words gs)
 unfolding table_words cover_layout offsets blocks block
 list_words gs xs n e =
     let f : 4 + 2 * suc (length xs) ≡ 6 + 2 * n = omega arith in
@@ -186,12 +186,12 @@ module _ {t : List ℕ} {at n : ℕ} {same : Bool} (a : Writes t at n same) wher
     kept_is : same ≡ agree (map pair_of (first ∷ others))
     kept_is = a.agreed ∙ ap (λ (l : List ℕ). agree (map pair_of l)) all
 
-    pub kept_delta : same ≡ true → kept_singles (pairs t at n) ≡ some (Table.single_delta (some (news t at n)) (delta_of (pair_of first)))
+    pub kept_delta : same ≡ true → kept_singles (pairs t at n) ≡ Some (Table.single_delta (Some (news t at n)) (delta_of (pair_of first)))
     unfolding kept_singles
     kept_delta e =
         rw (all, ← kept_is, e, ← keys_pairs (first ∷ others)) refl
 
-    pub kept_list : same ≡ false → kept_singles (pairs t at n) ≡ some (Table.single_list (some (news t at n)) (subs t at n))
+    pub kept_list : same ≡ false → kept_singles (pairs t at n) ≡ Some (Table.single_list (Some (news t at n)) (subs t at n))
     unfolding kept_singles
     kept_list e =
         rw (all, ← kept_is, e, ← keys_pairs (first ∷ others), ← values_pairs (first ∷ others)) refl
@@ -201,14 +201,14 @@ module _ {t : List ℕ} {at n : ℕ} {same : Bool} (a : Writes t at n same) wher
     delta_laid out e =
         let g = subst (Opt (GoodOf 5)) (kept_delta e) a.good in
         let w = delta_words (news t at n) (delta_of (pair_of first)) in
-        ap (λ (l : List ℕ). laid_as true out (flat l)) (sym w) ∙ laid_words_lem out (table_words (Table.single_delta (some (news t at n)) (delta_of (pair_of first)))) (single_delta_fits (news t at n) (delta_of (pair_of first)) g.0)
+        ap (λ (l : List ℕ). laid_as true out (flat l)) (sym w) ∙ laid_words_lem out (table_words (Table.single_delta (Some (news t at n)) (delta_of (pair_of first)))) (single_delta_fits (news t at n) (delta_of (pair_of first)) g.0)
         ∙ sym (ap (written out) (kept_delta e))
 
-    fits_list : same ≡ false → words_fit (table_words (Table.single_list (some (news t at n)) (subs t at n))) ≡ ltb (6 + 2 * n) 65536
+    fits_list : same ≡ false → words_fit (table_words (Table.single_list (Some (news t at n)) (subs t at n))) ≡ ltb (6 + 2 * n) 65536
     fits_list e = step (ltb (6 + 2 * n) 65536) refl
       where
         ws : List ℕ
-        ws = table_words (Table.single_list (some (news t at n)) (subs t at n))
+        ws = table_words (Table.single_list (Some (news t at n)) (subs t at n))
 
         w : ws ≡ list_layout t at n
         w = list_words (news t at n) (subs t at n) n (subs_length t at n)
@@ -224,5 +224,5 @@ module _ {t : List ℕ} {at n : ℕ} {same : Bool} (a : Writes t at n same) wher
     unfolding written
     list_laid out e =
         let w = list_words (news t at n) (subs t at n) n (subs_length t at n) in
-        ap (λ (l : List ℕ). laid_as (ltb (6 + 2 * n) 65536) out (flat l)) (sym w) ∙ laid_words_lem out (table_words (Table.single_list (some (news t at n)) (subs t at n))) (fits_list e)
+        ap (λ (l : List ℕ). laid_as (ltb (6 + 2 * n) 65536) out (flat l)) (sym w) ∙ laid_words_lem out (table_words (Table.single_list (Some (news t at n)) (subs t at n))) (fits_list e)
         ∙ sym (ap (written out) (kept_list e))

@@ -1,5 +1,5 @@
 -- The layout of the pairs that stay, and what is handed over.
-use Rattle.std.specs.Prelude.{ℕ, ◌+◌, ◌*◌, ◌≤◌, ◌<◌, ◌≡◌, Bool, true, List, ◌∷◌, ◌++◌, length, get_or}
+use Rattle.std.specs.Prelude.{ℕ, ◌+◌, ◌*◌, ◌≤◌, ◌<◌, ◌≡◌, Bool, true, List, ◌∷◌, ◌++◌, length, get_or, Result}
 use Rattle.meaning.specs.Words.{flat}
 use Rattle.meaning.specs.Cut.{delta_of, agree, kept_singles}
 use Rattle.meaning.specs.Layout.{coverage_words}
@@ -9,7 +9,7 @@ use Rattle.room.specs.Laid.{laid_as}
 use Rattle.area.specs.Extends as Extends
 use Rattle.area.specs.Part.{news}
 use Rattle.tried.specs.Tries.{Tries}
-use Rattle.tried.specs.declared.Tried.{Tried}
+use Rattle.tried.specs.declared.NotCut.{NotCut}
 use Rattle.single_pairs.specs.Pairs.{pair_of, pairs, subs}
 
 -- the words of format 1: the first pair's difference, and the coverage of the pairs' glyphs
@@ -31,7 +31,7 @@ abbrev pub Stands : List ℕ → List ℕ → List ℕ → ℕ → Type 0
 Stands before ws after r = Extends.Tried before 0 ws after r
 
 -- whatever words stand at the area's front up to `end` are handed over
-pub record Hands (area : List ℕ) (end : ℕ) (r : Tried) (out after : List ℕ) : Type 0 where
+pub record Hands (area : List ℕ) (end : ℕ) (r : Result ℕ NotCut) (out after : List ℕ) : Type 0 where
   pub handed : {before ws : List ℕ} → Stands before ws area end → Tries (⊥) (length before < 2 * length ws) r out after (laid_as true out (flat ws))
 
 -- what laying n pairs asks: they stand in the cells from `at` on, `same` says whether their differences agree, and what they make is good

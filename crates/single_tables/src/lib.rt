@@ -10,7 +10,7 @@ use area::{put, put_three};
 use area_parts::write_cover;
 use handing::hand_over;
 use single_pairs::difference;
-use tried::Tried;
+use tried::NotCut;
 
 // The new substitutes of the `n` pairs from `at` on, from `to` on in the area; the place after them.
 fn put_substitutes(t: &[u32], at: usize, n: usize, area: &mut [u8], to: usize) -> usize
@@ -18,10 +18,8 @@ fn put_substitutes(t: &[u32], at: usize, n: usize, area: &mut [u8], to: usize) -
     ensures { Wrote area.old to (subs t.now at n) area.new result }
 {
     let mut p = to;
-    let mut i = 0;
-    while i < n {
+    for i in 0..n {
         p = put(area, p, t[at + i] as usize / 65536);
-        i += 1;
     }
     p
 }
@@ -46,11 +44,11 @@ pub fn write_list(t: &[u32], at: usize, n: usize, area: &mut [u8]) -> usize
 }
 
 // What was written into the area up to `end`, handed over; the area was too short where that is past it.
-pub fn hand(area: &[u8], end: usize, out: &mut [u8]) -> Tried
+pub fn hand(area: &[u8], end: usize, out: &mut [u8]) -> Result<usize, NotCut>
     ensures { Hands area.now end result out.old out.new }
 {
     if area.len() < end {
-        return Tried::Short;
+        return Err(NotCut::Short);
     }
-    Tried::Became(hand_over(area, 0, 0, end, true, out))
+    Ok(hand_over(area, 0, 0, end, true, out)?)
 }

@@ -16,14 +16,11 @@ use rules::Row;
 // How deep lookups may run; listed ones stand at depth 1.
 const DEPTH: usize = 8;
 
-// What a lookup did at a place: it took so many glyphs, 0 where it matched nothing, or it went too deep.
+// A lookup would run deeper than that.
 #[derive(Clone, Copy)]
-pub enum Step {
-    Took(usize),
-    Deep,
-}
+pub struct TooDeep;
 
-// Applies a lookup once at a place; `depth` levels may be run, this one counted.
+// Applies a lookup once at a place; `depth` levels may be run, this one counted. How many glyphs it took: 0 where it matched nothing.
 #[cycle(lookup_step_record_step)]
 fn lookup_step(
     list: &[u8],
@@ -33,33 +30,36 @@ fn lookup_step(
     lookup: usize,
     place: usize,
     depth: usize,
-) -> Step
+) -> Result<usize, TooDeep>
     requires { Ready list.now buffer.now × Room n string.old × (place + 65536 * depth < 0x1_0000_0000_0000) }
     ensures { Stepped (apply depth (lookups_of list.now buffer.now) lookup (words string.old 0 n) place) n result string.new }
 {
     if depth == 0 {
-        return Step::Deep;
+        return Err(TooDeep);
     }
-    let a = ask_at(list, buffer, string, n, lookup, place);
-    match a {
-        Asked::Nothing => {
-            return Step::Took(0);
-        }
+    match ask_at(list, buffer, string, n, lookup, place) {
+        Asked::Nothing => Ok(0),
         Asked::Instead(glyph) => {
             put(string, 2 * place, glyph);
-            return Step::Took(1);
+            Ok(1)
         }
-        Asked::Rule(took, at, count) => {
-            let records = Row { at, len: count };
-            if record_step(list, buffer, string, n, lookup, records, place, depth - 1) {
-                return Step::Took(took);
-            }
-            return Step::Deep;
+        Asked::Rule(rule) => {
+            record_step(
+                list,
+                buffer,
+                string,
+                n,
+                lookup,
+                rule.records,
+                place,
+                depth - 1,
+            )?;
+            Ok(rule.input_len)
         }
     }
 }
 
-// Runs the records that stand in a row of a lookup's bytes, for a rule that matched at a place; false if one goes too deep.
+// Runs the records that stand in a row of a lookup's bytes, for a rule that matched at a place.
 #[cycle(lookup_step_record_step)]
 fn record_step(
     list: &[u8],
@@ -70,21 +70,16 @@ fn record_step(
     records: Row,
     place: usize,
     depth: usize,
-) -> bool
+) -> Result<(), TooDeep>
     requires { Ready list.now buffer.now × Room n string.old × (owner < length list.now / 10) × (records.at < 0x1_0000_0000) × (records.len < 65536) × (place + 65536 * (depth + 1) < 0x1_0000_0000_0000) }
     ensures { Ruled (run_records (apply depth (lookups_of list.now buffer.now)) (entries (source_at list.now buffer.now owner) records.at records.len) (words string.old 0 n) place) n result string.new }
 {
-    let mut i = 0;
-    while i < records.len {
+    for i in 0..records.len {
         let index = source_word(list, buffer, owner, records.at + 4 * i);
         let lookup = source_word(list, buffer, owner, records.at + 4 * i + 2);
-        let Step::Took(_) = lookup_step(list, buffer, string, n, lookup, place + index, depth)
-        else {
-            return false;
-        };
-        i += 1;
+        lookup_step(list, buffer, string, n, lookup, place + index, depth)?;
     }
-    true
+    Ok(())
 }
 
 // How far the next place is: past the input, or one on where nothing matched.
@@ -98,33 +93,34 @@ fn onward(took: usize) -> usize
     took
 }
 
-// Applies a listed lookup at every place of a string from left to right; false if it goes too deep.
-fn sweep_lookup(list: &[u8], buffer: &[u8], string: &mut [u8], n: usize, lookup: usize) -> bool
+// Applies a listed lookup at every place of a string from left to right.
+fn sweep_lookup(
+    list: &[u8],
+    buffer: &[u8],
+    string: &mut [u8],
+    n: usize,
+    lookup: usize,
+) -> Result<(), TooDeep>
     requires { Ready list.now buffer.now × Room n string.old }
     ensures { Ruled (sweep_all (lookups_of list.now buffer.now) lookup (words string.old 0 n)) n result string.new }
 {
     let mut place = 0;
+    // Each step says how far the next place is.
     while place < n {
-        let Step::Took(took) = lookup_step(list, buffer, string, n, lookup, place, DEPTH) else {
-            return false;
-        };
+        let took = lookup_step(list, buffer, string, n, lookup, place, DEPTH)?;
         place += onward(took);
     }
-    true
+    Ok(())
 }
 
-// Applies the lookups of the list in order; false if one goes too deep.
-pub fn run_lookups(list: &[u8], buffer: &[u8], string: &mut [u8], n: usize) -> bool
+// Applies the lookups of the list in order.
+pub fn run_lookups(list: &[u8], buffer: &[u8], string: &mut [u8], n: usize) -> Result<(), TooDeep>
     requires { Ready list.now buffer.now × Room n string.old }
     ensures { Ruled (run (lookups_of list.now buffer.now) (words string.old 0 n)) n result string.new }
 {
     let many = list.len() / 10;
-    let mut lookup = 0;
-    while lookup < many {
-        if !sweep_lookup(list, buffer, string, n, lookup) {
-            return false;
-        }
-        lookup += 1;
+    for lookup in 0..many {
+        sweep_lookup(list, buffer, string, n, lookup)?;
     }
-    true
+    Ok(())
 }

@@ -3,35 +3,26 @@
 
 ghost use Rattle.std.specs.Prelude.{◌≡◌};
 ghost use Rattle.meaning.specs.Subset.{subset};
-ghost use Rattle.refusals.specs.Answers.{outcome, decoded, answer_of};
+ghost use Rattle.refusals.specs.Answers.{outcome, decoded};
 
 use answer_numbers::one_number;
 use cut::{cut_lent, cut_own};
 use marks::Marks;
-use refusals::{Answer, Judged, refusal};
-use room::Laid;
-
-// The answer for what was laid.
-fn answer_for(laid: Laid) -> Answer
-    ensures { result ≡ answer_of laid }
-{
-    match laid {
-        Laid::Nothing => Answer::Nothing,
-        Laid::TooBig => Answer::TooBig,
-        Laid::NoRoom(n) => Answer::NoRoom(n),
-        Laid::Kept(n) => Answer::Kept(n),
-    }
-}
+use refusals::{Refusal, judge};
 
 // The call: what is left of a source under a glyph map and a lookup map, laid into the buffer, or the first of the refusals that applies, in their written order: 1, 13, 14, 2 to 7, 12, 8 to 10.
 // A refusal leaves the buffer untouched, and bytes past those that are kept keep their old content.
-pub fn subset(marks: Marks, source: &[u8], glyphs: &[u8], lookups: &[u8], out: &mut [u8]) -> Answer
+pub fn subset(
+    marks: Marks,
+    source: &[u8],
+    glyphs: &[u8],
+    lookups: &[u8],
+    out: &mut [u8],
+) -> Result<usize, Refusal>
     ensures { outcome result out.new ≡ subset marks.kind marks.form marks.layout source.now glyphs.now lookups.now out.old }
 {
-    if let Judged::Refused(answer) = refusal(marks, source, glyphs, lookups) {
-        return answer;
-    }
-    answer_for(cut_own(marks, source, glyphs, lookups, out))
+    judge(marks, source, glyphs, lookups)?;
+    Ok(cut_own(marks, source, glyphs, lookups, out)?)
 }
 
 // The same call with lent scratch, whatever it holds: 32-bit cells, and an area of bytes. Where it is too short our own is taken; with `cut_sizes::CELLS` cells and `cut_sizes::BYTES` bytes it never is.
@@ -43,13 +34,11 @@ pub fn subset_in(
     cells: &mut [u32],
     area: &mut [u8],
     out: &mut [u8],
-) -> Answer
+) -> Result<usize, Refusal>
     ensures { outcome result out.new ≡ subset marks.kind marks.form marks.layout source.now glyphs.now lookups.now out.old }
 {
-    if let Judged::Refused(answer) = refusal(marks, source, glyphs, lookups) {
-        return answer;
-    }
-    answer_for(cut_lent(marks, source, glyphs, lookups, cells, area, out))
+    judge(marks, source, glyphs, lookups)?;
+    Ok(cut_lent(marks, source, glyphs, lookups, cells, area, out)?)
 }
 
 // The call as other languages make it, through `subset_c`, on numbers and byte slices: its three marks first. The answer is one number: the answer's number times 2^56, plus its length.

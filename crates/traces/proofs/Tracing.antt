@@ -2,7 +2,7 @@
 use Prim.Native.Nat.{ℕ, ◌+◌, ◌-◌, ◌*◌, ◌≤◌, ◌<◌}
 use mathlib.Core.Path.{◌≡◌, refl, sym, ap, ◌∙◌}
 use mathlib.Core.Bool.{Bool, true, false, not}
-use mathlib.Core.Option.{Option, none, some}
+use Rattle.std.specs.Prelude.{Option, None, Some}
 use mathlib.Core.List.{List, ◌∷◌}
 use native.Mathlib.Decide.{dec_lt}
 use native.Mathlib.Omega.{arith}
@@ -76,11 +76,11 @@ module _ {t : List ℕ} where
         let g = sym e ∙ not-false b z in
         record { within = omega (arith, f, (good_whole t at g).inside); left = rw f (sym (more (runs_left t (at + (2 + 4 * word t at)))) ∙ ap (λ (o : Option (List Run)). is_some o) (sym (next g)) ∙ k.left) }
       where
-        more : (o : Option (List Run)) → is_some (bind o (λ rs. some (run_at t at ∷ rs))) ≡ is_some o
-        more none = refl
-        more (some rs) = refl
+        more : (o : Option (List Run)) → is_some (bind o (λ rs. Some (run_at t at ∷ rs))) ≡ is_some o
+        more None = refl
+        more (Some rs) = refl
 
-        next : good_run t at ≡ true → runs_left t at ≡ bind (runs_left t (at + (2 + 4 * word t at))) (λ rs. some (run_at t at ∷ rs))
+        next : good_run t at ≡ true → runs_left t at ≡ bind (runs_left t (at + (2 + 4 * word t at))) (λ rs. Some (run_at t at ∷ rs))
         next g = runs_turn t at h g
 
   pub tracing_end : {at : ℕ} → Tracing t at → length t ≤ at → true ≡ is_some (runs_of t)

@@ -31,6 +31,7 @@ pub fn good_trace(trace: &[u8]) -> bool
     ensures { result ≡ is_some (runs_of trace.now) }
 {
     let mut at = 0;
+    // Each run's count says where the next run stands.
     while at < trace.len() {
         if !good_run(trace, at) {
             return false;

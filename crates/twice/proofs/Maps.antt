@@ -1,7 +1,7 @@
 -- The combined map, and how it goes along the second one.
-use Rattle.std.specs.Prelude.{ℕ, ◌<◌, ◌≡◌, refl, Bool, true, false, cond, ◌||◌, List, [], ◌∷◌, eqb}
+use Rattle.std.specs.Prelude.{ℕ, ◌<◌, ◌≡◌, refl, Bool, true, false, cond, ◌||◌, List, [], ◌∷◌, eqb, Option, None, Some}
 use Rattle.std.proofs.Common.{sym, ap, ap₂, ◌∙◌, true≢false, arith, eqb-true, ne_eqb, eq-eqb}
-use Rattle.std.proofs.Math.Option.{Option, none, some, none-ne-some}
+use Rattle.std.proofs.lemmas.Option.{none-some}
 use Rattle.std.proofs.lemmas.Bool.{eqb-false}
 use Rattle.meaning.specs.Words.{ascends, member, keys, values, find, bind, push, map_some}
 use Rattle.laws.specs.Stands.{All, all_map}
@@ -12,7 +12,7 @@ use Rattle.twice.specs.Answers.{Then}
 use Rattle.twice.specs.Maps.{Moved, Along}
 
 -- a number below each key has no value
-pub find_out : (m : List (ℕ × ℕ)) (x : ℕ) → All (λ k. x < k) (keys m) → find m x ≡ none
+pub find_out : (m : List (ℕ × ℕ)) (x : ℕ) → All (λ k. x < k) (keys m) → find m x ≡ None
 unfolding find keys
 find_out [] x h = refl
 find_out (e ∷ m) x h =
@@ -29,12 +29,12 @@ find_combined (e ∷ m) n h x = go (find n e.1) refl (eqb e.0 x) refl (find_comb
     c = combined m n
 
     go : (o : Option ℕ) → find n e.1 ≡ o → (b : Bool) → eqb e.0 x ≡ b → bind (find m x) (find n) ≡ find c x
-        → bind (cond b (some e.1) (find m x)) (find n) ≡ find (push (bind o (λ v. some (e.0, v))) c) x
-    go none q true t i =
+        → bind (cond b (Some e.1) (find m x)) (find n) ≡ find (push (bind o (λ v. Some (e.0, v))) c) x
+    go None q true t i =
         q ∙ sym (ap (λ (p : Option ℕ). bind p (find n)) (ap (find m) (sym (eqb-true e.0 x t)) ∙ find_out m e.0 (above e.0 (keys m) h))) ∙ i
-    go none q false t i = i
-    go (some v) q true t i = rw t q
-    go (some v) q false t i = rw t i
+    go None q false t i = i
+    go (Some v) q true t i = rw t q
+    go (Some v) q false t i = rw t i
 
 -- each number of a list is in it, and in a longer one
 members : (all l : List ℕ) → ((x : ℕ) → member x l ≡ true → member x all ≡ true) → All (λ x. member x all ≡ true) l
@@ -77,7 +77,7 @@ unfolding combined find values map_some
 combined_skip [] q n h = refl
 combined_skip (e ∷ m) q n h =
     let b : q.0 < e.1 = h.0 in
-    rw (ne_eqb q.0 e.1 (λ t. omega arith)) (ap (push (bind (find n e.1) (λ v. some (e.0, v)))) (combined_skip m q n h.1))
+    rw (ne_eqb q.0 e.1 (λ t. omega arith)) (ap (push (bind (find n e.1) (λ v. Some (e.0, v)))) (combined_skip m q n h.1))
 
 -- where a number is in a list that it is not the first of
 member_rest : (x a : ℕ) (l : List ℕ) → (a ≡ x → ⊥) → member x (a ∷ l) ≡ true → member x l ≡ true
@@ -106,12 +106,12 @@ combined_hit : (e : ℕ × ℕ) (m : List (ℕ × ℕ)) (q : ℕ × ℕ) (n : Li
 unfolding combined find bind map_some push
 combined_hit e m q n h = rw (eq-eqb q.0 e.1 (sym h))
 
-combined_miss : (e : ℕ × ℕ) (m n : List (ℕ × ℕ)) → find n e.1 ≡ none → combined (e ∷ m) n ≡ combined m n
+combined_miss : (e : ℕ × ℕ) (m n : List (ℕ × ℕ)) → find n e.1 ≡ None → combined (e ∷ m) n ≡ combined m n
 unfolding combined bind map_some push
 combined_miss e m n h = rw h
 
 -- the next entry of the first map, if the others go along
-along_step : (ρ : ℕ → Option ℕ) (e : ℕ × ℕ) (m n : List (ℕ × ℕ)) → ρ e.0 ≡ some e.1 → ascends (e.1 ∷ values m) ≡ true → ascends (keys n) ≡ true → Within (e ∷ m) n
+along_step : (ρ : ℕ → Option ℕ) (e : ℕ × ℕ) (m n : List (ℕ × ℕ)) → ρ e.0 ≡ Some e.1 → ascends (e.1 ∷ values m) ≡ true → ascends (keys n) ≡ true → Within (e ∷ m) n
     → ((n : List (ℕ × ℕ)) → ascends (keys n) ≡ true → Within m n → Along ρ (combined m n) n) → Along ρ (combined (e ∷ m) n) n
 unfolding keys values
 along_step ρ e m [] f v k w i = rw (combined_none (e ∷ m)) tt
@@ -130,21 +130,21 @@ along_step ρ e m (q ∷ n) f v k w i = go (eqb e.1 q.0) refl
         let lower : All (λ x. q.0 < x) (values m) = all_map (λ x. e.1 < x) (λ x. q.0 < x) (λ x b. omega arith) (values m) later in
         let higher : All (λ x. e.1 < x) (keys n) = all_map (λ x. q.0 < x) (λ x. e.1 < x) (λ x b. omega arith) (keys n) rest in
         rw (combined_hit e m q n s, combined_skip m q n lower)
-        (f ∙ ap {B = Option ℕ} some s, refl, i n (ascends_rest q.0 (keys n) k) (members_rest e.1 (values m) (keys n) higher w.1))
+        (f ∙ ap {B = Option ℕ} Some s, refl, i n (ascends_rest q.0 (keys n) k) (members_rest e.1 (values m) (keys n) higher w.1))
     go false t =
         let s = eqb-false e.1 q.0 t in
         let b : e.1 < q.0 = member_above e.1 q.0 (values m) later (member_rest q.0 e.1 (values m) s w.0) in
         let higher : All (λ x. e.1 < x) (q.0 ∷ keys n) = (b, all_map (λ x. q.0 < x) (λ x. e.1 < x) (λ x c. omega arith) (keys n) rest) in
         rw (combined_miss e m (q ∷ n) (find_out (q ∷ n) e.1 higher)) (i (q ∷ n) k (members_rest e.1 (values m) (q.0 ∷ keys n) higher w))
 
-along_from : (ρ : ℕ → Option ℕ) (m n : List (ℕ × ℕ)) → All (λ e. ρ e.0 ≡ some e.1) m → ascends (values m) ≡ true → ascends (keys n) ≡ true → Within m n → Along ρ (combined m n) n
+along_from : (ρ : ℕ → Option ℕ) (m n : List (ℕ × ℕ)) → All (λ e. ρ e.0 ≡ Some e.1) m → ascends (values m) ≡ true → ascends (keys n) ≡ true → Within m n → Along ρ (combined m n) n
 unfolding keys values member
 along_from ρ [] [] f v k w = rw (combined_none []) tt
 along_from ρ [] (q ∷ n) f v k w = absurd (true≢false (sym w.0))
 along_from ρ (e ∷ m) n f v k w = along_step ρ e m n f.0 v k w (λ n k w. along_from ρ m n f.1 (ascends_rest e.1 (values m) v) k w)
 
 -- each entry of a map whose keys ascend is found
-entries_found : (ρ : ℕ → Option ℕ) (m : List (ℕ × ℕ)) → ascends (keys m) ≡ true → ((x v : ℕ) → find m x ≡ some v → ρ x ≡ some v) → All (λ e. ρ e.0 ≡ some e.1) m
+entries_found : (ρ : ℕ → Option ℕ) (m : List (ℕ × ℕ)) → ascends (keys m) ≡ true → ((x v : ℕ) → find m x ≡ Some v → ρ x ≡ Some v) → All (λ e. ρ e.0 ≡ Some e.1) m
 unfolding find keys
 entries_found ρ [] k h = tt
 entries_found ρ (e ∷ m) k h = (
@@ -152,12 +152,12 @@ entries_found ρ (e ∷ m) k h = (
   entries_found ρ m (ascends_rest e.0 (keys m) k) (λ x v q. h x v (later x v (eqb e.0 x) refl q)),
 )
   where
-    later : (x v : ℕ) (t : Bool) → eqb e.0 x ≡ t → find m x ≡ some v → cond t (some e.1) (find m x) ≡ some v
-    later x v true t q = absurd (none-ne-some v (sym (find_out m x (rw (eqb-true e.0 x t) at (above e.0 (keys m) k))) ∙ q))
+    later : (x v : ℕ) (t : Bool) → eqb e.0 x ≡ t → find m x ≡ Some v → cond t (Some e.1) (find m x) ≡ Some v
+    later x v true t q = absurd (none-some v (sym (find_out m x (rw (eqb-true e.0 x t) at (above e.0 (keys m) k))) ∙ q))
     later x v false t q = q
 
 -- an entry of a map whose keys ascend is found
-pub all_found : (m : List (ℕ × ℕ)) → ascends (keys m) ≡ true → All (λ e. find m e.0 ≡ some e.1) m
+pub all_found : (m : List (ℕ × ℕ)) → ascends (keys m) ≡ true → All (λ e. find m e.0 ≡ Some e.1) m
 all_found m k = entries_found (find m) m k (λ x v q. q)
 
 pub along : (m n : List (ℕ × ℕ)) → ascends (keys m) ≡ true → ascends (values m) ≡ true → ascends (keys n) ≡ true → Within m n → Along (find m) (combined m n) n

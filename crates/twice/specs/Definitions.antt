@@ -1,6 +1,5 @@
 -- What request 6 speaks of: the combined map of two maps, and the identity maps over what was cut.
-use Rattle.std.specs.Prelude.{ℕ, ◌≡◌, true, List, [], ◌∷◌, ◌++◌}
-use Rattle.std.proofs.Math.Option.{Option, none, some}
+use Rattle.std.specs.Prelude.{ℕ, ◌≡◌, true, List, [], ◌∷◌, ◌++◌, Option, None, Some}
 use Rattle.meaning.specs.Words.{flat, twos, member, keys, values, find, bind, map_some}
 use Rattle.meaning.specs.Maps.{map_entries, glyph_entries}
 use Rattle.meaning.specs.Tables.{Rule, Table}
@@ -9,7 +8,7 @@ use Rattle.laws.specs.Stands.{All}
 
 -- the old ids of the first map whose new id the second one maps, each with that new id
 unfoldable pub combined : List (ℕ × ℕ) → List (ℕ × ℕ) → List (ℕ × ℕ)
-combined m n = map_some (λ e. bind (find n e.1) (λ v. some (e.0, v))) m
+combined m n = map_some (λ e. bind (find n e.1) (λ v. Some (e.0, v))) m
 
 -- each old id of the second map is a new id of the first
 abbrev pub Within : List (ℕ × ℕ) → List (ℕ × ℕ) → Type 0
@@ -47,8 +46,8 @@ rule_lookups (r ∷ rs) = values r.records ++ rule_lookups rs
 
 unfoldable pub set_lookups : List (Option (List Rule)) → List ℕ
 set_lookups [] = []
-set_lookups (none ∷ ss) = set_lookups ss
-set_lookups (some rs ∷ ss) = rule_lookups rs ++ set_lookups ss
+set_lookups (None ∷ ss) = set_lookups ss
+set_lookups (Some rs ∷ ss) = rule_lookups rs ++ set_lookups ss
 
 unfoldable pub lookups_of : Table → List ℕ
 unfolding values rule_lookups set_lookups

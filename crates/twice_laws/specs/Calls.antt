@@ -1,9 +1,8 @@
 -- Calls: what a kept call leaves is a good source of its kind, and fits any buffer that has room for it.
-use Rattle.std.specs.Prelude.{ℕ, ◌/◌, ◌%◌, ◌≤◌, ◌<◌, ◌≡◌, Bool, cond, ◌&&◌, ◌||◌, ltb, eqb}
+use Rattle.std.specs.Prelude.{ℕ, ◌/◌, ◌%◌, ◌≤◌, ◌<◌, ◌≡◌, Bool, cond, ◌&&◌, ◌||◌, ltb, eqb, Option, None, Some}
 use Rattle.std.proofs.Math.Path.{refl, ap, subst}
 use Rattle.std.proofs.Common.{sym, ◌∙◌, arith, take_at}
 use Rattle.std.proofs.Math.Bool.{true, false, not}
-use Rattle.std.proofs.Math.Option.{Option, none, some}
 use mathlib.Core.List.{List, [], ◌∷◌, ◌++◌}
 use Rattle.std.proofs.Math.ListN.{length, drop}
 use borrow.Author.Tests.{le-ltb, eqb-true, not-false}
@@ -44,8 +43,8 @@ new_no_device f1 f2 ks = rw (small_no_device (new_format (λ p. p.first_values) 
 module _ (g l : List (ℕ × ℕ)) where
   pairs_no_device : (cover : Option (List ℕ)) (f1 f2 : ℕ) (sets : List (Option (List Pair))) → Opt NoDevice (cut g l (Table.pairs_of cover f1 f2 sets))
   unfolding cut bind kept_pairs NoDevice
-  pairs_no_device none f1 f2 sets = tt
-  pairs_no_device (some cov) f1 f2 sets = go (kept_sets (cut_pairs g) g cov sets)
+  pairs_no_device None f1 f2 sets = tt
+  pairs_no_device (Some cov) f1 f2 sets = go (kept_sets (cut_pairs g) g cov sets)
     where
       go : (ks : List (ℕ × List Pair)) → Opt NoDevice (kept_pairs f1 f2 ks)
       go [] = tt
@@ -53,10 +52,10 @@ module _ (g l : List (ℕ × ℕ)) where
 
   class_pairs_no_device : (cover : Option (List ℕ)) (first second : Option (List (ℕ × ℕ))) (f1 f2 n : ℕ) (rows : List (List Pair)) → Opt NoDevice (cut g l (Table.class_pairs cover first second f1 f2 n rows))
   unfolding cut bind kept_class_pairs NoDevice
-  class_pairs_no_device none first second f1 f2 n rows = tt
-  class_pairs_no_device (some cov) none second f1 f2 n rows = tt
-  class_pairs_no_device (some cov) (some cs) none f1 f2 n rows = tt
-  class_pairs_no_device (some cov) (some cs) (some ds) f1 f2 n rows = go (covered_map g cov)
+  class_pairs_no_device None first second f1 f2 n rows = tt
+  class_pairs_no_device (Some cov) None second f1 f2 n rows = tt
+  class_pairs_no_device (Some cov) (Some cs) None f1 f2 n rows = tt
+  class_pairs_no_device (Some cov) (Some cs) (Some ds) f1 f2 n rows = go (covered_map g cov)
     where
       go : (h : List (ℕ × ℕ)) → Opt NoDevice (kept_class_pairs g h cs ds f1 f2 rows)
       go [] = tt
@@ -82,27 +81,27 @@ says_no_device s h = go (eqb (word s 0) 1) h
     go true h = h
     go false h = h
 
-left_no_device : (g l : List (ℕ × ℕ)) (kind : ℕ) (s u : List ℕ) → cut g l (table kind s) ≡ some (table kind u) → eqb kind 4 && (has_device (word u 4) || has_device (word u 6)) ≡ false
+left_no_device : (g l : List (ℕ × ℕ)) (kind : ℕ) (s u : List ℕ) → cut g l (table kind s) ≡ Some (table kind u) → eqb kind 4 && (has_device (word u 4) || has_device (word u 6)) ≡ false
 left_no_device g l kind s u is = go (eqb kind 4) refl
   where
     go : (b : Bool) → eqb kind 4 ≡ b → b && (has_device (word u 4) || has_device (word u 6)) ≡ false
     go false e = refl
     go true e =
         let four = eqb-true kind 4 e in
-        let is' : cut g l (pair_table s) ≡ some (pair_table u) = rw (four, table_pairs s, table_pairs u) at is in
+        let is' : cut g l (pair_table s) ≡ Some (pair_table u) = rw (four, table_pairs s, table_pairs u) at is in
         says_no_device u (subst (Opt NoDevice) is' (cut_no_device g l s))
 
 -- what is written of a table that is not too big, into a buffer that has room for it
 written_fits : (packing : ℕ) (t : Table) (buffer : List ℕ) → too_big (words_in packing t) ≡ false → length (flat (words_in packing t)) ≤ length buffer
-    → written_in packing buffer (some t) ≡ record { number = 0; len = length (flat (words_in packing t)); out = flat (words_in packing t) ++ drop (length (flat (words_in packing t))) buffer }
+    → written_in packing buffer (Some t) ≡ record { number = 0; len = length (flat (words_in packing t)); out = flat (words_in packing t) ++ drop (length (flat (words_in packing t))) buffer }
 unfolding written_in laid_into
 written_fits packing t buffer big room = rw (big, le-ltb (length buffer) (length (flat (words_in packing t))) room)
 
 -- what is refused for what it is, as empty or too big, is refused so into any buffer
 pub refused_anywhere : (packing : ℕ) (out out' : List ℕ) (o : Option Table) (n : ℕ) → 0 < n → n < 10 → (written_in packing out o).number ≡ n → (written_in packing out' o).number ≡ n
 unfolding written_in laid_into
-refused_anywhere packing out out' none n low high h = h
-refused_anywhere packing out out' (some t) n low high h = go (too_big (words_in packing t)) (ltb (length out) (length bs)) (ltb (length out') (length bs)) h
+refused_anywhere packing out out' None n low high h = h
+refused_anywhere packing out out' (Some t) n low high h = go (too_big (words_in packing t)) (ltb (length out) (length bs)) (ltb (length out') (length bs)) h
   where
     bs : List ℕ
     bs = flat (words_in packing t)
@@ -156,9 +155,9 @@ module _ (c : Call) (bytes : BytesOf c) (kept : (answer c).number ≡ 0) where
 
   -- what it leaves, written into any buffer that has room for it
   pub left_fits : (buffer : List ℕ) → length (left (answer c)) ≤ length buffer
-      → written_in c.packing buffer (some (small_says c)) ≡ record { number = 0; len = length (left (answer c)); out = left (answer c) ++ drop (length (left (answer c))) buffer }
+      → written_in c.packing buffer (Some (small_says c)) ≡ record { number = 0; len = length (left (answer c)); out = left (answer c) ++ drop (length (left (answer c))) buffer }
   unfolding refusals
   left_fits buffer room =
       let (n1, (n13, (n14, (n2, (n3, (n4, (n5, (n6, (n7, (n12, (n8, (n9, late)))))))))))) = (kept_exactly c).0 kept in
-      subst (λ (s : List ℕ). written_in c.packing buffer (some (small_says c)) ≡ record { number = 0; len = length s; out = s ++ drop (length s) buffer }) (sym bytes_left)
+      subst (λ (s : List ℕ). written_in c.packing buffer (Some (small_says c)) ≡ record { number = 0; len = length s; out = s ++ drop (length s) buffer }) (sym bytes_left)
       (written_fits c.packing (small_says c) buffer (subst (λ (ws : List ℕ). too_big ws ≡ false) words_left_lem n9) (subst (λ (s : List ℕ). length s ≤ length buffer) bytes_left room))

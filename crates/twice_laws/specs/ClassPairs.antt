@@ -1,9 +1,9 @@
 -- Pairs by class, cut twice.
-use Rattle.std.specs.Prelude.{ℕ, suc, ◌+◌, ◌≤◌, ◌<◌, ◌≡◌, Bool, true, false, cond, ◌||◌, length, eqb}
+use Rattle.std.specs.Prelude.{ℕ, suc, ◌+◌, ◌≤◌, ◌<◌, ◌≡◌, Bool, true, false, cond, ◌||◌, length, eqb, Option, None, Some}
 use Rattle.std.proofs.Math.Path.{refl, sym}
 use Rattle.std.proofs.Common.{ap, ◌∙◌, subst, arith, eqb-true, ne_eqb}
 use Rattle.std.proofs.Math.Bool.{or-true}
-use Rattle.std.proofs.Math.Option.{Option, none, some, none-ne-some}
+use Rattle.std.proofs.lemmas.Option.{none-some}
 use mathlib.Core.List.{List, [], ◌∷◌}
 use Rattle.std.proofs.lemmas.Bool.{eqb-false}
 use Rattle.meaning.specs.Words.{member, keys, values, find, bind, push, map_some}
@@ -30,13 +30,13 @@ Counted k (e ∷ r) = (e.0 ≡ k) × Counted (k + 1) r
 
 -- a kept row, cut again
 abbrev row_again : List (ℕ × ℕ) → List (ℕ × ℕ) → ℕ × List Pair → Option (ℕ × List Pair)
-row_again m1 m2 e = bind (find m1 e.0) (λ n. some (n, map_some (cut_pair m2) e.1))
+row_again m1 m2 e = bind (find m1 e.0) (λ n. Some (n, map_some (cut_pair m2) e.1))
 
 -- rows that are numbered so are kept by their numbers
 counted_rows : (m1 m2 : List (ℕ × ℕ)) (k : ℕ) (ks : List (ℕ × List Pair)) → Counted k ks → kept_rows m1 m2 k (rows_of ks) ≡ map_some (row_again m1 m2) ks
 unfolding kept_rows rows_of map_some
 counted_rows m1 m2 k [] c = refl
-counted_rows m1 m2 k (e ∷ ks) c = rw c.0 (ap (push (bind (find m1 k) (λ n. some (n, map_some (cut_pair m2) e.1)))) (counted_rows m1 m2 (k + 1) ks c.1))
+counted_rows m1 m2 k (e ∷ ks) c = rw c.0 (ap (push (bind (find m1 k) (λ n. Some (n, map_some (cut_pair m2) e.1)))) (counted_rows m1 m2 (k + 1) ks c.1))
 
 counted_thin : (f1 f2 n1 n2 k : ℕ) (ks : List (ℕ × List Pair)) → Counted k ks → Counted k (thin f1 f2 n1 n2 ks)
 unfolding thin
@@ -44,7 +44,7 @@ counted_thin f1 f2 n1 n2 k [] c = tt
 counted_thin f1 f2 n1 n2 k (e ∷ ks) c = (c.0, counted_thin f1 f2 n1 n2 (k + 1) ks c.1)
 
 -- a class below all has no rank
-no_rank : (k low : ℕ) (hs : List ℕ) (c : ℕ) → Up low hs → c < low → find (numbered k hs) c ≡ none
+no_rank : (k low : ℕ) (hs : List ℕ) (c : ℕ) → Up low hs → c < low → find (numbered k hs) c ≡ None
 unfolding find numbered
 no_rank k low [] c u l = refl
 no_rank k low (h ∷ hs) c u l = rw (ne_eqb h c (omega (arith, u.0))) (no_rank (k + 1) (h + 1) hs c u.1 (omega (arith, u.0)))
@@ -57,17 +57,17 @@ counted_kept ρ m2 (row ∷ rows) c k hs u same = step hs u same (counted_kept �
   where
     step : (hs : List ℕ) → Up c hs → ((d : ℕ) → c ≤ d → find ρ d ≡ find (numbered k hs) d)
         → ((k : ℕ) (hs : List ℕ) → Up (c + 1) hs → ((d : ℕ) → c + 1 ≤ d → find ρ d ≡ find (numbered k hs) d) → Counted k (kept_rows ρ m2 (c + 1) rows))
-        → Counted k (push (bind (find ρ c) (λ n. some (n, map_some (cut_pair m2) row))) (kept_rows ρ m2 (c + 1) rows))
+        → Counted k (push (bind (find ρ c) (λ n. Some (n, map_some (cut_pair m2) row))) (kept_rows ρ m2 (c + 1) rows))
     step [] u same i = rw (same c (omega arith) ∙ no_rank k (c + 1) [] c tt (omega arith)) (i k [] tt (λ d l. same d (omega arith)))
     step (h ∷ hs) u same i = here (eqb h c) refl
       where
-        first : eqb h c ≡ true → find (numbered k (h ∷ hs)) c ≡ some k
+        first : eqb h c ≡ true → find (numbered k (h ∷ hs)) c ≡ Some k
         first e = rw e
 
         later : (d : ℕ) → h + 1 ≤ d → find (numbered k (h ∷ hs)) d ≡ find (numbered (k + 1) hs) d
         later d l = rw (ne_eqb h d (omega arith))
 
-        here : (b : Bool) → eqb h c ≡ b → Counted k (push (bind (find ρ c) (λ n. some (n, map_some (cut_pair m2) row))) (kept_rows ρ m2 (c + 1) rows))
+        here : (b : Bool) → eqb h c ≡ b → Counted k (push (bind (find ρ c) (λ n. Some (n, map_some (cut_pair m2) row))) (kept_rows ρ m2 (c + 1) rows))
         here true e =
             let t = eqb-true h c e in
             rw (same c (omega arith) ∙ first e) (refl, i (k + 1) hs (subst (λ (x : ℕ). Up (x + 1) hs) t u.1) (λ d l. same d (omega arith) ∙ later d (omega arith)))
@@ -84,13 +84,13 @@ module _ (m1 m2 m1' m2' m1'' m2'' : List (ℕ × ℕ)) (t : Then (find m1) (find
   rows_twice c (row ∷ rows) =
       go (find m1 c) (kept_rows m1 m2 (c + 1) rows)
       ∙ rw (t c, some_twice (cut_pair m2) (cut_pair m2') (cut_pair m2'') (pair_twice m2 m2' m2'' v) row)
-      (ap (push (bind (find m1'' c) (λ n. some (n, map_some (cut_pair m2'') row)))) (rows_twice (c + 1) rows))
+      (ap (push (bind (find m1'' c) (λ n. Some (n, map_some (cut_pair m2'') row)))) (rows_twice (c + 1) rows))
     where
       go : (o : Option ℕ) (ks : List (ℕ × List Pair))
-          → map_some (row_again m1' m2') (push (bind o (λ n. some (n, map_some (cut_pair m2) row))) ks)
-          ≡ push (bind (bind o (find m1')) (λ n. some (n, map_some (cut_pair m2') (map_some (cut_pair m2) row)))) (map_some (row_again m1' m2') ks)
-      go none ks = refl
-      go (some n) ks = refl
+          → map_some (row_again m1' m2') (push (bind o (λ n. Some (n, map_some (cut_pair m2) row))) ks)
+          ≡ push (bind (bind o (find m1')) (λ n. Some (n, map_some (cut_pair m2') (map_some (cut_pair m2) row)))) (map_some (row_again m1' m2') ks)
+      go None ks = refl
+      go (Some n) ks = refl
 
 -- rows with equal fields stay so
 module _ (f1 f2 f1' f2' : ℕ) (m1 m2 : List (ℕ × ℕ)) where
@@ -102,63 +102,63 @@ module _ (f1 f2 f1' f2' : ℕ) (m1 m2 : List (ℕ × ℕ)) where
   again_alike (e ∷ ks) (d ∷ js) a = rw a.0 (go (find m1 e.0) (again_alike ks js a.2))
     where
       go : (o : Option ℕ) → KeptAlike f1 f2 f1' f2' (map_some (row_again m1 m2) ks) (map_some (row_again m1 m2) js)
-          → KeptAlike f1 f2 f1' f2' (push (bind o (λ n. some (n, map_some (cut_pair m2) e.1))) (map_some (row_again m1 m2) ks)) (push (bind o (λ n. some (n, map_some (cut_pair m2) d.1))) (map_some (row_again m1 m2) js))
-      go none i = i
-      go (some n) i = (refl, cut_alike f1 f2 f1' f2' m2 e.1 d.1 a.1, i)
+          → KeptAlike f1 f2 f1' f2' (push (bind o (λ n. Some (n, map_some (cut_pair m2) e.1))) (map_some (row_again m1 m2) ks)) (push (bind o (λ n. Some (n, map_some (cut_pair m2) d.1))) (map_some (row_again m1 m2) js))
+      go None i = i
+      go (Some n) i = (refl, cut_alike f1 f2 f1' f2' m2 e.1 d.1 a.1, i)
 
 -- The covered glyphs' maps.
 module _ (g₁ g₂ g : List (ℕ × ℕ)) (e : Then (find g₁) (find g₂) (find g)) where
-  covered_found : (cov : List ℕ) → All (λ p. find g₁ p.0 ≡ some p.1) (covered_map g₁ cov)
+  covered_found : (cov : List ℕ) → All (λ p. find g₁ p.0 ≡ Some p.1) (covered_map g₁ cov)
   unfolding covered_map map_some push bind
   covered_found [] = tt
   covered_found (c ∷ cov) = go (find g₁ c) refl (covered_found cov)
     where
-      go : (o : Option ℕ) → find g₁ c ≡ o → All (λ p. find g₁ p.0 ≡ some p.1) (covered_map g₁ cov) → All (λ p. find g₁ p.0 ≡ some p.1) (push (bind o (λ n. some (c, n))) (covered_map g₁ cov))
-      go none q i = i
-      go (some n) q i = (q, i)
+      go : (o : Option ℕ) → find g₁ c ≡ o → All (λ p. find g₁ p.0 ≡ Some p.1) (covered_map g₁ cov) → All (λ p. find g₁ p.0 ≡ Some p.1) (push (bind o (λ n. Some (c, n))) (covered_map g₁ cov))
+      go None q i = i
+      go (Some n) q i = (q, i)
 
   -- by ρ, which is the first one's or more
-  covered_along : (ρ : ℕ → Option ℕ) (cov : List ℕ) → All (λ c. (n : ℕ) → find g₁ c ≡ some n → ρ c ≡ some n) cov → Along ρ (covered_map g cov) (covered_map g₂ (values (covered_map g₁ cov)))
+  covered_along : (ρ : ℕ → Option ℕ) (cov : List ℕ) → All (λ c. (n : ℕ) → find g₁ c ≡ Some n → ρ c ≡ Some n) cov → Along ρ (covered_map g cov) (covered_map g₂ (values (covered_map g₁ cov)))
   unfolding covered_map map_some push bind values
   covered_along ρ [] w = tt
   covered_along ρ (c ∷ cov) w = go (find g₁ c) refl (find g c) (e c) (covered_along ρ cov w.1)
     where
       go : (o : Option ℕ) → find g₁ c ≡ o → (p : Option ℕ) → bind o (find g₂) ≡ p → Along ρ (covered_map g cov) (covered_map g₂ (values (covered_map g₁ cov)))
-          → Along ρ (push (bind p (λ n. some (c, n))) (covered_map g cov)) (covered_map g₂ (values (push (bind o (λ n. some (c, n))) (covered_map g₁ cov))))
-      go none q none r i = i
-      go none q (some n) r i = absurd (none-ne-some n r)
-      go (some d) q none r i = rw r i
-      go (some d) q (some n) r i = rw r (w.0 d q, refl, i)
+          → Along ρ (push (bind p (λ n. Some (c, n))) (covered_map g cov)) (covered_map g₂ (values (push (bind o (λ n. Some (c, n))) (covered_map g₁ cov))))
+      go None q None r i = i
+      go None q (Some n) r i = absurd (none-some n r)
+      go (Some d) q None r i = rw r i
+      go (Some d) q (Some n) r i = rw r (w.0 d q, refl, i)
 
 -- the covered glyphs' map finds the covered glyphs
-covered_is : (g : List (ℕ × ℕ)) (cov : List ℕ) (x : ℕ) → find (covered_map g cov) x ≡ cond (member x cov) (find g x) none
+covered_is : (g : List (ℕ × ℕ)) (cov : List ℕ) (x : ℕ) → find (covered_map g cov) x ≡ cond (member x cov) (find g x) None
 unfolding covered_map map_some push bind find member
 covered_is g [] x = refl
 covered_is g (c ∷ cov) x = go (find g c) refl (eqb c x) refl (covered_is g cov x)
   where
-    same : (b : Bool) → cond {A = Option ℕ} b none none ≡ none
+    same : (b : Bool) → cond {A = Option ℕ} b None None ≡ None
     same true = refl
     same false = refl
 
-    go : (o : Option ℕ) → find g c ≡ o → (b : Bool) → eqb c x ≡ b → find (covered_map g cov) x ≡ cond (member x cov) (find g x) none
-        → find (push (bind o (λ n. some (c, n))) (covered_map g cov)) x ≡ cond (b || member x cov) (find g x) none
-    go none q true r i =
-        let s : find g x ≡ none = ap (find g) (sym (eqb-true c x r)) ∙ q in
+    go : (o : Option ℕ) → find g c ≡ o → (b : Bool) → eqb c x ≡ b → find (covered_map g cov) x ≡ cond (member x cov) (find g x) None
+        → find (push (bind o (λ n. Some (c, n))) (covered_map g cov)) x ≡ cond (b || member x cov) (find g x) None
+    go None q true r i =
+        let s : find g x ≡ None = ap (find g) (sym (eqb-true c x r)) ∙ q in
         i ∙ rw s (same (member x cov))
-    go none q false r i = i
-    go (some n) q true r i = rw r (sym (ap (find g) (sym (eqb-true c x r)) ∙ q))
-    go (some n) q false r i = rw r i
+    go None q false r i = i
+    go (Some n) q true r i = rw r (sym (ap (find g) (sym (eqb-true c x r)) ∙ q))
+    go (Some n) q false r i = rw r i
 
-covered_sub : (g : List (ℕ × ℕ)) (cov : List ℕ) (x y : ℕ) → find (covered_map g cov) x ≡ some y → find g x ≡ some y
+covered_sub : (g : List (ℕ × ℕ)) (cov : List ℕ) (x y : ℕ) → find (covered_map g cov) x ≡ Some y → find g x ≡ Some y
 covered_sub g cov x y q = go (member x cov) (sym (covered_is g cov x) ∙ q)
   where
-    go : (b : Bool) → cond b (find g x) none ≡ some y → find g x ≡ some y
+    go : (b : Bool) → cond b (find g x) None ≡ Some y → find g x ≡ Some y
     go true e = e
-    go false e = absurd (none-ne-some y e)
+    go false e = absurd (none-some y e)
 
-covered_find : (g : List (ℕ × ℕ)) (cov : List ℕ) → All (λ c. (n : ℕ) → find g c ≡ some n → find (covered_map g cov) c ≡ some n) cov
+covered_find : (g : List (ℕ × ℕ)) (cov : List ℕ) → All (λ c. (n : ℕ) → find g c ≡ Some n → find (covered_map g cov) c ≡ Some n) cov
 covered_find g cov =
-    all_map (λ x. member x cov ≡ true) (λ c. (n : ℕ) → find g c ≡ some n → find (covered_map g cov) c ≡ some n) (λ c m n q. covered_is g cov c ∙ rw m q) cov (all_members cov)
+    all_map (λ x. member x cov ≡ true) (λ c. (n : ℕ) → find g c ≡ Some n → find (covered_map g cov) c ≡ Some n) (λ c m n q. covered_is g cov c ∙ rw m q) cov (all_members cov)
 
 -- Moved lists are of one length.
 moved_length : (ρ : ℕ → Option ℕ) (xs ys : List ℕ) → Moved ρ xs ys → length ys ≡ length xs
@@ -178,19 +178,19 @@ whole g h cs ds f1 f2 rows =
     let kept = kept_rows (class_map h cs) (second_map g ds) 0 rows in
     let n1 = new_format (λ p. p.first_values) f1 kept in
     let n2 = new_second f2 kept in
-    Table.class_pairs (some (values h)) (some (new_classes h cs)) (some (classes_under (second_map g ds) g ds)) n1 n2 (length (second_map g ds)) (rows_of (thin f1 f2 n1 n2 kept))
+    Table.class_pairs (Some (values h)) (Some (new_classes h cs)) (Some (classes_under (second_map g ds) g ds)) n1 n2 (length (second_map g ds)) (rows_of (thin f1 f2 n1 n2 kept))
 
 abbrev if_any : List (ℕ × ℕ) → Option Table → Option Table
-if_any [] t = none
+if_any [] t = None
 if_any (e ∷ r) t = t
 
-kept_whole : (g h cs ds : List (ℕ × ℕ)) (f1 f2 : ℕ) (rows : List (List Pair)) → kept_class_pairs g h cs ds f1 f2 rows ≡ if_any h (some (whole g h cs ds f1 f2 rows))
+kept_whole : (g h cs ds : List (ℕ × ℕ)) (f1 f2 : ℕ) (rows : List (List Pair)) → kept_class_pairs g h cs ds f1 f2 rows ≡ if_any h (Some (whole g h cs ds f1 f2 rows))
 unfolding kept_class_pairs
 kept_whole g [] cs ds f1 f2 rows = refl
 kept_whole g (e ∷ r) cs ds f1 f2 rows = refl
 
 cut_whole : (g l : List (ℕ × ℕ)) (cov : List ℕ) (cs ds : List (ℕ × ℕ)) (f1 f2 n : ℕ) (rows : List (List Pair))
-    → cut g l (Table.class_pairs (some cov) (some cs) (some ds) f1 f2 n rows) ≡ if_any (covered_map g cov) (some (whole g (covered_map g cov) cs ds f1 f2 rows))
+    → cut g l (Table.class_pairs (Some cov) (Some cs) (Some ds) f1 f2 n rows) ≡ if_any (covered_map g cov) (Some (whole g (covered_map g cov) cs ds f1 f2 rows))
 unfolding cut
 cut_whole g l cov cs ds f1 f2 n rows = kept_whole g (covered_map g cov) cs ds f1 f2 rows
 
@@ -199,7 +199,7 @@ unfolding covered_map values map_some
 none_covered g = refl
 
 -- of three maps, where nothing of the first leaves nothing of the second, and the second goes along with the third
-any_twice : (ρ : ℕ → Option ℕ) (x y z : List (ℕ × ℕ)) (t u : Table) (k : Table → Option Table) → (x ≡ [] → y ≡ []) → Along ρ z y → k t ≡ if_any y (some u) → bind (if_any x (some t)) k ≡ if_any z (some u)
+any_twice : (ρ : ℕ → Option ℕ) (x y z : List (ℕ × ℕ)) (t u : Table) (k : Table → Option Table) → (x ≡ [] → y ≡ []) → Along ρ z y → k t ≡ if_any y (Some u) → bind (if_any x (Some t)) k ≡ if_any z (Some u)
 unfolding bind
 any_twice ρ [] [] [] t u k n a e = refl
 any_twice ρ [] [] (c ∷ z) t u k n a e = absurd a
@@ -213,7 +213,7 @@ any_twice ρ (p ∷ x) (b ∷ y) [] t u k n a e = absurd a
 any_twice ρ (p ∷ x) (b ∷ y) (c ∷ z) t u k n a e = e
 
 -- A pair table by class, cut twice.
-module _ (g₁ g₂ g : List (ℕ × ℕ)) (found : All (λ e. find g₁ e.0 ≡ some e.1) g₁) (one : Injective (find g₁)) (e : Then (find g₁) (find g₂) (find g)) (a : Along (find g₁) g g₂) where
+module _ (g₁ g₂ g : List (ℕ × ℕ)) (found : All (λ e. find g₁ e.0 ≡ Some e.1) g₁) (one : Injective (find g₁)) (e : Then (find g₁) (find g₂) (find g)) (a : Along (find g₁) g g₂) where
   -- second classes: those that retained glyphs hold, and 0
   module _ (ds : List (ℕ × ℕ)) where
     abbrev hs₁ : List ℕ
@@ -225,11 +225,11 @@ module _ (g₁ g₂ g : List (ℕ × ℕ)) (found : All (λ e. find g₁ e.0 ≡
     ascend : Up 0 hs₁
     ascend = insert_up_lem 0 0 (held_by ds (keys g₁)) (omega arith) (held_up ds (keys g₁))
 
-    second_follow : (x y : ℕ) → find g₁ x ≡ some y → find (second_map g₁ ds) (class_of ds x) ≡ some (class_of ds₁ y)
+    second_follow : (x y : ℕ) → find g₁ x ≡ Some y → find (second_map g₁ ds) (class_of ds x) ≡ Some (class_of ds₁ y)
     unfolding second_map
     second_follow x y q = follow_under (find g₁) one g₁ found hs₁ ds x y q q (insert_member (class_of ds x) 0 (held_by ds (keys g₁)) ∙ rw (held_class ds g₁ x y q) (or-true (eqb 0 (class_of ds x))))
 
-    second_zero_first : find (second_map g₁ ds) 0 ≡ some 0
+    second_zero_first : find (second_map g₁ ds) 0 ≡ Some 0
     unfolding second_map
     second_zero_first = zero_first hs₁ ascend (insert_member 0 0 (held_by ds (keys g₁)))
 
@@ -271,7 +271,7 @@ module _ (g₁ g₂ g : List (ℕ × ℕ)) (found : All (λ e. find g₁ e.0 ≡
     go_along : Along (find h₁) h h₂
     go_along = covered_along g₁ g₂ g e (find h₁) cov (covered_find g₁ cov)
 
-    first_follow : (x y : ℕ) → find h₁ x ≡ some y → find (class_map h₁ cs) (class_of cs x) ≡ some (class_of cs₁ y)
+    first_follow : (x y : ℕ) → find h₁ x ≡ Some y → find (class_map h₁ cs) (class_of cs x) ≡ Some (class_of cs₁ y)
     unfolding new_classes class_map
     first_follow x y q = follow_under (find g₁) one h₁ (covered_found g₁ g₂ g e cov) (held_by cs (keys h₁)) cs x y (covered_sub g₁ cov x y q) q (held_class cs h₁ x y q)
 
@@ -332,5 +332,5 @@ module _ (g₁ g₂ g : List (ℕ × ℕ)) (found : All (λ e. find g₁ e.0 ≡
       class_pairs_twice l₂ =
           ap (λ (o : Option Table). bind o (cut g₂ l₂)) (kept_whole g₁ h₁ cs ds f1 f2 rows)
           ∙ any_twice (find h₁) h₁ h₂ h (whole g₁ h₁ cs ds f1 f2 rows) (whole g h cs ds f1 f2 rows) (cut g₂ l₂) (λ q. rw q (none_covered g₂)) go_along
-          (cut_whole g₂ l₂ (values h₁) cs₁ (ds₁ ds) n1 n2 (length (second_map g₁ ds)) (rows_of (thin f1 f2 n1 n2 kept₁)) ∙ ap (λ (t : Table). if_any h₂ (some t)) whole_twice)
+          (cut_whole g₂ l₂ (values h₁) cs₁ (ds₁ ds) n1 n2 (length (second_map g₁ ds)) (rows_of (thin f1 f2 n1 n2 kept₁)) ∙ ap (λ (t : Table). if_any h₂ (Some t)) whole_twice)
           ∙ sym (kept_whole g h cs ds f1 f2 rows)

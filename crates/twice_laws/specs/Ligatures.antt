@@ -1,8 +1,7 @@
 -- Ligatures, cut twice.
-use Rattle.std.specs.Prelude.{ℕ, ◌≡◌, List}
+use Rattle.std.specs.Prelude.{ℕ, ◌≡◌, List, Option, None, Some}
 use Rattle.std.proofs.Math.Path.{refl, sym}
 use Rattle.std.proofs.Common.{◌∙◌}
-use Rattle.std.proofs.Math.Option.{Option, none, some}
 use Rattle.meaning.specs.Words.{find, bind, map_all}
 use Rattle.meaning.specs.Cut.{cut_ligature, cut_ligatures}
 use Rattle.twice.specs.Answers.{Then, bind_none, all_twice, left_twice}
@@ -13,11 +12,11 @@ module _ (g₁ g₂ g : List (ℕ × ℕ)) (e : Then (find g₁) (find g₂) (fi
   ligature_twice x = go (find g₁ x.glyph) (map_all (find g₁) x.parts) ∙ rw (e x.glyph, all_twice (find g₁) (find g₂) (find g) e x.parts)
     where
       go : (o : Option ℕ) (p : Option (List ℕ))
-          → bind (bind o (λ n. bind p (λ ps. some (record { glyph = n; count = x.count; parts = ps })))) (cut_ligature g₂)
-          ≡ bind (bind o (find g₂)) (λ n. bind (bind p (map_all (find g₂))) (λ ps. some (record { glyph = n; count = x.count; parts = ps })))
-      go none p = refl
-      go (some n) none = sym (bind_none (find g₂ n))
-      go (some n) (some ps) = refl
+          → bind (bind o (λ n. bind p (λ ps. Some (record { glyph = n; count = x.count; parts = ps })))) (cut_ligature g₂)
+          ≡ bind (bind o (find g₂)) (λ n. bind (bind p (map_all (find g₂))) (λ ps. Some (record { glyph = n; count = x.count; parts = ps })))
+      go None p = refl
+      go (Some n) None = sym (bind_none (find g₂ n))
+      go (Some n) (Some ps) = refl
 
   pub ligatures_twice : Then (cut_ligatures g₁) (cut_ligatures g₂) (cut_ligatures g)
   unfolding cut_ligatures

@@ -1,7 +1,6 @@
 -- The identity lookup map over just the lookups that a table names.
-use Rattle.std.specs.Prelude.{ℕ, ◌≡◌, refl, Bool, true, false, cond, ◌||◌, List, [], ◌∷◌, ltb, eqb}
+use Rattle.std.specs.Prelude.{ℕ, ◌≡◌, refl, Bool, true, false, cond, ◌||◌, List, [], ◌∷◌, ltb, eqb, Option, None, Some}
 use Rattle.std.proofs.Common.{◌∙◌, arith}
-use Rattle.std.proofs.Math.Option.{Option, none, some}
 use Rattle.meaning.specs.Words.{member, keys, values}
 use Rattle.meaning.specs.Maps.{map_entries, good_lookups}
 use Rattle.meaning.specs.Tables.{Rule, Table}
@@ -32,8 +31,8 @@ rules_words chained (r ∷ rs) h = all_append Word (values r.records) (rule_look
 sets_words : (chained : Bool) (ss : List (Option (List Rule))) → All (Opt (All (GoodRule chained))) ss → All Word (set_lookups ss)
 unfolding set_lookups
 sets_words chained [] h = tt
-sets_words chained (none ∷ ss) h = sets_words chained ss h.1
-sets_words chained (some rs ∷ ss) h = all_append Word (rule_lookups rs) (set_lookups ss) (rules_words chained rs h.0) (sets_words chained ss h.1)
+sets_words chained (None ∷ ss) h = sets_words chained ss h.1
+sets_words chained (Some rs ∷ ss) h = all_append Word (rule_lookups rs) (set_lookups ss) (rules_words chained rs h.0) (sets_words chained ss h.1)
 
 pub good_names : (t : Table) → Good t → All Word (lookups_of t)
 unfolding lookups_of

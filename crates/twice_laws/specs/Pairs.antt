@@ -1,10 +1,9 @@
 -- Pairs, cut twice: a field that went was 0, and reads as 0.
 use Prim.Native.Nat.{ℕ, ◌+◌}
-use Rattle.std.specs.Prelude.{◌≡◌, Bool, true, false, cond, ◌&&◌, ◌||◌, eqb}
+use Rattle.std.specs.Prelude.{◌≡◌, Bool, true, false, cond, ◌&&◌, ◌||◌, eqb, Option, None, Some}
 use Rattle.std.proofs.Math.Path.{refl, ap₂}
 use Rattle.std.proofs.Common.{sym, ap, ◌∙◌, true≢false}
 use Rattle.std.proofs.Math.Bool.{not}
-use Rattle.std.proofs.Math.Option.{Option, none, some}
 use mathlib.Core.List.{List, [], ◌∷◌, map}
 use Rattle.meaning.specs.Words.{find, bind, push, map_some}
 use Rattle.meaning.specs.Tables.{Pair, bit, field_count, fields_below, field}
@@ -20,10 +19,10 @@ module _ (g₁ g₂ g : List (ℕ × ℕ)) (e : Then (find g₁) (find g₂) (fi
   unfolding cut_pair bind
   pair_twice p = go (find g₁ p.second) ∙ rw (e p.second)
     where
-      go : (o : Option ℕ) → bind (bind o (λ n. some (record { second = n; first_values = p.first_values; second_values = p.second_values }))) (cut_pair g₂)
-          ≡ bind (bind o (find g₂)) (λ n. some (record { second = n; first_values = p.first_values; second_values = p.second_values }))
-      go none = refl
-      go (some n) = refl
+      go : (o : Option ℕ) → bind (bind o (λ n. Some (record { second = n; first_values = p.first_values; second_values = p.second_values }))) (cut_pair g₂)
+          ≡ bind (bind o (find g₂)) (λ n. Some (record { second = n; first_values = p.first_values; second_values = p.second_values }))
+      go None = refl
+      go (Some n) = refl
 
   pub pairs_twice : Then (cut_pairs g₁) (cut_pairs g₂) (cut_pairs g)
   unfolding cut_pairs
@@ -203,10 +202,10 @@ module _ (f1 f2 f1' f2' : ℕ) where
     cut_alike (p ∷ ps) (q ∷ qs) a = rw a.0.0 (go (find g p.second) (cut_alike ps qs a.1))
       where
         go : (o : Option ℕ) → AllAlike (map_some (cut_pair g) ps) (map_some (cut_pair g) qs)
-            → AllAlike (push (bind o (λ n. some (record { second = n; first_values = p.first_values; second_values = p.second_values }))) (map_some (cut_pair g) ps))
-            (push (bind o (λ n. some (record { second = n; first_values = q.first_values; second_values = q.second_values }))) (map_some (cut_pair g) qs))
-        go none i = i
-        go (some n) i = ((refl, a.0.1, a.0.2), i)
+            → AllAlike (push (bind o (λ n. Some (record { second = n; first_values = p.first_values; second_values = p.second_values }))) (map_some (cut_pair g) ps))
+            (push (bind o (λ n. Some (record { second = n; first_values = q.first_values; second_values = q.second_values }))) (map_some (cut_pair g) qs))
+        go None i = i
+        go (Some n) i = ((refl, a.0.1, a.0.2), i)
 
     pub kept_alike : (ks js : List (ℕ × List Pair)) → KeptAlike ks js → KeptAlike (kept_sets (cut_pairs g) g (glyphs_of ks) (sets_of ks)) (kept_sets (cut_pairs g) g (glyphs_of js) (sets_of js))
     unfolding kept_sets glyphs_of sets_of bind push cut_pairs unless_empty
@@ -217,13 +216,13 @@ module _ (f1 f2 f1' f2' : ℕ) where
         rw h.0 (go (find g e.0) (map_some (cut_pair g) e.1) (map_some (cut_pair g) d.1) (cut_alike e.1 d.1 h.1) (kept_alike ks js h.2))
       where
         go : (o : Option ℕ) (ps qs : List Pair) → AllAlike ps qs → KeptAlike (kept_sets (cut_pairs g) g (glyphs_of ks) (sets_of ks)) (kept_sets (cut_pairs g) g (glyphs_of js) (sets_of js))
-            → KeptAlike (push (bind o (λ n. bind (unless_empty ps) (λ y. some (n, y)))) (kept_sets (cut_pairs g) g (glyphs_of ks) (sets_of ks)))
-            (push (bind o (λ n. bind (unless_empty qs) (λ y. some (n, y)))) (kept_sets (cut_pairs g) g (glyphs_of js) (sets_of js)))
-        go none ps qs a i = i
-        go (some n) [] [] a i = i
-        go (some n) [] (q ∷ qs) a i = absurd a
-        go (some n) (p ∷ ps) [] a i = absurd a
-        go (some n) (p ∷ ps) (q ∷ qs) a i = (refl, a, i)
+            → KeptAlike (push (bind o (λ n. bind (unless_empty ps) (λ y. Some (n, y)))) (kept_sets (cut_pairs g) g (glyphs_of ks) (sets_of ks)))
+            (push (bind o (λ n. bind (unless_empty qs) (λ y. Some (n, y)))) (kept_sets (cut_pairs g) g (glyphs_of js) (sets_of js)))
+        go None ps qs a i = i
+        go (Some n) [] [] a i = i
+        go (Some n) [] (q ∷ qs) a i = absurd a
+        go (Some n) (p ∷ ps) [] a i = absurd a
+        go (Some n) (p ∷ ps) (q ∷ qs) a i = (refl, a, i)
 
 -- Thinned to the fields that are used, the sets stay alike.
 module _ (all : List (ℕ × List Pair)) (f1 f2 : ℕ) where

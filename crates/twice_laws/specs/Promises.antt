@@ -1,10 +1,9 @@
 -- Request 6, cutting twice: every statement in one place, each with its words above it. The request is about the plain layout, mark 0;
 -- the statements hold of the packed one too, if the two cuts that are compared are for one layout. The first cut of two may be in the other.
 -- A reader who believes the definitions of `meaning` needs `Call`, `answer`, `glyph_map`, `lookup_map`, `BytesOf`, `says`, `small_says`, `GoodMaps` and `as_runs` of `promises`, and of this crate what stands here and in Definitions.antt.
-use Rattle.std.specs.Prelude.{ℕ, ◌≤◌, ◌<◌, ◌≡◌, true, List, [], ◌∷◌, ◌++◌, map, length, take, drop}
+use Rattle.std.specs.Prelude.{ℕ, ◌≤◌, ◌<◌, ◌≡◌, true, List, [], ◌∷◌, ◌++◌, map, length, take, drop, Option, Some}
 use Rattle.std.proofs.Math.Path.{refl}
 use Rattle.std.proofs.Common.{sym, ap, ◌∙◌, arith, take_at}
-use Rattle.std.proofs.Math.Option.{Option, some}
 use Rattle.meaning.specs.Words.{flat, ascends, keys, values, member, bind}
 use Rattle.meaning.specs.Maps.{map_entries, good_lookups, good_form, glyph_entries, good_glyph_map}
 use Rattle.meaning.specs.Tables.{Table}
@@ -50,8 +49,8 @@ tables g₁ g₂ l₁ l₂ k v n o m w t =
     Cuts.cut_twice g₁ g₂ (combined g₁ g₂) l₁ l₂ (combined l₁ l₂) (all_found g₁ k) (injective g₁ v) (find_combined g₁ g₂ k) (along g₁ g₂ k v o w) (find_combined l₁ l₂ m) (λ x. find_word g₁ x n) t
 
 -- `tables_again`: the identity over the new ids of the first glyph map, with an identity lookup map that has each lookup of the table that is left, gives that table back.
-pub tables_again : (g l : List (ℕ × ℕ)) → ascends (keys g) ≡ true → ascends (values g) ≡ true → ascends (keys l) ≡ true → All (λ e. Word e.1) g → (t u : Table) → cut g l t ≡ some u
-    → (i : List (ℕ × ℕ)) → Identity i → All (λ n. member n (keys i) ≡ true) (lookups_of u) → cut (same (values g)) i u ≡ some u
+pub tables_again : (g l : List (ℕ × ℕ)) → ascends (keys g) ≡ true → ascends (values g) ≡ true → ascends (keys l) ≡ true → All (λ e. Word e.1) g → (t u : Table) → cut g l t ≡ Some u
+    → (i : List (ℕ × ℕ)) → Identity i → All (λ n. member n (keys i) ≡ true) (lookups_of u) → cut (same (values g)) i u ≡ Some u
 tables_again = cut_same
 
 -- On calls, from bytes to bytes.

@@ -1,7 +1,6 @@
 -- Maps written as bytes: good entries are a good map, and the combined map of two good maps is good.
-use Rattle.std.specs.Prelude.{ℕ, ◌+◌, ◌*◌, ◌/◌, ◌%◌, ◌≤◌, ◌≡◌, true, List, [], ◌∷◌, length, eqb}
+use Rattle.std.specs.Prelude.{ℕ, ◌+◌, ◌*◌, ◌/◌, ◌%◌, ◌≤◌, ◌≡◌, true, List, [], ◌∷◌, length, eqb, Option, None, Some}
 use Rattle.std.proofs.Common.{ap, ◌∙◌, arith, eq-eqb}
-use Rattle.std.proofs.Math.Option.{Option, none, some}
 use Rattle.meaning.specs.Words.{entries, bytes2, flat, twos, keys, values, find, bind, push, map_some}
 use Rattle.meaning.specs.Maps.{map_entries, good_glyphs, good_lookups, glyph_entries, good_glyph_map}
 use Rattle.meaning.specs.Cut.{cut_records}
@@ -75,9 +74,9 @@ unfolding combined map_some bind push keys
 combined_up [] n low u = tt
 combined_up (e ∷ m) n low u = go (find n e.1) (combined_up m n (e.0 + 1) u.1)
   where
-    go : (o : Option ℕ) → Up (e.0 + 1) (keys (combined m n)) → Up low (keys (push (bind o (λ v. some (e.0, v))) (combined m n)))
-    go none i = lower low (e.0 + 1) (keys (combined m n)) (omega (arith, u.0)) i
-    go (some x) i = (u.0, i)
+    go : (o : Option ℕ) → Up (e.0 + 1) (keys (combined m n)) → Up low (keys (push (bind o (λ v. Some (e.0, v))) (combined m n)))
+    go None i = lower low (e.0 + 1) (keys (combined m n)) (omega (arith, u.0)) i
+    go (Some x) i = (u.0, i)
 
 -- The combined entries of two good glyph maps are a good map, if each old id of the second is a new id of the first: its new ids are those of the second.
 pub combined_good : (m n : List (ℕ × ℕ)) → GoodMap m → GoodMap n → Within m n → GoodMap (combined m n)

@@ -83,12 +83,10 @@ pub fn list_fields(
     ensures { Listed (each (at_field g second (values_at left.now p) (values_at right.now q)) (up_from 0 8)) out.old pos out.new result × (result ≤ pos + 96) }
 {
     let mut at = pos;
-    let mut i = 0;
-    while i < 8 {
+    for i in 0..8 {
         let a = value_at(left, p, i);
         let b = value_at(right, q, i);
         at = put_value(out, at, g, second, i, a, b);
-        i += 1;
     }
     at
 }

@@ -12,7 +12,7 @@ use made_tables::{
     put_same, put_same_but_last, put_shared, put_source,
 };
 use marks::Marks;
-use put_words::{put, put_byte, put_entry, put_record};
+use put_words::{put, put_entry, put_record};
 use std::io::Read;
 use subset::subset;
 use wire::{byte, word_at};
@@ -78,10 +78,8 @@ fn old_byte(i: usize) -> usize
 
 // Puts into a buffer what it holds before a call.
 fn fill(out: &mut [u8]) {
-    let mut i = 0;
-    while i < out.len() {
-        put_byte(out, i, old_byte(i));
-        i += 1;
+    for (i, b) in out.iter_mut().enumerate() {
+        *b = old_byte(i) as u8;
     }
 }
 
@@ -95,14 +93,11 @@ fn new_byte(kept: &[u8], i: usize) -> usize {
 
 // Whether the buffer holds the kept bytes at its front, and after them what it held before the call.
 fn holds(out: &[u8], kept: &[u8]) -> bool {
-    let mut i = 0;
-    while i < out.len() {
-        if byte(out, i) != new_byte(kept, i) {
-            return false;
-        }
-        i += 1;
-    }
     kept.len() <= out.len()
+        && out
+            .iter()
+            .enumerate()
+            .all(|(i, b)| *b as usize == new_byte(kept, i))
 }
 
 // Whether the call on this buffer gives this number and length, and leaves the kept bytes in the buffer.
@@ -337,6 +332,7 @@ fn run(rt: &impl Print, file: &[u8], made: usize, good: usize)
     let mut at = 0;
     let mut index = 0;
     let mut agreeing = 0;
+    // A while: a call's size says where the next one stands.
     while at < file.len() {
         let end = at + call_size(file, at);
         if file.len() < end {
@@ -559,6 +555,7 @@ fn read_calls(from: &mut impl Read, file: &mut [u8]) -> usize
     ensures { result ≤ length file.new }
 {
     let mut n = 0;
+    // A while: each read says how far it came.
     while n < file.len() {
         match from.read(&mut file[n..]) {
             Ok(more) if more > 0 => n += more,

@@ -49,17 +49,13 @@ pub fn ascending(s: &[u8], at: usize, n: usize, step: usize) -> bool
     requires { at + step * n < 0x1_0000_0000_0000_0000 }
     ensures { result ≡ ascends (column s.now step at n) }
 {
-    let mut p = at;
-    let mut left = n;
     let mut last = word_at(s, at);
-    while 1 < left {
-        let next = word_at(s, p + step);
+    for i in 1..n {
+        let next = word_at(s, at + step * i);
         if next <= last {
             return false;
         }
         last = next;
-        p += step;
-        left -= 1;
     }
     true
 }

@@ -1,4 +1,3 @@
-use Prim.Native.Nat.{◌-◌}
 use Rattle.area_parts.proofs.Classes.{counting_all, counting_on, counting_ends, counting_end}
 use Rattle.area_parts.proofs.class_runs.Goals as goal
 use Rattle.area_parts.proofs.class_runs.Goals.{then-not-same_run, else-not-same_run}

@@ -1,4 +1,3 @@
-use Prim.Native.Nat.{◌-◌}
 use Rattle.area_parts.proofs.Cover.{counting_all, counting_on, counting_ends, counting_end}
 use Rattle.area_parts.proofs.count_runs.Goals as goal
 use Rattle.area_parts.proofs.count_runs.Goals.{then-not-neighbours, else-not-neighbours}

@@ -1,4 +1,3 @@
-use Prim.Native.Nat.{◌-◌}
 use native.Mathlib.Omega.{arith}
 use Rattle.area_parts.proofs.Classes.{spreading_all, spreading_up, spreading_room, spreading_class, spreading_turn, spreading_end}
 use Rattle.laws.specs.Written.{wrote_length}

@@ -1,4 +1,3 @@
-use Prim.Native.Nat.{◌-◌}
 use Rattle.area_parts.proofs.Cover.{listing_all, listing_turn, listing_end}
 use Rattle.laws.specs.Written.{wrote_length}
 use Rattle.area_parts.proofs.put_glyphs.Goals as goal

@@ -7,11 +7,11 @@ substitute-requires c =
 
 pub returns-in_default : goal.returns-in_default
 returns-in_default c =
-    single_nothing c.args.kind c.args.src.now c.requires.0 c.args.string.now c.args.n c.args.place c.requires.1 c.if-kind-eq5.true c.word_at.ensures.0 c.substitute.ensures c.in_default.is
+    single_nothing c.args.kind c.args.src.now c.requires.0 c.args.string.now c.args.n c.args.place c.requires.1 c.if-kind-eq5.true c.word_at.ensures.0 c.substitute.ensures.says c.in_default.is
 
 pub returns-then-kind-eq5 : goal.returns-then-kind-eq5
 returns-then-kind-eq5 c =
-    single_instead c.args.kind c.args.src.now c.requires.0 c.args.string.now c.args.n c.args.place c.requires.1 c.if-kind-eq5.true c.word_at.ensures.0 c.substitute.ensures c.in-By.is
+    single_instead c.args.kind c.args.src.now c.requires.0 c.args.string.now c.args.n c.args.place c.requires.1 c.if-kind-eq5.true c.word_at.ensures.0 c.substitute.ensures.says c.in-Some.is (rw c.in-Some.is at c.substitute.ensures.small)
 
 pub match_context-requires : goal.match_context-requires
 match_context-requires c =
@@ -23,4 +23,4 @@ returns-in_default-match_context c =
 
 pub returns : goal.returns
 returns c =
-    context_rule c.args.kind c.args.src.now c.requires.0 c.args.string.now c.args.n c.args.place c.requires.1 c.if-kind-eq5.false c.match_context.ensures c.in-Rule.is
+    context_rule c.args.kind c.args.src.now c.requires.0 c.args.string.now c.args.n c.args.place c.requires.1 c.if-kind-eq5.false c.match_context.ensures c.in-Some-match_context.is

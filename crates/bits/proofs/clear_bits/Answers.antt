@@ -1,16 +1,8 @@
-use mathlib.Core.Path.{refl}
-use Prim.Native.Nat.{◌-◌}
-use Rattle.bits.proofs.Laws.{clearing_none, clearing_turn, clearing_end}
+use Prim.Native.Nat.{◌+◌, ◌-◌}
+use native.Mathlib.Omega.{arith}
+use Rattle.cells.specs.Filled.{filled}
+use Rattle.bits.proofs.Laws.{cleared}
 use Rattle.bits.proofs.clear_bits.Goals as goal
 
-pub loop-i-init : goal.loop-i-init
-loop-i-init c = clearing_none c.requires
-
-pub loop-i-preserved : goal.loop-i-preserved
-loop-i-preserved c = clearing_turn c.loop-i.invariant c.loop-i-test.true refl
-
-pub shape_of-t : goal.shape_of-t
-shape_of-t c = c.loop-i.invariant.size
-
 pub returns : goal.returns
-returns c = clearing_end c.loop-i.invariant c.loop-i-test.false
+returns c = cleared (filled c.args.t.now c.args.at (c.args.at + c.args.n - c.args.at) (c.args.at + c.args.n) (omega arith) c.requires (c.fill.ensures.after (λ y e. e)))

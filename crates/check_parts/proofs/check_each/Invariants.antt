@@ -1,16 +1,14 @@
-use mathlib.Core.Path.{◌≡◌}
-use Prim.Native.Nat.{◌-◌}
-use lib.ListN.{length}
-use mathlib.Core.Option.{none}
+use Rattle.std.specs.Prelude.{None}
+use Rattle.laws.specs.FaultsLeft.{Checking}
 use Rattle.gsubgpos.specs.Marks.{Marked}
-use Rattle.faults.specs.Reached.{Lowest}
 use Rattle.check_parts.specs.Parts.{fault_of_part, member_of_part}
 use Rattle.check_parts.specs.Seen.{Seen}
 use Rattle.check_parts.proofs.check_each.Given as goal
 
 abbrev pub invariant-loop-i : goal.invariant-loop-i
 invariant-loop-i l =
-    Lowest (fault_of_part l.part l.src) l.src 0 l.slot l.n l.low l.i × Seen (fault_of_part l.part l.src) l.low l.marks × Marked (member_of_part l.part l.src) none l.sound × (length l.marks ≡ length l.initial.marks) × (length l.sound ≡ length l.initial.sound)
-
-abbrev pub decreases-loop-i : goal.decreases-loop-i
-decreases-loop-i l = l.n - l.i
+    record {
+      lowest : Checking (fault_of_part l.part l.src) l.src 0 l.slot l.n l.low l.i;
+      seen : Seen (fault_of_part l.part l.src) l.low l.marks;
+      marked : Marked (member_of_part l.part l.src) None l.sound;
+    }

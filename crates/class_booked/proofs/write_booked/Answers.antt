@@ -1,5 +1,6 @@
+use Rattle.std.proofs.lemmas.Result.{err_from_is_err_and}
 use Rattle.class_slots.proofs.Turns.{wrote_said}
-use Rattle.class_spots.specs.Sets.{slots_near}
+use Rattle.class_places.specs.Places.{slots_near}
 use Rattle.class_booked.proofs.Handing.{room_told, mode_kept, enough_kept, finished_said, short_slots, none_left, may_finish, short_table, first_near, table_laid}
 use mathlib.Core.Path.{◌∙◌}
 use native.Mathlib.Omega.{arith}
@@ -39,5 +40,10 @@ hand_over-requires c =
     let n = first_near c.requires.0 (wrote_said c.requires.2.mode c.write_slots-slots.ensures.0) c.args.out.now c.if-area-slots.false c.if-slots-eq0.false (finished_said (mode_kept c.book-1.given c.requires.2.mode) c.finish-end.ensures) c.if-area-end.false in
     (omega (arith, f.few), omega (arith, n, c.slots_at-at.ensures), c.if-area-end.false)
 
+pub returns-in_err-hand_over : goal.returns-in_err-hand_over
+returns-in_err-hand_over c =
+    let p = err_from_is_err_and c.from_residual.result c.from_residual.ensures.1 in
+    rw (p.1, p.2) (table_laid c.requires.0 (wrote_said c.requires.2.mode c.write_slots-slots.ensures.0) c.args.out.now c.if-area-slots.false c.if-slots-eq0.false (finished_said (mode_kept c.book-1.given c.requires.2.mode) c.finish-end.ensures) c.if-area-end.false c.slots_at-at.ensures c.in_err-hand_over.ensures)
+
 pub returns : goal.returns
-returns c = table_laid c.requires.0 (wrote_said c.requires.2.mode c.write_slots-slots.ensures.0) c.args.out.now c.if-area-slots.false c.if-slots-eq0.false (finished_said (mode_kept c.book-1.given c.requires.2.mode) c.finish-end.ensures) c.if-area-end.false c.slots_at-at.ensures c.hand_over.ensures
+returns c = table_laid c.requires.0 (wrote_said c.requires.2.mode c.write_slots-slots.ensures.0) c.args.out.now c.if-area-slots.false c.if-slots-eq0.false (finished_said (mode_kept c.book-1.given c.requires.2.mode) c.finish-end.ensures) c.if-area-end.false c.slots_at-at.ensures c.in_ok-hand_over.ensures

@@ -3,11 +3,11 @@ use Prim.Native.Nat.{ℕ, ◌-◌, ◌*◌}
 use native.Mathlib.Omega.{arith}
 use lib.ListN.{length}
 use Rattle.numbers.specs.Entries.{entries_in}
-use Rattle.numbers.proofs.Numbers.{cell_new, cell_gone}
+use Rattle.numbers.proofs.Numbers.{found_in}
 use Rattle.class_formats.proofs.Using.{mul_small}
 use Rattle.class_cells.proofs.Writing.{rows_all, rows_row, rows_inside, row_gone, row_kept, rows_full, rows_turn, rows_end, rows_silent}
 use Rattle.class_cells.proofs.write_rows.Goals as goal
-use Rattle.class_cells.proofs.write_rows.Goals.{in-New, in_default}
+use Rattle.class_cells.proofs.write_rows.Goals.{in-Some, in_default}
 
 pub returns-then-places-eq0 : goal.returns-then-places-eq0
 returns-then-places-eq0 c =
@@ -35,15 +35,15 @@ write_row-q-requires c =
 pub shape_of-area-then-area-q : goal.shape_of-area-then-area-q
 shape_of-area-then-area-q c =
     elim c.match-find.branch [
-      | in-New w ↦ ap length w.area-is ∙ w.write_row-q.ensures.same ∙ c.loop-c.invariant.same
+      | in-Some w ↦ ap length w.area-is ∙ w.write_row-q.ensures.same ∙ c.loop-c.invariant.same
       | in_default w ↦ ap length w.area-is ∙ c.loop-c.invariant.same
     ]
 
 pub returns-then-area-q : goal.returns-then-area-q
 returns-then-area-q c =
     elim c.match-find.branch [
-      | in-New w ↦ rw (w.area-is, w.q-is) (rows_full c.loop-c.invariant c.loop-c-test.true (row_kept c.loop-c.invariant c.loop-c-test.true (cell_new c.requires.2 c.find.ensures w.in-New.is) w.write_row-q.ensures) (rw (w.area-is, w.q-is) at c.if-area-q.true))
-      | in_default w ↦ rw (w.area-is, w.q-is) (rows_full c.loop-c.invariant c.loop-c-test.true (row_gone c.loop-c.invariant c.loop-c-test.true (cell_gone c.requires.2 c.find.ensures w.in_default.is)) (rw (w.area-is, w.q-is) at c.if-area-q.true))
+      | in-Some w ↦ rw (w.area-is, w.q-is) (rows_full c.loop-c.invariant c.loop-c-test.true (row_kept c.loop-c.invariant c.loop-c-test.true (found_in _ c.requires.2 w.in-Some.ensures.answer) w.write_row-q.ensures) (rw (w.area-is, w.q-is) at c.if-area-q.true))
+      | in_default w ↦ rw (w.area-is, w.q-is) (rows_full c.loop-c.invariant c.loop-c-test.true (row_gone c.loop-c.invariant c.loop-c-test.true (found_in _ c.requires.2 w.in_default.ensures.answer)) (rw (w.area-is, w.q-is) at c.if-area-q.true))
     ]
 
 pub overflow_add-p : goal.overflow_add-p
@@ -52,8 +52,8 @@ overflow_add-p c = omega (arith, rows_row c.loop-c.invariant c.loop-c-test.true)
 pub loop-c-preserved : goal.loop-c-preserved
 loop-c-preserved c =
     elim c.match-find.branch [
-      | in-New w ↦ rw (w.area-is, w.q-is) (rows_turn c.loop-c.invariant c.loop-c-test.true (row_kept c.loop-c.invariant c.loop-c-test.true (cell_new c.requires.2 c.find.ensures w.in-New.is) w.write_row-q.ensures) (rw (w.area-is, w.q-is) at c.if-area-q.false))
-      | in_default w ↦ rw (w.area-is, w.q-is) (rows_turn c.loop-c.invariant c.loop-c-test.true (row_gone c.loop-c.invariant c.loop-c-test.true (cell_gone c.requires.2 c.find.ensures w.in_default.is)) (rw (w.area-is, w.q-is) at c.if-area-q.false))
+      | in-Some w ↦ rw (w.area-is, w.q-is) (rows_turn c.loop-c.invariant c.loop-c-test.true (row_kept c.loop-c.invariant c.loop-c-test.true (found_in _ c.requires.2 w.in-Some.ensures.answer) w.write_row-q.ensures) (rw (w.area-is, w.q-is) at c.if-area-q.false))
+      | in_default w ↦ rw (w.area-is, w.q-is) (rows_turn c.loop-c.invariant c.loop-c-test.true (row_gone c.loop-c.invariant c.loop-c-test.true (found_in _ c.requires.2 w.in_default.ensures.answer)) (rw (w.area-is, w.q-is) at c.if-area-q.false))
     ]
 
 pub shape_of-area : goal.shape_of-area

@@ -1,6 +1,5 @@
 use Rattle.listing.specs.Listed.{listed_length}
 use Rattle.set_differences.proofs.Going.{going_none, going_fit, going_turn, going_end}
-use Prim.Native.Nat.{◌-◌}
 use native.Mathlib.Omega.{arith}
 use Rattle.class_differences.proofs.list_numbered.Goals as goal
 

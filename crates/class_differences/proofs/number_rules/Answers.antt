@@ -9,4 +9,4 @@ number_tables-requires c =
 pub returns : goal.returns
 returns c =
     told_classes c.args.chained (λ i. omega (arith, c.type_inv.left i)) (λ i. omega (arith, c.type_inv.right i)) c.requires.0 c.requires.1
-    c.number_tables.ensures.0 c.shape_of-shape.ensures c.first_slot-first.ensures.0 c.number_all.ensures
+    c.number_tables.ensures.0 c.shape_of-shape.ensures c.slots_at-first.ensures c.number_all.ensures

@@ -1,5 +1,5 @@
 use Rattle.known_blocks.specs.Book.{packs}
-use Rattle.class_spots.specs.Sets.{slots_near}
+use Rattle.class_places.specs.Places.{slots_near}
 use Rattle.class_finish.proofs.Finishing.{tail_places, finish_table}
 use native.Mathlib.Omega.{arith}
 use Rattle.class_finish.proofs.finish.Goals as goal

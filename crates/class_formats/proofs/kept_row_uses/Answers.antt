@@ -1,18 +1,16 @@
-use Rattle.meaning.specs.Words.{is_some}
-use Rattle.numbers.proofs.Numbers.{cell_new, cell_gone}
+use Rattle.numbers.proofs.Numbers.{found_some}
 use Rattle.class_formats.proofs.kept_row_uses.Goals as goal
 
 pub find-requires : goal.find-requires
 find-requires c = c.requires.2
 
 pub row_uses-requires : goal.row_uses-requires
-row_uses-requires c =
-    (c.requires.0, c.requires.1, c.requires.3)
+row_uses-requires c = (c.requires.0, c.requires.1, c.requires.3)
 
-pub returns-in-New : goal.returns-in-New
-unfolding is_some
-returns-in-New c = rw (cell_new c.requires.2 c.find.ensures c.in-New.is) c.row_uses.ensures
+pub returns-then-is_some : goal.returns-then-is_some
+returns-then-is_some c =
+    rw (← found_some _ c.requires.2 c.find.ensures.answer, ← c.is_some.ensures, c.if-is_some.true) c.row_uses.ensures
 
-pub returns-in-Gone : goal.returns-in-Gone
-unfolding is_some
-returns-in-Gone c = rw (cell_gone c.requires.2 c.find.ensures c.in-Gone.is)
+pub returns-else-is_some : goal.returns-else-is_some
+returns-else-is_some c =
+    rw (← found_some _ c.requires.2 c.find.ensures.answer, ← c.is_some.ensures, c.if-is_some.false)

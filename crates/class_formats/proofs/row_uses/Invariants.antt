@@ -5,6 +5,3 @@ use Rattle.class_formats.proofs.row_uses.Given as goal
 
 abbrev pub invariant-cells : goal.invariant-cells
 invariant-cells l = UsingCells (entries_in l.t l.seconds) l.src l.size l.place l.p l.n l.cell l.c
-
-abbrev pub decreases-cells : goal.decreases-cells
-decreases-cells l = l.n - l.c

@@ -1,6 +1,7 @@
+use mathlib.Core.Path.{◌∙◌}
 use Rattle.numbers.specs.Entries.{entries_in}
-use Rattle.numbers.proofs.Numbers.{cell_new, cell_gone}
-use Rattle.class_formats.proofs.Using.{speaks_silent, speaks_kept, speaks_gone}
+use Rattle.numbers.proofs.Numbers.{found_some}
+use Rattle.class_formats.proofs.Using.{speaks_silent, speaks_if}
 use Rattle.class_formats.proofs.speaks.Goals as goal
 
 pub returns-then-value-eq0 : goal.returns-then-value-eq0
@@ -10,10 +11,6 @@ returns-then-value-eq0 c =
 pub find-requires : goal.find-requires
 find-requires c = c.requires.1
 
-pub returns-in-New : goal.returns-in-New
-returns-in-New c =
-    speaks_kept (entries_in c.args.t.now c.args.seconds) c.args.src.now c.args.p c.args.place c.args.c c.value_at-value.ensures c.if-value-eq0.false (cell_new c.requires.1 c.find.ensures c.in-New.is)
-
-pub returns-in-Gone : goal.returns-in-Gone
-returns-in-Gone c =
-    speaks_gone (entries_in c.args.t.now c.args.seconds) c.args.src.now c.args.p c.args.place c.args.c c.value_at-value.ensures c.if-value-eq0.false (cell_gone c.requires.1 c.find.ensures c.in-Gone.is)
+pub returns : goal.returns
+returns c =
+    speaks_if (entries_in c.args.t.now c.args.seconds) c.args.src.now c.args.p c.args.place c.args.c c.value_at-value.ensures c.if-value-eq0.false (c.is_some.ensures ∙ found_some _ c.requires.1 c.find.ensures.answer)

@@ -1,5 +1,5 @@
 use Rattle.member_sets.specs.Dead.{dead_none}
-use Rattle.class_spots.specs.Sets.{slots_near}
+use Rattle.class_places.specs.Places.{slots_near}
 use native.Mathlib.Omega.{arith}
 use Rattle.class_layouts.proofs.write_left.Goals as goal
 

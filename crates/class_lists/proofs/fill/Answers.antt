@@ -1,7 +1,6 @@
 use Rattle.class_lists.proofs.Listing.{filling_in, filling_put}
 use Rattle.class_lists.proofs.Listing.{filling_all, filling_end, filling_stops, filling_last, filling_next}
-use mathlib.Core.Path.{◌∙◌}
-use Prim.Native.Nat.{◌-◌}
+use mathlib.Core.Path.{◌≡◌, ◌∙◌}
 use native.Mathlib.Omega.{arith}
 use Rattle.class_lists.proofs.fill.Goals as goal
 
@@ -30,10 +29,6 @@ returns-then-end-past c =
     filling_last c.loop-e.invariant (rw c.count_runs-n.ensures at c.loop-e-test.true) c.run_at-r.ensures c.greater-first.ensures
     c.if-end-first.false c.if-end-past.true c.put_run-to.ensures
 
-pub overflow_sub-past : goal.overflow_sub-past
-overflow_sub-past c =
-    omega (arith, filling_in c.loop-e.invariant (rw c.count_runs-n.ensures at c.loop-e-test.true) c.run_at-r.ensures c.greater-first.ensures)
-
 pub put_run-to-requires-in-loop-e : goal.put_run-to-requires-in-loop-e
 put_run-to-requires-in-loop-e c =
     let h = rw c.count_runs-n.ensures at c.loop-e-test.true in
@@ -48,4 +43,6 @@ pub shape_of-t : goal.shape_of-t
 shape_of-t c = c.loop-e.invariant.kept.size
 
 pub returns : goal.returns
-returns c = filling_end c.loop-e.invariant (rw c.count_runs-n.ensures at c.loop-e-test.false)
+returns c =
+    let e : c.loop-e.e ≡ c.count_runs-n.result = omega (arith, c.loop-e.invariant.reached.within, c.count_runs-n.ensures, c.loop-e-test.false) in
+    rw e at (filling_end c.loop-e.invariant (rw c.count_runs-n.ensures at c.loop-e-test.false))

@@ -1,6 +1,4 @@
-use Rattle.class_lists.proofs.Listing.{listing_all, listing_end, listing_hint, listing_fill, listing_on, listing_next}
-use Prim.Native.Nat.{◌-◌}
-use native.Mathlib.Omega.{arith}
+use Rattle.class_lists.proofs.Listing.{listing_all, listing_end, listing_hint, listing_fill, listing_next}
 use Rattle.class_lists.proofs.list_classes.Goals as goal
 
 pub loop-run-init : goal.loop-run-init
@@ -16,10 +14,6 @@ stretch_from-found-requires c =
 pub list_stretch-place-requires : goal.list_stretch-place-requires
 list_stretch-place-requires c =
     listing_fill c.loop-run.invariant (rw c.count_runs-n.ensures at c.loop-run-test.true) c.run_at-r.ensures c.greater-glyph.ensures c.stretch_from-found.ensures
-
-pub loop-run-smaller : goal.loop-run-smaller
-loop-run-smaller c =
-    omega (arith, c.stretch_from-found.ensures.stretch.end, listing_on c.loop-run.invariant (rw c.count_runs-n.ensures at c.loop-run-test.true) c.run_at-r.ensures c.greater-glyph.ensures c.stretch_from-found.ensures)
 
 pub loop-run-preserved : goal.loop-run-preserved
 loop-run-preserved c =

@@ -1,6 +1,5 @@
 use Rattle.class_lists.proofs.Listing.{put_none, putting_all, putting_inside, putting_next, putting_end}
 use mathlib.Core.Path.{refl}
-use Prim.Native.Nat.{◌-◌}
 use Rattle.class_lists.proofs.put_run.Goals as goal
 
 pub returns-then-t-past : goal.returns-then-t-past

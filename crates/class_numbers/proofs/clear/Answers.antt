@@ -1,19 +1,12 @@
-use Prim.Native.Nat.{◌-◌}
+use Prim.Native.Nat.{◌+◌, ◌-◌}
 use native.Mathlib.Omega.{arith}
-use Rattle.class_strays.proofs.Walking.{clearing_none, clearing_turn, clearing_end}
+use Rattle.cells.specs.Filled.{filled}
 use Rattle.class_numbers.proofs.clear.Goals as goal
 
-pub loop-c-init : goal.loop-c-init
-loop-c-init c = (clearing_none, omega arith)
-
-pub bounds-t-base : goal.bounds-t-base
-bounds-t-base c = omega (arith, c.loop-c.invariant.0.elsewhere.size)
-
-pub loop-c-preserved : goal.loop-c-preserved
-loop-c-preserved c = (clearing_turn c.loop-c.invariant.0 (omega arith), omega arith)
-
-pub shape_of-t : goal.shape_of-t
-shape_of-t c = c.loop-c.invariant.0.elsewhere.size
-
 pub returns : goal.returns
-returns c = clearing_end c.loop-c.invariant.0 c.loop-c.invariant.1 c.loop-c-test.false
+returns c =
+    let f = filled c.args.t.now c.args.base (c.args.base + 65536 - c.args.base) (c.args.base + 65536) (omega arith) c.requires (c.fill.ensures.after (λ y e. e)) in
+    record {
+      each = λ i l. f.blank (c.args.base + i) (omega arith) (omega arith);
+      elsewhere = record { size = f.size; before = f.before; after = f.behind };
+    }

@@ -1,5 +1,3 @@
-use Prim.Native.Nat.{◌-◌}
-use native.Mathlib.Omega.{arith}
 use Rattle.class_strays.proofs.Walking.{found_holds, finding_none, finding_turn, finding_end}
 use Rattle.class_numbers.proofs.put_lowest.Goals as goal
 
@@ -9,18 +7,9 @@ loop-g-init c = finding_none c.requires.1 c.clear.ensures
 pub stretch_from-s-requires : goal.stretch_from-s-requires
 stretch_from-s-requires c = (c.requires.0, c.loop-g.invariant.hint, c.loop-g-test.true)
 
-pub overflow_add-g-in-loop-g : goal.overflow_add-g-in-loop-g
-overflow_add-g-in-loop-g c = omega (arith, c.stretch_from-s.ensures.stretch.end)
-
-pub loop-g-smaller : goal.loop-g-smaller
-loop-g-smaller c = omega (arith, c.stretch_from-s.ensures.stretch.holds, c.loop-g-test.true)
-
 pub loop-g-preserved : goal.loop-g-preserved
 loop-g-preserved c =
     finding_turn c.loop-g.invariant (found_holds c.stretch_from-s.ensures) c.put_first.ensures
-
-pub shape_of-t : goal.shape_of-t
-shape_of-t c = omega (arith, c.loop-g.invariant.lowest.elsewhere.size, c.clear.ensures.elsewhere.size)
 
 pub returns : goal.returns
 returns c = finding_end c.clear.ensures c.loop-g.invariant c.loop-g-test.false

@@ -1,5 +1,4 @@
 use mathlib.Core.Path.{refl, ap, ◌∙◌}
-use Prim.Native.Nat.{◌-◌}
 use lib.ListN.{length}
 use lib.Seq.{length-sets}
 use Rattle.class_spots.proofs.Settling.{settling_all, settling_turn, settling_end}

@@ -1,11 +1,10 @@
 use mathlib.Core.Path.{refl, sym, ap, ◌∙◌}
-use Prim.Native.Nat.{◌-◌}
 use native.Mathlib.Omega.{arith}
 use lib.Dec.{ltb}
 use Rattle.ranked_maps.specs.Present.{top_small}
-use Rattle.class_spots.specs.Sets.{slots_near}
+use Rattle.class_places.specs.Places.{slots_near}
 use Rattle.class_slots.proofs.Filling.{filling_null, filling_set, filling_full}
-use Rattle.class_slots.proofs.Turns.{found_some, found_none, few_classes, turning_all, wrote_short, wrote_said, asked, turning_skip, turning_here, turn_asked, turned, wrote_full, wrote_all}
+use Rattle.class_slots.proofs.Turns.{is_found, not_found, few_classes, turning_all, wrote_short, wrote_said, asked, turning_skip, turning_here, turn_asked, turned, wrote_full, wrote_all}
 use Rattle.class_slots.proofs.write_slots.Goals as goal
 
 pub overflow_mul-first : goal.overflow_mul-first
@@ -21,45 +20,33 @@ pub loop-class-init : goal.loop-class-init
 loop-class-init c =
     (turning_all c.requires.0 c.slots_at-slots.ensures refl (omega arith) (sym (ap (ltb 1) c.begin.ensures.same)) c.begin.ensures (λ t. c.requires.3 (sym (ap (ltb 1) c.begin.ensures.same) ∙ t)), c.requires.2, refl, refl)
 
-pub overflow_add-class : goal.overflow_add-class
-overflow_add-class c = omega (arith, top_small c.args.maps.input c.requires.0.few)
-
-pub find-requires : goal.find-requires
-find-requires c = c.requires.0.inside.input
+pub overflow_add-class-end : goal.overflow_add-class-end
+overflow_add-class-end c = omega (arith, top_small c.args.maps.input c.requires.0.few)
 
 pub loop-class-preserved-in_default : goal.loop-class-preserved-in_default
 loop-class-preserved-in_default c =
-    (turning_skip c.requires.0 c.slots_at-slots.ensures refl c.loop-class.invariant.0 (omega arith) (found_none c.find.ensures c.in_default.is), c.loop-class.invariant.1, c.loop-class.invariant.2, c.loop-class.invariant.3)
+    (turning_skip c.requires.0 c.slots_at-slots.ensures refl c.loop-class.invariant.0 (omega arith) (not_found c.in_default.ensures.answer), c.loop-class.invariant.1, c.loop-class.invariant.2, c.loop-class.invariant.3)
 
 pub set_place-requires : goal.set_place-requires
 set_place-requires c = asked c.requires.0 c.slots_at-slots.ensures refl (omega arith)
 
-pub overflow_mul-turn : goal.overflow_mul-turn
-overflow_mul-turn c = omega (arith, c.loop-class.invariant.0.few, c.slots_at-slots.ensures, slots_near c.args.chained)
-
-pub overflow_add-turn : goal.overflow_add-turn
-overflow_add-turn c = omega (arith, c.loop-class.invariant.0.few, c.slots_at-slots.ensures, slots_near c.args.chained)
-
-pub overflow_add-k : goal.overflow_add-k
-overflow_add-k c = omega (arith, c.loop-class.invariant.0.few)
-
 pub place_set-q-requires : goal.place_set-q-requires
 place_set-q-requires c =
-    (turn_asked c.requires.0 c.slots_at-slots.ensures refl c.loop-class.invariant.0 (omega arith) (found_some c.find.ensures c.in-New.is) c.set_place.ensures, c.loop-class.invariant.1)
+    (turn_asked c.requires.0 c.slots_at-slots.ensures refl c.loop-class.invariant.0 (omega arith) (is_found c.in-Some.ensures.answer) c.set_place.ensures, c.loop-class.invariant.1)
 
 pub returns-then-area-q : goal.returns-then-area-q
 returns-then-area-q c =
-    let h = turning_here c.requires.0 c.slots_at-slots.ensures refl c.loop-class.invariant.0 (omega arith) (found_some c.find.ensures c.in-New.is) c.set_place.ensures in
+    let h = turning_here c.requires.0 c.slots_at-slots.ensures refl c.loop-class.invariant.0 (omega arith) (is_found c.in-Some.ensures.answer) c.set_place.ensures in
     (wrote_said (ap (ltb 1) c.begin.ensures.same) (wrote_full c.requires.0 c.slots_at-slots.ensures refl c.loop-class.invariant.0 c.place_set-q.ensures.0.same (omega arith) (λ m. filling_full _ _ _ _ _ _ _ _ c.set_place.result h c.place_set-q.ensures.0 c.if-area-q.true m)), c.place_set-q.ensures.1)
 
 pub loop-class-preserved-then-q-eq0 : goal.loop-class-preserved-then-q-eq0
 loop-class-preserved-then-q-eq0 c =
-    let h = turning_here c.requires.0 c.slots_at-slots.ensures refl c.loop-class.invariant.0 (omega arith) (found_some c.find.ensures c.in-New.is) c.set_place.ensures in
+    let h = turning_here c.requires.0 c.slots_at-slots.ensures refl c.loop-class.invariant.0 (omega arith) (is_found c.in-Some.ensures.answer) c.set_place.ensures in
     (turned c.requires.0 c.slots_at-slots.ensures refl c.loop-class.invariant.0 (omega arith) (filling_null _ _ _ _ _ _ _ _ c.set_place.result h c.place_set-q.ensures.0 c.if-q-eq0.true), c.place_set-q.ensures.1, c.dead-1.given ∙ c.loop-class.invariant.2, c.book-in-loop-class-1.given ∙ c.loop-class.invariant.3)
 
 pub loop-class-preserved : goal.loop-class-preserved
 loop-class-preserved c =
-    let h = turning_here c.requires.0 c.slots_at-slots.ensures refl c.loop-class.invariant.0 (omega arith) (found_some c.find.ensures c.in-New.is) c.set_place.ensures in
+    let h = turning_here c.requires.0 c.slots_at-slots.ensures refl c.loop-class.invariant.0 (omega arith) (is_found c.in-Some.ensures.answer) c.set_place.ensures in
     (turned c.requires.0 c.slots_at-slots.ensures refl c.loop-class.invariant.0 (omega arith) (filling_set _ _ _ _ _ _ _ _ c.set_place.result h c.place_set-q.ensures.0 c.if-q-eq0.false c.if-area-q.false), c.place_set-q.ensures.1, c.dead-1.given ∙ c.loop-class.invariant.2, c.book-in-loop-class-1.given ∙ c.loop-class.invariant.3)
 
 pub shape_of-area : goal.shape_of-area

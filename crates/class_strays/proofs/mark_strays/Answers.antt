@@ -1,6 +1,5 @@
-use Prim.Native.Nat.{◌-◌}
 use native.Mathlib.Omega.{arith}
-use Rattle.class_strays.proofs.Walking.{found_holds, straying_none, straying_far, straying_low, straying_turn, straying_end}
+use Rattle.class_strays.proofs.Walking.{found_holds, straying_none, straying_turn, straying_end}
 use Rattle.class_strays.proofs.mark_strays.Goals as goal
 
 pub loop-g-init : goal.loop-g-init
@@ -16,14 +15,6 @@ onward-r-requires c = (c.requires.1, c.loop-g.invariant.rights, c.loop-g-test.tr
 pub compare_lowest-requires : goal.compare_lowest-requires
 compare_lowest-requires c =
     (omega (arith, c.loop-g.invariant.room, c.loop-g.invariant.elsewhere.size), c.onward-l.ensures.0.small, c.onward-r.ensures.0.small)
-
-pub overflow_add-g : goal.overflow_add-g
-overflow_add-g c =
-    omega (arith, straying_low c.loop-g.invariant c.loop-g-test.true c.onward-l.ensures c.onward-r.ensures c.compare_lowest.ensures c.lower-g.ensures)
-
-pub loop-g-smaller : goal.loop-g-smaller
-loop-g-smaller c =
-    omega (arith, c.loop-g-test.true, straying_far c.loop-g.invariant c.loop-g-test.true c.onward-l.ensures c.onward-r.ensures c.compare_lowest.ensures c.lower-g.ensures)
 
 pub loop-g-preserved : goal.loop-g-preserved
 loop-g-preserved c =

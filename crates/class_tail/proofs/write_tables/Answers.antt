@@ -1,4 +1,4 @@
-use Rattle.class_spots.specs.Sets.{slots_near}
+use Rattle.class_places.specs.Places.{slots_near}
 use Rattle.remade_classes.specs.Tail.{tail_many}
 use Rattle.class_tail.proofs.Laying.{tables_laid}
 use native.Mathlib.Omega.{arith}

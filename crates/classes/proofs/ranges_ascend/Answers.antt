@@ -1,5 +1,4 @@
 use Rattle.classes.proofs.Checking.{ascending_all, ascending_low, ascending_back, ascending_turn, ascending_end}
-use Prim.Native.Nat.{◌-◌}
 use Rattle.classes.proofs.ranges_ascend.Goals as goal
 
 pub loop-i-init : goal.loop-i-init

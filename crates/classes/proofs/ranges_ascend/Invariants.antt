@@ -1,9 +1,5 @@
 use Rattle.classes.proofs.Checking.{Ascending}
-use Prim.Native.Nat.{◌-◌}
 use Rattle.classes.proofs.ranges_ascend.Given as goal
 
 abbrev pub invariant-loop-i : goal.invariant-loop-i
 invariant-loop-i l = Ascending l.src l.at l.n l.low l.i
-
-abbrev pub decreases-loop-i : goal.decreases-loop-i
-decreases-loop-i l = l.n - l.i

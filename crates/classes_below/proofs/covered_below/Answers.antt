@@ -1,7 +1,6 @@
 use Rattle.meaning.specs.Parts.{coverage}
 use Rattle.covered_between.proofs.Stretching.{left_all}
 use Rattle.covered_between.proofs.Counting.{in_order_lem, covered_next, covered_past, covered_end}
-use Prim.Native.Nat.{◌-◌}
 use native.Mathlib.Omega.{arith}
 use Rattle.classes_below.proofs.covered_below.Goals as goal
 

@@ -1,11 +1,7 @@
 use Rattle.meaning.specs.Parts.{coverage}
 use Rattle.covered_between.specs.Stretches.{stretches}
 use Rattle.covered_between.proofs.Stretching.{Left, clear}
-use Prim.Native.Nat.{◌-◌}
 use Rattle.classes_below.proofs.covered_below.Given as goal
 
 abbrev pub invariant-loop-i : goal.invariant-loop-i
 invariant-loop-i l = Left (clear l.n (coverage l.src l.cover)) (stretches l.src l.at) l.i
-
-abbrev pub decreases-loop-i : goal.decreases-loop-i
-decreases-loop-i l = l.k - l.i

@@ -1,6 +1,5 @@
 use Rattle.covered_between.proofs.Stretching.{left_all}
 use Rattle.covered_between.proofs.Counting.{listed_next, listed_past, listed_end}
-use Prim.Native.Nat.{◌-◌}
 use native.Mathlib.Omega.{arith}
 use Rattle.classes_below.proofs.listed_below.Goals as goal
 

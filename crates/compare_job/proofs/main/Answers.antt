@@ -9,10 +9,10 @@ pub slice_bounds-read_input-end : goal.slice_bounds-read_input-end
 slice_bounds-read_input-end c = sym (length-replicate {A = ℕ} 600001 0)
 
 pub slice_bounds-file-end : goal.slice_bounds-file-end
-slice_bounds-file-end c = c.in-Bytes.ensures.within
+slice_bounds-file-end c = c.in-Ok.ensures.within
 
 pub slice_bounds-answer-end : goal.slice_bounds-answer-end
-slice_bounds-answer-end c = sym (length-take-le c.in-Bytes.n c.read_input.new.file c.in-Bytes.ensures.within)
+slice_bounds-answer-end c = sym (length-take-le c.in-Ok.n c.read_input.new.file c.in-Ok.ensures.within)
 
 pub slice_bounds-answer-end-2 : goal.slice_bounds-answer-end-2
 unfolding text_room

@@ -4,6 +4,3 @@ use Rattle.cover_parts.proofs.most_row.Given as goal
 
 abbrev pub invariant-loop-i : goal.invariant-loop-i
 invariant-loop-i l = Counting l.form l.glyphs l.src l.row l.least l.r l.i
-
-abbrev pub decreases-loop-i : goal.decreases-loop-i
-decreases-loop-i l = l.row.len - l.i

@@ -5,6 +5,3 @@ use Rattle.cover_rows.proofs.write_row.Given as goal
 
 abbrev pub invariant-loop-i : goal.invariant-loop-i
 invariant-loop-i l = Rowing (glyph_entries l.held.form l.glyphs) l.src l.row l.held.map l.initial.t l.initial.area l.places l.initial.book l.t l.area l.book l.p l.i
-
-abbrev pub decreases-loop-i : goal.decreases-loop-i
-decreases-loop-i l = l.row.len - l.i

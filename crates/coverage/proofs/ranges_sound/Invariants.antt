@@ -4,6 +4,3 @@ use Rattle.coverage.proofs.ranges_sound.Given as goal
 
 abbrev pub invariant-loop-i : goal.invariant-loop-i
 invariant-loop-i l = Checking l.src l.at l.n l.low l.before l.i
-
-abbrev pub decreases-loop-i : goal.decreases-loop-i
-decreases-loop-i l = l.n - l.i

@@ -1,22 +1,11 @@
 use Rattle.covered_classes.proofs.Covering.{covering_all, covering_list, covering_inside, covering_next, covering_end}
-use Prim.Native.Nat.{◌+◌, ◌-◌}
-use native.Mathlib.Omega.{arith}
 use Rattle.covered_classes.proofs.mark_met.Goals as goal
 
 pub loop-j-init : goal.loop-j-init
 loop-j-init c = covering_all c.requires
 
-pub overflow_add-new : goal.overflow_add-new
-overflow_add-new c = omega (arith, covering_inside c.loop-j.invariant c.loop-j-test.true, c.loop-j.invariant.kept.size, c.well_formed)
-
-pub offset_bounds-t-noted : goal.offset_bounds-t-noted
-offset_bounds-t-noted c = omega (arith, covering_inside c.loop-j.invariant c.loop-j-test.true, c.loop-j.invariant.kept.size, c.well_formed)
-
 pub bounds-t-noted : goal.bounds-t-noted
 bounds-t-noted c = covering_inside c.loop-j.invariant c.loop-j-test.true
-
-pub overflow_cast-new : goal.overflow_cast-new
-overflow_cast-new c = omega (arith, c.slice_known-in-loop-j-1.given (c.args.noted + c.loop-j.j))
 
 pub pass_below-k-requires : goal.pass_below-k-requires
 pass_below-k-requires c = (covering_list c.loop-j.invariant, c.loop-j.invariant.near)

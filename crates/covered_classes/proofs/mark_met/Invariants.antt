@@ -1,9 +1,5 @@
 use Rattle.covered_classes.proofs.Covering.{Covering}
-use Prim.Native.Nat.{◌-◌}
 use Rattle.covered_classes.proofs.mark_met.Given as goal
 
 abbrev pub invariant-loop-j : goal.invariant-loop-j
 invariant-loop-j l = Covering l.initial.t l.t l.noted l.n l.list l.len l.marks l.k l.j
-
-abbrev pub decreases-loop-j : goal.decreases-loop-j
-decreases-loop-j l = l.n - l.j

@@ -5,6 +5,3 @@ use Rattle.covered_map.proofs.put_covered.Given as goal
 
 abbrev pub invariant-loop-i : goal.invariant-loop-i
 invariant-loop-i l = Naming (coverage l.src l.cover) l.t l.at l.n l.initial.area l.area l.p l.i
-
-abbrev pub decreases-loop-i : goal.decreases-loop-i
-decreases-loop-i l = l.n - l.i

@@ -1,3 +1,5 @@
+use Rattle.std.proofs.Common.{Ok, Err}
+use Rattle.std.proofs.lemmas.Result.{err_from_is_err_and}
 use Rattle.cover_layouts.proofs.Cut.{hands_nothing, hands_short, hands_big, hands_over}
 use Rattle.covers.proofs.settle.Goals as goal
 
@@ -10,5 +12,10 @@ returns-then-area-lt-AREA c = hands_short c.if-area-lt-AREA.true
 pub returns-then-area-end : goal.returns-then-area-end
 returns-then-area-end c = hands_big c.if-area-end.true c.if-area-lt-AREA.false
 
+pub returns-in_err-hand_over : goal.returns-in_err-hand_over
+returns-in_err-hand_over c =
+    let p = err_from_is_err_and c.from_residual.result c.from_residual.ensures.1 in
+    rw (p.1, p.2) (hands_over (Err _) c.if-end-eq0.false c.if-area-end.false c.in_err-hand_over.ensures)
+
 pub returns : goal.returns
-returns c = hands_over c.if-end-eq0.false c.if-area-end.false c.hand_over.ensures
+returns c = hands_over (Ok _) c.if-end-eq0.false c.if-area-end.false c.in_ok-hand_over.ensures

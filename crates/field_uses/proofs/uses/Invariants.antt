@@ -5,6 +5,3 @@ use Rattle.field_uses.proofs.uses.Given as goal
 
 abbrev pub invariant-notes : goal.invariant-notes
 invariant-notes l = Using (entries_in l.t l.glyphs) l.src l.size l.place l.t l.at l.n l.i
-
-abbrev pub decreases-notes : goal.decreases-notes
-decreases-notes l = l.n - l.i

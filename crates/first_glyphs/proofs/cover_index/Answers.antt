@@ -1,13 +1,9 @@
-use Rattle.first_glyphs.proofs.Covers.{index_null, there_sound, index_there}
+use Rattle.first_glyphs.proofs.Covers.{index_null, index_there}
 use Rattle.first_glyphs.proofs.cover_index.Goals as goal
 
 pub returns-then-at-eq0 : goal.returns-then-at-eq0
 returns-then-at-eq0 c =
     index_null c.args.src.now c.word_at-at.ensures.0 c.args.g c.if-at-eq0.true
-
-pub index_of-requires : goal.index_of-requires
-index_of-requires c =
-    (there_sound c.args.src.now c.word_at-at.ensures.0 c.requires.0 c.if-at-eq0.false, c.requires.1)
 
 pub returns : goal.returns
 returns c =

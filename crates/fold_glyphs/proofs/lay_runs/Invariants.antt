@@ -4,6 +4,3 @@ use Rattle.fold_glyphs.proofs.lay_runs.Given as goal
 
 abbrev pub invariant-loop-k : goal.invariant-loop-k
 invariant-loop-k l = RunLaying l.list l.initial.t l.t l.at l.k
-
-abbrev pub decreases-loop-k : goal.decreases-loop-k
-decreases-loop-k l = l.n - l.k

@@ -5,6 +5,3 @@ use Rattle.fold_glyphs.proofs.spread_runs.Given as goal
 
 abbrev pub invariant-loop-k : goal.invariant-loop-k
 invariant-loop-k l = (l.k ≤ length l.list / 6) × Spread l.list l.initial.t l.t l.m l.k
-
-abbrev pub decreases-loop-k : goal.decreases-loop-k
-decreases-loop-k l = length l.list / 6 - l.k

@@ -1,12 +1,10 @@
-use Prim.Native.Nat.{◌-◌}
-use Rattle.fold_pairs.proofs.Laws.{clearing_all, clearing_next, clearing_end}
+use Prim.Native.Nat.{◌+◌, ◌-◌}
+use native.Mathlib.Omega.{arith}
+use Rattle.cells.specs.Filled.{filled}
+use Rattle.fold_pairs.proofs.Laws.{cleared}
 use Rattle.fold_pairs.proofs.clear.Goals as goal
 
-pub loop-i-init : goal.loop-i-init
-loop-i-init c = clearing_all c.requires
-
-pub loop-i-preserved : goal.loop-i-preserved
-loop-i-preserved c = clearing_next c.loop-i.invariant c.loop-i-test.true
-
 pub returns : goal.returns
-returns c = clearing_end c.loop-i.invariant c.loop-i-test.false
+returns c =
+    let end = c.args.m.at + c.args.m.mask + 1 in
+    cleared c.requires (filled c.args.t.now c.args.m.at (end - c.args.m.at) end (omega arith) (omega (arith, c.requires.0.within)) (c.fill.ensures.after (λ y e. e)))

@@ -1,4 +1,3 @@
-use Prim.Native.Nat.{◌-◌}
 use borrow.Author.Tests.{not-true, not-false}
 use Rattle.fold_pairs.proofs.Laws.{laying_all, laying_next, laying_clash, laying_end}
 use Rattle.fold_pairs.proofs.lay_in.Goals as goal

@@ -8,6 +8,3 @@ use Rattle.glyph_differences.proofs.list_numbered.Given as goal
 
 abbrev pub invariant-loop-g : goal.invariant-loop-g
 invariant-loop-g l = Going (at_glyph (rule_entries eqb) (numbers_by l.num l.left 0) (numbers_by l.num l.right 1)) l.num l.left l.right l.initial.out l.initial.nums l.initial.heads l.initial.links l.out l.nums l.heads l.links l.at l.g
-
-abbrev pub decreases-loop-g : goal.decreases-loop-g
-decreases-loop-g l = 65536 - l.g

@@ -1,4 +1,3 @@
-use Prim.Native.Nat.{◌-◌}
 use borrow.Author.Rules.{rules}
 use Rattle.gsubgpos.proofs.Within.{sets_start, sets_end, rules_start, rules_next, rules_past, sets_next}
 use Rattle.gsubgpos.proofs.sets_within.Goals as goal

@@ -1,5 +1,4 @@
 use mathlib.Core.Path.{refl, ap, ◌∙◌}
-use Prim.Native.Nat.{◌-◌}
 use lib.ListN.{length}
 use Rattle.handing.proofs.Moved.{lessening_all, lessening_turn, lessening_end}
 use lib.Seq.{length-sets}

@@ -1,19 +1,7 @@
-use mathlib.Core.Path.{refl, ap, ◌∙◌}
-use Prim.Native.Nat.{◌-◌}
-use lib.ListN.{length}
-use Rattle.handing.proofs.Moved.{moving_all, moving_turn, copying_end}
-use lib.Seq.{length-sets}
+use mathlib.Core.Path.{◌∙◌}
+use native.Mathlib.Omega.{arith}
+use Rattle.handing.proofs.Moved.{moved}
 use Rattle.handing.proofs.move_down.Goals as goal
 
-pub loop-i-init : goal.loop-i-init
-loop-i-init c = moving_all
-
-pub loop-i-preserved : goal.loop-i-preserved
-loop-i-preserved c =
-    moving_turn c.requires.0 c.loop-i.invariant c.loop-i-test.true refl refl
-
-pub shape_of-area : goal.shape_of-area
-shape_of-area c = ap length (copying_end c.loop-i.invariant.copying c.loop-i-test.false) ∙ simp length-sets
-
 pub returns : goal.returns
-returns c = copying_end c.loop-i.invariant.copying c.loop-i-test.false
+returns c = c.copy_within.ensures.after ∙ moved _ _ _ _ c.requires.1 (omega (arith, c.requires))

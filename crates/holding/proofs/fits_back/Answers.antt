@@ -1,4 +1,3 @@
-use Prim.Native.Nat.{◌-◌}
 use Rattle.holding.proofs.Holding.{away_all, away_short, away_not, away_turn, away_end}
 use Rattle.holding.proofs.fits_back.Goals as goal
 
@@ -7,10 +6,6 @@ loop-i-init c = away_all
 
 pub returns-then-place-i : goal.returns-then-place-i
 returns-then-place-i c = away_short c.loop-i.invariant c.loop-i-test.true c.if-place-i.true
-
-pub holds-requires : goal.holds-requires
-holds-requires c =
-    (rw c.word_at-number.ensures.0 (c.requires.0.sound c.loop-i.i c.loop-i-test.true), c.word_at-glyph.ensures.1)
 
 pub returns-then-not-holds : goal.returns-then-not-holds
 returns-then-not-holds c =

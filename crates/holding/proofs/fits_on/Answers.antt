@@ -1,4 +1,3 @@
-use Prim.Native.Nat.{◌-◌}
 use Rattle.holding.proofs.Holding.{onward_all, onward_short, onward_not, onward_turn, onward_end}
 use Rattle.holding.proofs.fits_on.Goals as goal
 
@@ -7,10 +6,6 @@ loop-i-init c = onward_all
 
 pub returns-then-n-place : goal.returns-then-n-place
 returns-then-n-place c = onward_short c.loop-i.invariant c.loop-i-test.true c.if-n-place.true
-
-pub holds-requires : goal.holds-requires
-holds-requires c =
-    (rw c.word_at-number.ensures.0 (c.requires.0.sound c.loop-i.i c.loop-i-test.true), c.word_at-glyph.ensures.1)
 
 pub returns-then-not-holds : goal.returns-then-not-holds
 returns-then-not-holds c =

@@ -5,15 +5,9 @@ pub returns-then-sort-eq0 : goal.returns-then-sort-eq0
 returns-then-sort-eq0 c =
     held_glyph c.args.src.now c.args.sort c.args.table c.args.number c.args.glyph c.if-sort-eq0.true
 
-pub class_of-requires : goal.class_of-requires
-class_of-requires c = (c.requires.0.by_class c.if-sort-eq1.true, c.requires.1)
-
 pub returns-then-sort-eq1 : goal.returns-then-sort-eq1
 returns-then-sort-eq1 c =
     held_class c.args.src.now c.args.sort c.args.table c.args.number c.args.glyph c.if-sort-eq0.false c.if-sort-eq1.true c.class_of.ensures.0
-
-pub covers-requires : goal.covers-requires
-covers-requires c = (c.requires.0.by_cover c.if-sort-eq0.false c.if-sort-eq1.false, c.requires.1)
 
 pub returns : goal.returns
 returns c =

@@ -1,30 +1,17 @@
-use native.Mathlib.Omega.{arith}
-use Rattle.holding.proofs.Fitting.{parts_none, parts_input, parts_ahead, parts_back, fine_row}
+use Rattle.holding.proofs.Fitting.{parts_none, parts_input, parts_ahead, parts_back}
 use Rattle.holding.proofs.parts_fit.Goals as goal
 
 pub returns-then-r-eq0 : goal.returns-then-r-eq0
 returns-then-r-eq0 c =
     parts_none c.args.src.now c.args.how c.args.r _ c.args.place c.args.start c.if-r-eq0.true
 
-pub fits_on-requires : goal.fits_on-requires
-fits_on-requires c =
-    (fine_row c.held_row-input.ensures c.requires.0.input, omega arith)
-
 pub returns-then-not-fits_on : goal.returns-then-not-fits_on
 returns-then-not-fits_on c =
     parts_input c.args.src.now c.args.how c.args.r _ c.args.place c.args.start c.if-r-eq0.false c.held_row-input.ensures c.fits_on.ensures c.if-not-fits_on.true-raw
 
-pub fits_on-requires-2 : goal.fits_on-requires-2
-fits_on-requires-2 c =
-    (fine_row c.held_row-ahead.ensures c.requires.0.ahead, omega (arith, c.requires.0.count))
-
 pub returns-then-not-fits_on-2 : goal.returns-then-not-fits_on-2
 returns-then-not-fits_on-2 c =
     parts_ahead c.args.src.now c.args.how c.args.r _ c.args.place c.args.start c.if-r-eq0.false c.held_row-input.ensures c.fits_on.ensures c.if-not-fits_on.false-raw c.held_row-ahead.ensures c.fits_on-2.ensures c.if-not-fits_on-2.true-raw
-
-pub fits_back-requires : goal.fits_back-requires
-fits_back-requires c =
-    (fine_row c.held_row.ensures c.requires.0.back, c.requires.1, omega (arith, c.requires.2))
 
 pub returns : goal.returns
 returns c =

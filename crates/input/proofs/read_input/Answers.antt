@@ -25,6 +25,6 @@ loop-n-preserved g c =
     let from = c.loop-n.n in
     let room = length c.loop-n.file - from in
     let within = c.loop-n.invariant.0 in
-    let part = part_read from room c.in-Bytes.more c.loop-n.file c.read_once.new.part within c.in-Bytes.ensures.within in
-    let front = joined from (from + c.in-Bytes.more) c.loop-n.file (put_mid from room c.loop-n.file c.read_once.new.part) (omega arith) (take-put_mid_below _ _ _ _ _ (le_refl _) within) in
-    (search rules, subst (Consumes _ _) (ap (λ l. take from c.loop-n.file ++ l) (sym part) ∙ front) (Consumes-trans _ _ _ _ _ c.loop-n.invariant.1 c.in-Bytes.ensures.given))
+    let part = part_read from room c.in_ok-more.more c.loop-n.file c.read.new.buf within c.in_ok-more.ensures.bound.0 in
+    let front = joined from (from + c.in_ok-more.more) c.loop-n.file (put_mid from room c.loop-n.file c.read.new.buf) (omega arith) (take-put_mid_below _ _ _ _ _ (le_refl _) within) in
+    (search rules, subst (Consumes _ _) (ap (λ l. take from c.loop-n.file ++ l) (sym part) ∙ front) (Consumes-trans _ _ _ _ _ c.loop-n.invariant.1 c.in_ok-more.ensures.bytes.0))

@@ -1,5 +1,4 @@
 use mathlib.Core.Path.{refl, ◌∙◌}
-use Prim.Native.Nat.{◌+◌, ◌-◌}
 use native.Mathlib.Omega.{arith}
 use Rattle.placed_sets.specs.Sorts.{inside_kept, told_kept, told_still}
 use Rattle.kept_sets.proofs.Keeping.{keeping_all, keeping_null, turn_inside, keeping_gone, keeping_one, keeping_full}
@@ -14,27 +13,12 @@ pub loop-i-init : goal.loop-i-init
 loop-i-init c =
     (keeping_all _ _ _ _ _ _ c.requires.0.fits (omega arith) c.begin.ensures c.requires.3, c.requires.1, refl, omega (arith, c.requires.0.fits))
 
-pub overflow_cast-note : goal.overflow_cast-note
-overflow_cast-note c = omega (arith, c.type_inv.t (c.args.notes.at + c.loop-i.i), c.header_size-slots.ensures)
-
-pub overflow_mul-note : goal.overflow_mul-note
-overflow_mul-note c = omega (arith, c.type_inv.t (c.args.notes.at + c.loop-i.i), c.header_size-slots.ensures)
-
-pub overflow_add-slots : goal.overflow_add-slots
-overflow_add-slots c = omega (arith, c.type_inv.t (c.args.notes.at + c.loop-i.i), c.header_size-slots.ensures)
-
 pub word_inside-at-requires : goal.word_inside-at-requires
 word_inside-at-requires c = offset_inside c.requires.0 c.header_size-slots.ensures.0 c.loop-i.invariant.0 c.loop-i-test.true refl
 
 pub loop-i-preserved-then-at-eq0 : goal.loop-i-preserved-then-at-eq0
 loop-i-preserved-then-at-eq0 c =
     (keeping_null _ _ _ _ _ _ c.loop-i.invariant.0 c.loop-i-test.true refl c.word_inside-at.ensures.0 c.if-at-eq0.true, c.loop-i.invariant.1, c.loop-i.invariant.2, c.loop-i.invariant.3)
-
-pub overflow_mul-turn : goal.overflow_mul-turn
-overflow_mul-turn c = omega (arith, c.loop-i.invariant.0.fewer, c.loop-i.invariant.0.within, c.header_size-slots.ensures, c.requires.0.counted)
-
-pub overflow_add-turn : goal.overflow_add-turn
-overflow_add-turn c = omega (arith, c.loop-i.invariant.0.fewer, c.loop-i.invariant.0.within, c.header_size-slots.ensures, c.requires.0.counted)
 
 pub place_set-q-requires : goal.place_set-q-requires
 place_set-q-requires c =
@@ -47,17 +31,14 @@ returns-then-area-q c =
     let w = placed_as c.loop-i.invariant.0.cells c.requires.0.before c.args.sort c.args.src.now c.place_set-q.ensures.0 in
     wrote_full c.requires.0 c.header_size-slots.ensures.0 c.loop-i.invariant.0 c.args.book.now c.begin.ensures.same w.same c.if-area-q.true (λ b. rw c.header_size-slots.ensures.0 at (keeping_full _ _ _ _ _ _ c.loop-i.invariant.0 c.loop-i-test.true refl c.word_inside-at.ensures.0 c.if-at-eq0.false (c.requires.0.small _ sound) w (omega (arith, c.requires.0.counted, c.header_size-slots.ensures.1)) c.if-area-q.true b))
 
-pub overflow_add-t : goal.overflow_add-t
-overflow_add-t c = omega (arith, c.loop-i.invariant.0.fewer, c.loop-i.invariant.0.within, c.loop-i.invariant.3)
-
-pub loop-i-preserved-then-q-ne0 : goal.loop-i-preserved-then-q-ne0
-loop-i-preserved-then-q-ne0 c =
-    let sound = set_sound c.requires.0 c.header_size-slots.ensures.0 c.loop-i.invariant.0 c.loop-i-test.true refl c.word_inside-at.ensures.0 c.if-at-eq0.false in
-    let w = placed_as c.loop-i.invariant.0.cells c.requires.0.before c.args.sort c.args.src.now c.place_set-q.ensures.0 in
-    (keeping_one _ _ _ _ _ _ c.loop-i.invariant.0 c.loop-i-test.true refl c.word_inside-at.ensures.0 c.if-at-eq0.false (c.requires.0.small _ sound) w c.if-q-ne0.true c.if-area-q.false refl, told_kept c.loop-i.invariant.0.cells c.args.sort c.requires.0.before c.place_set-q.ensures.1, c.told-1.given ∙ c.loop-i.invariant.2, c.loop-i.invariant.3)
-
 pub loop-i-preserved : goal.loop-i-preserved
 loop-i-preserved c =
+    let sound = set_sound c.requires.0 c.header_size-slots.ensures.0 c.loop-i.invariant.0 c.loop-i-test.true refl c.word_inside-at.ensures.0 c.if-at-eq0.false in
+    let w = placed_as c.loop-i.invariant.0.cells c.requires.0.before c.args.sort c.args.src.now c.place_set-q.ensures.0 in
+    (keeping_one _ _ _ _ _ _ c.loop-i.invariant.0 c.loop-i-test.true refl c.word_inside-at.ensures.0 c.if-at-eq0.false (c.requires.0.small _ sound) w c.if-q-eq0.false c.if-area-q.false refl, told_kept c.loop-i.invariant.0.cells c.args.sort c.requires.0.before c.place_set-q.ensures.1, c.told-1.given ∙ c.loop-i.invariant.2, c.loop-i.invariant.3)
+
+pub loop-i-preserved-then-q-eq0 : goal.loop-i-preserved-then-q-eq0
+loop-i-preserved-then-q-eq0 c =
     let sound = set_sound c.requires.0 c.header_size-slots.ensures.0 c.loop-i.invariant.0 c.loop-i-test.true refl c.word_inside-at.ensures.0 c.if-at-eq0.false in
     let w = placed_as c.loop-i.invariant.0.cells c.requires.0.before c.args.sort c.args.src.now c.place_set-q.ensures.0 in
     (keeping_gone _ _ _ _ _ _ c.loop-i.invariant.0 c.loop-i-test.true refl c.word_inside-at.ensures.0 c.if-at-eq0.false (c.requires.0.small _ sound) w (omega arith), told_kept c.loop-i.invariant.0.cells c.args.sort c.requires.0.before c.place_set-q.ensures.1, c.told-1.given ∙ c.loop-i.invariant.2, c.loop-i.invariant.3)

@@ -1,3 +1,4 @@
+use Rattle.std.proofs.lemmas.Result.{err_from_is_err_and}
 use mathlib.Core.Path.{◌∙◌}
 use Prim.Native.Nat.{◌+◌, ◌*◌}
 use native.Mathlib.Omega.{arith}
@@ -38,5 +39,10 @@ hand_over-requires c =
     let f = may_finish c.requires.0 c.write_sets-sets.ensures c.if-area-p.false c.if-k-eq0.false {first = c.header_size-slots.result + 2 * c.args.notes.count} (omega (arith, c.header_size-slots.ensures.0)) c.requires.1 in
     (omega (arith, f.behind, c.header_size-slots.ensures.0), omega (arith, f.start, c.finish-end.ensures.start (omega (arith, c.finish-end.ensures.same))), omega arith)
 
+pub returns-in_err-hand_over : goal.returns-in_err-hand_over
+returns-in_err-hand_over c =
+    let p = err_from_is_err_and c.from_residual.result c.from_residual.ensures.1 in
+    rw (p.1, p.2) (record { answer = table_laid c.requires.0 c.write_sets-sets.ensures c.if-area-p.false c.if-k-eq0.false (omega (arith, c.header_size-slots.ensures.0)) c.finish-end.ensures c.if-area-end.false (omega (arith, c.header_size-slots.ensures.0)) c.cover_fits-fits.ensures _ c.in_err-hand_over.ensures })
+
 pub returns : goal.returns
-returns c = record { answer = table_laid c.requires.0 c.write_sets-sets.ensures c.if-area-p.false c.if-k-eq0.false (omega (arith, c.header_size-slots.ensures.0)) c.finish-end.ensures c.if-area-end.false (omega (arith, c.header_size-slots.ensures.0)) c.cover_fits-fits.ensures _ c.hand_over.ensures }
+returns c = record { answer = table_laid c.requires.0 c.write_sets-sets.ensures c.if-area-p.false c.if-k-eq0.false (omega (arith, c.header_size-slots.ensures.0)) c.finish-end.ensures c.if-area-end.false (omega (arith, c.header_size-slots.ensures.0)) c.cover_fits-fits.ensures _ c.in_ok-hand_over.ensures }

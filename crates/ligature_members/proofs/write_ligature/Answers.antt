@@ -6,7 +6,7 @@ use Rattle.meaning.specs.Words.{word}
 use Rattle.area.specs.Extends.{extends_none, keeps_none}
 use Rattle.numbers.specs.Leaves.{leaves_full, leaves_none, leaves_after}
 use Rattle.numbers.proofs.Fronts.{extends_two}
-use Rattle.numbers.proofs.Numbers.{cell_new, cell_gone}
+use Rattle.numbers.proofs.Numbers.{found_in}
 use Rattle.ligature_members.specs.Left.{ligature_size, ligature_inside, ligature_gone, ligature_left_lem}
 use Rattle.ligature_members.proofs.write_ligature.Goals as goal
 use Rattle.ligature_members.proofs.write_ligature.Goals.{After-slice_known-1}
@@ -21,7 +21,7 @@ word_inside-old-requires c = omega (arith, inside (goal.at.word_inside-old-requi
 
 pub returns-in_default : goal.returns-in_default
 returns-in_default c =
-    leaves_none (ligature_gone _ c.args.src.now c.args.at (rw c.word_inside-old.ensures.0 at (cell_gone c.requires.1 c.find.ensures c.in_default.is))) keeps_none
+    leaves_none (ligature_gone _ c.args.src.now c.args.at (rw c.word_inside-old.ensures.0 at (found_in _ c.requires.1 c.in_default.ensures.answer))) keeps_none
 
 pub returns-then-area-pos : goal.returns-then-area-pos
 unfolding ligature_size
@@ -41,5 +41,5 @@ renumber-requires c = (omega (arith, inside (goal.at.renumber-requires c).After-
 
 pub returns : goal.returns
 returns c =
-    ligature_left_lem _ c.args.src.now c.args.at c.word_inside-old.ensures.0 (cell_new c.requires.1 c.find.ensures c.in-New.is) c.word_inside-count.ensures.0 c.after_first.ensures
+    ligature_left_lem _ c.args.src.now c.args.at c.word_inside-old.ensures.0 (found_in _ c.requires.1 c.in-Some.ensures.answer) c.word_inside-count.ensures.0 c.saturating_sub.ensures
     (leaves_after (extends_two (extends_none (omega arith)) _ _ (omega arith) c.put_two-p.ensures) c.renumber.ensures)

@@ -1,5 +1,4 @@
 use mathlib.Core.Path.{◌≡◌}
-use Prim.Native.Nat.{◌-◌}
 use lib.ListN.{length}
 use Rattle.meaning.specs.Tables.{ligature}
 use Rattle.meaning.specs.Cut.{cut_ligature}
@@ -13,6 +12,3 @@ use Rattle.ligatures.proofs.write_ligatures.Given as goal
 abbrev pub invariant-loop-i : goal.invariant-loop-i
 invariant-loop-i l =
     Gathering (ligature l.src) (cut_ligature (entries_in l.t l.glyphs)) ligature_words l.src l.at l.n l.initial.area l.pos l.area l.k l.p l.i × Dead (ligature_left (entries_in l.t l.glyphs) l.src) l.dead × (length l.dead ≡ length l.initial.dead)
-
-abbrev pub decreases-loop-i : goal.decreases-loop-i
-decreases-loop-i l = l.n - l.i

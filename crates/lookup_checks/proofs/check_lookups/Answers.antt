@@ -1,22 +1,17 @@
-use mathlib.Core.Path.{refl}
-use native.Mathlib.Omega.{arith}
-use Prim.Native.Nat.{◌-◌}
+use Rattle.std.proofs.Common.{refl, rules}
 use Rattle.lookup_checks.proofs.Refusing.{checking_all, checking_refused, checking_turn, checking_end}
 use Rattle.lookup_checks.proofs.check_lookups.Goals as goal
 
 pub loop-lookup-init : goal.loop-lookup-init
-loop-lookup-init c = (refl, checking_all)
+loop-lookup-init c = checking_all
 
-pub check_listed-requires : goal.check_listed-requires
-check_listed-requires c = (c.requires, omega (arith, c.loop-lookup.invariant.0))
-
-pub returns-in-Refused : goal.returns-in-Refused
-returns-in-Refused c =
-    checking_refused c.loop-lookup.invariant.1 c.loop-lookup-test.true _ c.check_listed.ensures c.in-Refused.is
+pub returns-in_err-check_listed : goal.returns-in_err-check_listed
+returns-in_err-check_listed c =
+    let first = checking_refused c.loop-lookup.invariant c.loop-lookup-test.true c.in_err-check_listed.ensures refl in
+    search rules
 
 pub loop-lookup-preserved : goal.loop-lookup-preserved
-loop-lookup-preserved c =
-    (c.loop-lookup.invariant.0, checking_turn c.loop-lookup.invariant.1 c.loop-lookup-test.true _ c.check_listed.ensures c.in_default.is)
+loop-lookup-preserved c = checking_turn c.loop-lookup.invariant c.loop-lookup-test.true c.in_ok-check_listed.ensures refl
 
 pub returns : goal.returns
-returns c = checking_end c.loop-lookup.invariant.1 c.loop-lookup-test.false
+returns c = checking_end c.loop-lookup.invariant c.loop-lookup-test.false

@@ -5,6 +5,3 @@ use Rattle.map_runs.proofs.good_runs.Given as goal
 
 abbrev pub invariant-loop-i : goal.invariant-loop-i
 invariant-loop-i l = Rising l.m l.old l.new l.i
-
-abbrev pub decreases-loop-i : goal.decreases-loop-i
-decreases-loop-i l = length l.m / 6 - l.i

@@ -5,6 +5,3 @@ use Rattle.maps.proofs.good_pairs.Given as goal
 
 abbrev pub invariant-loop-i : goal.invariant-loop-i
 invariant-loop-i l = Climbing l.m l.low l.least l.i
-
-abbrev pub decreases-loop-i : goal.decreases-loop-i
-decreases-loop-i l = length l.m / 4 - l.i

@@ -1,4 +1,3 @@
-use Prim.Native.Nat.{◌-◌}
 use native.Mathlib.Omega.{arith}
 use Rattle.matching.proofs.Fitting.{choosing_all, choosing_turn, choosing_found, choosing_end}
 use Rattle.matching.proofs.first_rule.Goals as goal

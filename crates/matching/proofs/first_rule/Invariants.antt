@@ -1,10 +1,6 @@
-use Prim.Native.Nat.{◌-◌}
 use Rattle.meaning.specs.Words.{words}
 use Rattle.matching.proofs.Fitting.{Choosing}
 use Rattle.matching.proofs.first_rule.Given as goal
 
 abbrev pub invariant-loop-i : goal.invariant-loop-i
 invariant-loop-i l = Choosing l.chained l.src l.how l.set (words l.string 0 l.n) l.place l.count l.i
-
-abbrev pub decreases-loop-i : goal.decreases-loop-i
-decreases-loop-i l = l.count - l.i

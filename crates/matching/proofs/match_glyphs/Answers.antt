@@ -12,7 +12,7 @@ index_of-requires c =
 
 pub returns-in_default : goal.returns-in_default
 returns-in_default c =
-    glyphs_not c.args.chained c.args.src.now c.args.string.now c.args.n c.args.place c.word_at-cover.ensures.0 c.if-cover-eq0.false c.requires.1 c.word_at.ensures.0 c.index_of.ensures c.in_default.is
+    glyphs_not c.args.chained c.args.src.now c.args.string.now c.args.n c.args.place c.word_at-cover.ensures.0 c.if-cover-eq0.false c.requires.1 c.word_at.ensures.0 c.in_default.ensures
 
 pub match_set-requires : goal.match_set-requires
 match_set-requires c =
@@ -20,4 +20,4 @@ match_set-requires c =
 
 pub returns : goal.returns
 returns c =
-    glyphs_at c.args.chained c.args.src.now c.args.string.now c.args.n c.args.place c.word_at-cover.ensures.0 c.if-cover-eq0.false c.requires.1 c.word_at.ensures.0 c.index_of.ensures c.in-At.is c.match_set.ensures
+    glyphs_at c.args.chained c.args.src.now c.args.string.now c.args.n c.args.place c.word_at-cover.ensures.0 c.if-cover-eq0.false c.requires.1 c.word_at.ensures.0 c.in-Some.ensures c.match_set.ensures

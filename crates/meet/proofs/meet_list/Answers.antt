@@ -1,5 +1,4 @@
 use Rattle.range_meets.proofs.Lists.{listing_all, listing_one, listing_none, listing_end}
-use Prim.Native.Nat.{◌-◌}
 use Rattle.meet.proofs.meet_list.Goals as goal
 use Rattle.meet.proofs.meet_list.Goals.{then-e-glyph, else-e-glyph}
 

@@ -4,6 +4,3 @@ use Rattle.meet_ranges.proofs.meet_ranges.Given as goal
 
 abbrev pub invariant-loop-i : goal.invariant-loop-i
 invariant-loop-i l = Ranging l.src l.at l.n l.glyphs l.initial.t l.to l.t l.e l.k l.i
-
-abbrev pub decreases-loop-i : goal.decreases-loop-i
-decreases-loop-i l = l.n - l.i

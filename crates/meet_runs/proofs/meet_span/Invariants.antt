@@ -5,6 +5,3 @@ use Rattle.meet_runs.proofs.meet_span.Given as goal
 
 abbrev pub invariant-loop-e : goal.invariant-loop-e
 invariant-loop-e l = Spanning l.glyphs l.first l.last l.index l.initial.t l.t l.to l.x l.k l.e
-
-abbrev pub decreases-loop-e : goal.decreases-loop-e
-decreases-loop-e l = length l.glyphs / 6 - l.e

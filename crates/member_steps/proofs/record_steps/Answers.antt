@@ -1,4 +1,3 @@
-use Prim.Native.Nat.{◌-◌}
 use Rattle.member_steps.proofs.Sums.{adding_all, adding_next, adding_end}
 use Rattle.member_steps.proofs.record_steps.Goals as goal
 

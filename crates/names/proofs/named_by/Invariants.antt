@@ -6,6 +6,3 @@ use Rattle.names.proofs.named_by.Given as goal
 
 abbrev pub invariant-loop-lookup : goal.invariant-loop-lookup
 invariant-loop-lookup l = (l.many ≡ length l.list / 10) × Naming l.list l.buffer l.many l.lookup
-
-abbrev pub decreases-loop-lookup : goal.decreases-loop-lookup
-decreases-loop-lookup l = l.many - l.lookup

@@ -4,6 +4,3 @@ use Rattle.noted_runs.proofs.note_steps.Given as goal
 
 abbrev pub invariant-loop-i : goal.invariant-loop-i
 invariant-loop-i l = Stepping l.initial.t l.t l.to l.index l.new l.n l.i
-
-abbrev pub decreases-loop-i : goal.decreases-loop-i
-decreases-loop-i l = l.n - l.i

@@ -1,4 +1,3 @@
-use Prim.Native.Nat.{◌-◌}
 use Rattle.meaning.specs.Words.{find}
 use Rattle.numbers.specs.Entries.{entries_in}
 use Rattle.numbers.proofs.Numbers.{Renumbering}
@@ -6,6 +5,3 @@ use Rattle.numbers.proofs.renumber.Given as goal
 
 abbrev pub invariant-loop-i : goal.invariant-loop-i
 invariant-loop-i l = Renumbering (find (entries_in l.t l.m)) l.src l.at l.n l.initial.area l.pos l.area l.i
-
-abbrev pub decreases-loop-i : goal.decreases-loop-i
-decreases-loop-i l = l.n - l.i

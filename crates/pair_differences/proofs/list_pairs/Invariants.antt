@@ -7,6 +7,3 @@ use Rattle.pair_differences.proofs.list_pairs.Given as goal
 
 abbrev pub invariant-loop-g : goal.invariant-loop-g
 invariant-loop-g l = Through (at_glyph pair_entries (pairs_in l.left) (pairs_in l.right)) 65536 0x100_0000 l.initial.out l.pos l.out l.at l.g
-
-abbrev pub decreases-loop-g : goal.decreases-loop-g
-decreases-loop-g l = 65536 - l.g

@@ -1,4 +1,3 @@
-use Prim.Native.Nat.{◌-◌}
 use Rattle.partners.proofs.Chaining.{clearing_none, clearing_turn, clearing_end}
 use Rattle.partners.proofs.clear.Goals as goal
 

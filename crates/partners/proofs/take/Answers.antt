@@ -1,5 +1,4 @@
 use Rattle.partners.proofs.Chaining.{taking_in, taking_in_turn, taking_in_end}
-use Prim.Native.Nat.{◌-◌}
 use Rattle.partners.proofs.take.Goals as goal
 
 pub loop-i-init : goal.loop-i-init

@@ -1,9 +1,5 @@
 use Rattle.partners.proofs.Chaining.{TakingIn}
-use Prim.Native.Nat.{◌-◌}
 use Rattle.partners.proofs.take.Given as goal
 
 abbrev pub invariant-loop-i : goal.invariant-loop-i
 invariant-loop-i l = TakingIn l.own l.m l.others l.n l.initial.heads l.initial.links l.at l.heads l.links l.i
-
-abbrev pub decreases-loop-i : goal.decreases-loop-i
-decreases-loop-i l = l.m - l.i

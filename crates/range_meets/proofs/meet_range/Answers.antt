@@ -1,5 +1,7 @@
 use Rattle.range_meets.proofs.Ranges.{noting_all, noting_low, noting_one, noting_past, noting_end}
-use Prim.Native.Nat.{◌-◌, ◌≤◌}
+use mathlib.Core.Path.{◌≡◌}
+use Prim.Native.Nat.{◌-◌, ◌/◌, ◌≤◌}
+use lib.ListN.{length}
 use native.Mathlib.Omega.{arith}
 use Rattle.range_meets.proofs.meet_range.Goals as goal
 use Rattle.range_meets.proofs.meet_range.Goals.{After-word_inside-new}
@@ -12,12 +14,12 @@ shape_of-t-then-last-old c = c.loop-k.invariant.kept.size
 
 pub returns-then-last-old : goal.returns-then-last-old
 returns-then-last-old c =
-    noting_past c.requires c.loop-k.invariant c.loop-k-test.true c.word_inside-old.ensures.0 c.if-last-old.true
+    noting_past c.requires c.loop-k.invariant (omega (arith, c.loop-k-test.true)) c.word_inside-old.ensures.0 c.if-last-old.true
 
 -- the entry is not below the range
 low_entry : (c : After-word_inside-new) → c.args.first ≤ c.word_inside-old.result
 low_entry c =
-    noting_low c.requires c.loop-k.invariant c.loop-k-test.true c.word_inside-old.ensures.0
+    noting_low c.requires c.loop-k.invariant (omega (arith, c.loop-k-test.true)) c.word_inside-old.ensures.0
 
 pub overflow_sub-t : goal.overflow_sub-t
 overflow_sub-t c = low_entry (goal.at.overflow_sub-t c).After-word_inside-new
@@ -33,10 +35,12 @@ overflow_cast-t c = omega (arith, low_entry (goal.at.overflow_cast-t c).After-wo
 
 pub loop-k-preserved : goal.loop-k-preserved
 loop-k-preserved c =
-    noting_one c.requires c.loop-k.invariant c.loop-k-test.true c.word_inside-old.ensures.0 c.if-last-old.false c.word_inside-new.ensures.0 c.word_inside-new.ensures.1
+    noting_one c.requires c.loop-k.invariant (omega (arith, c.loop-k-test.true)) c.word_inside-old.ensures.0 c.if-last-old.false c.word_inside-new.ensures.0 c.word_inside-new.ensures.1
 
 pub shape_of-t : goal.shape_of-t
 shape_of-t c = c.loop-k.invariant.kept.size
 
 pub returns : goal.returns
-returns c = noting_end c.requires c.loop-k.invariant c.loop-k-test.false
+returns c =
+    let e : c.loop-k.k ≡ length c.args.glyphs.now / 4 - c.args.from = omega (arith, c.loop-k.invariant.within, c.requires.start, c.loop-k-test.false) in
+    rw e at (noting_end c.requires c.loop-k.invariant (omega (arith, c.loop-k-test.false)))

@@ -1,10 +1,5 @@
 use Rattle.range_meets.proofs.Ranges.{Noting}
-use Prim.Native.Nat.{◌+◌, ◌-◌, ◌/◌}
-use lib.ListN.{length}
 use Rattle.range_meets.proofs.meet_range.Given as goal
 
 abbrev pub invariant-loop-k : goal.invariant-loop-k
 invariant-loop-k l = Noting l.glyphs l.from l.first l.last l.index l.initial.t l.to l.t l.k
-
-abbrev pub decreases-loop-k : goal.decreases-loop-k
-decreases-loop-k l = length l.glyphs / 4 - (l.from + l.k)

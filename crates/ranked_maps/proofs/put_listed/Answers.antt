@@ -1,22 +1,11 @@
-use Prim.Native.Nat.{◌+◌, ◌-◌}
-use native.Mathlib.Omega.{arith}
 use Rattle.ranked_maps.proofs.Ranks.{putting_all, putting_inside, putting_next, putting_end}
 use Rattle.ranked_maps.proofs.put_listed.Goals as goal
 
 pub loop-e-init : goal.loop-e-init
 loop-e-init c = putting_all c.requires
 
-pub overflow_add-class : goal.overflow_add-class
-overflow_add-class c = omega (arith, putting_inside c.loop-e.invariant c.loop-e-test.true, c.loop-e.invariant.put.kept.size, c.well_formed)
-
-pub offset_bounds-t-list : goal.offset_bounds-t-list
-offset_bounds-t-list c = omega (arith, putting_inside c.loop-e.invariant c.loop-e-test.true, c.loop-e.invariant.put.kept.size, c.well_formed)
-
 pub bounds-t-list : goal.bounds-t-list
 bounds-t-list c = putting_inside c.loop-e.invariant c.loop-e-test.true
-
-pub overflow_cast-class : goal.overflow_cast-class
-overflow_cast-class c = omega (arith, c.type_inv.t (c.args.list + (c.loop-e.e - 1)))
 
 pub put_bit-requires : goal.put_bit-requires
 put_bit-requires c = c.loop-e.invariant.ready.near

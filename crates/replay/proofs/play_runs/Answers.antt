@@ -1,4 +1,3 @@
-use Prim.Native.Nat.{◌-◌}
 use native.Mathlib.Omega.{arith}
 use Rattle.replay.proofs.Playing.{playing_all, playing_whole, playing_deep, playing_turn, playing_end}
 use Rattle.replay.proofs.play_runs.Goals as goal
@@ -6,13 +5,13 @@ use Rattle.replay.proofs.play_runs.Goals as goal
 pub loop-at-init : goal.loop-at-init
 loop-at-init c = playing_all c.requires.1
 
-pub replay_run-v-requires : goal.replay_run-v-requires
-replay_run-v-requires c =
+pub replay_run-requires : goal.replay_run-requires
+replay_run-requires c =
     (c.requires.0, playing_whole c.loop-at.invariant c.loop-at-test.true)
 
-pub returns-then-is_deep : goal.returns-then-is_deep
-returns-then-is_deep c =
-    playing_deep c.loop-at.invariant c.loop-at-test.true c.replay_run-v.ensures c.is_deep.ensures c.if-is_deep.true
+pub returns-in_default : goal.returns-in_default
+returns-in_default c =
+    playing_deep c.loop-at.invariant c.loop-at-test.true c.in_default.ensures
 
 pub changed-tally-requires : goal.changed-tally-requires
 changed-tally-requires c =
@@ -25,7 +24,7 @@ overflow_add-at-in-loop-at c =
 
 pub loop-at-preserved : goal.loop-at-preserved
 loop-at-preserved c =
-    playing_turn c.loop-at.invariant c.loop-at-test.true c.replay_run-v.ensures c.is_deep.ensures c.if-is_deep.false c.does_agree.ensures c.changed-tally.ensures c.word_at.ensures.0
+    playing_turn c.loop-at.invariant c.loop-at-test.true c.in-Ok.ensures c.changed-tally.ensures c.word_at.ensures.0
 
 pub returns : goal.returns
 returns c = playing_end c.loop-at.invariant c.loop-at-test.false

@@ -1,3 +1,4 @@
+use mathlib.Core.Path.{refl}
 use Rattle.replay.proofs.Refused.{no_list, list_good, faulty, ready, short, trace_good, unnamed, plays}
 use Rattle.replay.proofs.replay_all.Goals as goal
 
@@ -9,13 +10,13 @@ pub check_lookups-requires : goal.check_lookups-requires
 check_lookups-requires c =
     list_good c.args.list.now c.args.buffer.now c.args.trace.now c.good_list.ensures c.if-not-good_list.false-raw
 
-pub returns-in-Refused : goal.returns-in-Refused
-returns-in-Refused c =
-    faulty c.args.list.now c.args.buffer.now c.args.trace.now c.good_list.ensures c.if-not-good_list.false-raw _ c.check_lookups.ensures c.in-Refused.is c.refusing-in-Refused.ensures
+pub returns-in-Err : goal.returns-in-Err
+returns-in-Err c =
+    faulty c.args.list.now c.args.buffer.now c.args.trace.now c.good_list.ensures c.if-not-good_list.false-raw c.in-Err.ensures refl (rw (c.number.ensures, c.place.ensures) at c.refusing-in-Err.ensures)
 
 pub returns-then-not-good_trace : goal.returns-then-not-good_trace
 returns-then-not-good_trace c =
-    short c.args.list.now c.args.buffer.now c.args.trace.now c.good_list.ensures c.if-not-good_list.false-raw _ c.check_lookups.ensures c.in_default.is c.good_trace.ensures c.if-not-good_trace.true-raw c.refusing-then-not-good_trace.ensures
+    short c.args.list.now c.args.buffer.now c.args.trace.now c.good_list.ensures c.if-not-good_list.false-raw c.in_default.ensures refl c.good_trace.ensures c.if-not-good_trace.true-raw c.refusing-then-not-good_trace.ensures
 
 pub all_named-requires : goal.all_named-requires
 all_named-requires c =
@@ -23,12 +24,12 @@ all_named-requires c =
 
 pub returns-then-not-all_named : goal.returns-then-not-all_named
 returns-then-not-all_named c =
-    unnamed c.args.list.now c.args.buffer.now c.args.trace.now c.good_list.ensures c.if-not-good_list.false-raw _ c.check_lookups.ensures c.in_default.is c.good_trace.ensures c.if-not-good_trace.false-raw c.all_named.ensures c.if-not-all_named.true-raw c.refusing-then-not-all_named.ensures
+    unnamed c.args.list.now c.args.buffer.now c.args.trace.now c.good_list.ensures c.if-not-good_list.false-raw c.in_default.ensures refl c.good_trace.ensures c.if-not-good_trace.false-raw c.all_named.ensures c.if-not-all_named.true-raw c.refusing-then-not-all_named.ensures
 
 pub play_runs-requires : goal.play_runs-requires
 play_runs-requires c =
-    (ready c.args.list.now c.args.buffer.now c.args.trace.now c.good_list.ensures c.if-not-good_list.false-raw _ c.check_lookups.ensures c.in_default.is, trace_good c.args.list.now c.args.buffer.now c.args.trace.now c.good_list.ensures c.if-not-good_list.false-raw _ c.check_lookups.ensures c.in_default.is c.good_trace.ensures c.if-not-good_trace.false-raw)
+    (ready c.args.list.now c.args.buffer.now c.args.trace.now c.good_list.ensures c.if-not-good_list.false-raw c.in_default.ensures refl, trace_good c.args.list.now c.args.buffer.now c.args.trace.now c.good_list.ensures c.if-not-good_list.false-raw c.in_default.ensures refl c.good_trace.ensures c.if-not-good_trace.false-raw)
 
 pub returns : goal.returns
 returns c =
-    plays c.args.list.now c.args.buffer.now c.args.trace.now c.good_list.ensures c.if-not-good_list.false-raw _ c.check_lookups.ensures c.in_default.is c.good_trace.ensures c.if-not-good_trace.false-raw c.all_named.ensures c.if-not-all_named.false-raw c.play_runs.ensures
+    plays c.args.list.now c.args.buffer.now c.args.trace.now c.good_list.ensures c.if-not-good_list.false-raw c.in_default.ensures refl c.good_trace.ensures c.if-not-good_trace.false-raw c.all_named.ensures c.if-not-all_named.false-raw c.play_runs.ensures

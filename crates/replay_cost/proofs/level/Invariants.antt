@@ -6,6 +6,3 @@ use Rattle.replay_cost.proofs.level.Given as goal
 
 abbrev pub invariant-loop-lookup : goal.invariant-loop-lookup
 invariant-loop-lookup l = (l.many ≡ length l.list / 10) × Filling l.list l.buffer l.steps l.initial.next l.next l.many l.lookup
-
-abbrev pub decreases-loop-lookup : goal.decreases-loop-lookup
-decreases-loop-lookup l = l.many - l.lookup

@@ -4,6 +4,3 @@ use Rattle.replay_cost.proofs.levels.Given as goal
 
 abbrev pub invariant-loop-i : goal.invariant-loop-i
 invariant-loop-i l = Levelled l.list l.buffer l.initial.here l.initial.there l.here l.there l.i
-
-abbrev pub decreases-loop-i : goal.decreases-loop-i
-decreases-loop-i l = 4 - l.i

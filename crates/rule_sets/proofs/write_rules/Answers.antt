@@ -1,5 +1,4 @@
 use mathlib.Core.Path.{refl, ◌∙◌}
-use Prim.Native.Nat.{◌-◌}
 use native.Mathlib.Omega.{arith}
 use Rattle.meaning.specs.Tables.{rule}
 use Rattle.meaning.specs.Fault.{rule_fault}
@@ -38,16 +37,13 @@ returns-then-area-q c =
       c.write_once-q.ensures.1,
     )
 
-pub loop-i-preserved-then-q-ne0 : goal.loop-i-preserved-then-q-ne0
-loop-i-preserved-then-q-ne0 c =
-    (gathering_one _ _ _ _ _ _ c.loop-i.invariant.0 c.loop-i-test.true c.word_inside-off.ensures.0 c.if-off-eq0.false c.write_once-q.ensures.0 c.if-q-ne0.true c.if-area-q.false c.put.ensures, c.write_once-q.ensures.1, c.dead-1.given ∙ c.loop-i.invariant.2)
-
 pub loop-i-preserved : goal.loop-i-preserved
 loop-i-preserved c =
-    (gathering_gone _ _ _ _ _ _ c.loop-i.invariant.0 c.loop-i-test.true c.word_inside-off.ensures.0 c.if-off-eq0.false c.write_once-q.ensures.0 (omega arith), c.write_once-q.ensures.1, c.dead-1.given ∙ c.loop-i.invariant.2)
+    (gathering_one _ _ _ _ _ _ c.loop-i.invariant.0 c.loop-i-test.true c.word_inside-off.ensures.0 c.if-off-eq0.false c.write_once-q.ensures.0 c.if-q-eq0.false c.if-area-q.false c.put.ensures, c.write_once-q.ensures.1, c.dead-1.given ∙ c.loop-i.invariant.2)
 
-pub close_set-requires : goal.close_set-requires
-close_set-requires c = omega (arith, c.loop-i.invariant.0, c.word_inside-n.ensures.1)
+pub loop-i-preserved-then-q-eq0 : goal.loop-i-preserved-then-q-eq0
+loop-i-preserved-then-q-eq0 c =
+    (gathering_gone _ _ _ _ _ _ c.loop-i.invariant.0 c.loop-i-test.true c.word_inside-off.ensures.0 c.if-off-eq0.false c.write_once-q.ensures.0 (omega arith), c.write_once-q.ensures.1, c.dead-1.given ∙ c.loop-i.invariant.2)
 
 pub returns : goal.returns
 returns c = (

@@ -1,14 +1,9 @@
-use Prim.Native.Nat.{◌-◌}
-use borrow.Author.Rules.{rules}
 use Rattle.member_steps.proofs.Most.{sets_all, sets_null, sets_set, sets_end}
 use Rattle.rule_steps.proofs.most_in_sets.Goals as goal
+use Rattle.rule_steps.proofs.most_in_sets.Goals.{then-set-ne0, else-set-ne0}
 
 pub loop-i-init : goal.loop-i-init
 loop-i-init c = sets_all c.requires.2
-
-pub loop-i-preserved-then-set-eq0 : goal.loop-i-preserved-then-set-eq0
-loop-i-preserved-then-set-eq0 c =
-    sets_null c.loop-i.invariant c.loop-i-test.true c.word_at-set.ensures.0 c.if-set-eq0.true
 
 pub most_in_set-top-requires : goal.most_in_set-top-requires
 most_in_set-top-requires c =
@@ -16,10 +11,10 @@ most_in_set-top-requires c =
 
 pub loop-i-preserved : goal.loop-i-preserved
 loop-i-preserved c =
-    sets_set c.loop-i.invariant c.loop-i-test.true c.word_at-set.ensures.0 c.if-set-eq0.false c.most_in_set-top.ensures (search rules)
+    elim c.if-set-ne0.branch [
+      | then-set-ne0 w ↦ rw (w.top-is, w.marks-is) (sets_set c.loop-i.invariant c.loop-i-test.true c.word_at-set.ensures.0 w.if-set-ne0.true w.most_in_set-top.ensures)
+      | else-set-ne0 w ↦ rw (w.top-is, w.marks-is) (sets_null c.loop-i.invariant c.loop-i-test.true c.word_at-set.ensures.0 w.if-set-ne0.false)
+    ]
 
 pub returns : goal.returns
 returns c = sets_end c.loop-i.invariant c.loop-i-test.false
-
-pub shape_of-marks : goal.shape_of-marks
-shape_of-marks c = c.loop-i.invariant.long

@@ -1,4 +1,3 @@
-use Prim.Native.Nat.{◌-◌}
 use Rattle.runs.proofs.Copying.{copied_none, copied_turn, copied_all}
 use Rattle.runs.proofs.copy_words.Goals as goal
 

@@ -1,4 +1,3 @@
-use Prim.Native.Nat.{◌-◌}
 use Rattle.runs.proofs.Copying.{alike_all, alike_not, alike_turn, alike_end}
 use Rattle.runs.proofs.same_words.Goals as goal
 

@@ -1,3 +1,5 @@
+use Rattle.std.proofs.Common.{Ok, Err}
+use Rattle.std.proofs.lemmas.Result.{err_from_is_err_and}
 use Rattle.single_tables.proofs.Laying.{hands_short, hands_over}
 use Rattle.single_tables.proofs.hand.Goals as goal
 
@@ -5,6 +7,11 @@ pub returns-then-area-end : goal.returns-then-area-end
 returns-then-area-end c =
     hands_short c.if-area-end.true
 
+pub returns-in_err-hand_over : goal.returns-in_err-hand_over
+returns-in_err-hand_over c =
+    let p = err_from_is_err_and c.from_residual.result c.from_residual.ensures.1 in
+    rw (p.1, p.2) (hands_over (Err _) c.if-area-end.false c.in_err-hand_over.ensures)
+
 pub returns : goal.returns
 returns c =
-    hands_over c.if-area-end.false c.hand_over.ensures
+    hands_over (Ok _) c.if-area-end.false c.in_ok-hand_over.ensures

@@ -1,7 +1,7 @@
 use Rattle.single_tables.proofs.Laying.{listing_all, listing_turn, listing_end}
 use Rattle.laws.specs.Written.{wrote_length}
 use mathlib.Core.Path.{refl}
-use Prim.Native.Nat.{◌+◌, ◌-◌}
+use Prim.Native.Nat.{◌+◌}
 use native.Mathlib.Omega.{arith}
 use Rattle.single_tables.proofs.put_substitutes.Goals as goal
 

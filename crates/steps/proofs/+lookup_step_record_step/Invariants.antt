@@ -1,4 +1,4 @@
-use Rattle.std.proofs.Common.{◌+◌, ◌-◌, ◌*◌}
+use Rattle.std.proofs.Common.{◌+◌, ◌*◌}
 use Rattle.replaying.specs.Listed.{lookups_of}
 use Rattle.lookup_list.specs.Ready.{source_at}
 use Rattle.steps.proofs.Stepping.{Running}
@@ -12,6 +12,3 @@ decreases-record_step l = 2 * l.depth + 1
 
 abbrev pub invariant-record_step-loop-i : goal.invariant-record_step-loop-i
 invariant-record_step-loop-i l = Running (lookups_of l.list l.buffer) (source_at l.list l.buffer l.owner) l.initial.string l.n l.records.at l.records.len l.place l.depth l.string l.i
-
-abbrev pub decreases-record_step-loop-i : goal.decreases-record_step-loop-i
-decreases-record_step-loop-i l = l.records.len - l.i

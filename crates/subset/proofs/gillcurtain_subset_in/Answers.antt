@@ -1,18 +1,11 @@
-use Prim.Native.Nat.{ℕ, ◌<◌}
-use native.Mathlib.Omega.{arith}
-use lib.ListN.{get_or}
+use Rattle.std.proofs.Common.{arith}
 use Rattle.answer_numbers.proofs.Coded.{length_most, code_says}
 use Rattle.subset.proofs.gillcurtain_subset_in.Goals as goal
-use Rattle.subset.proofs.gillcurtain_subset_in.Goals.{After-subset_in}
-
--- what a slice holds are bytes
-source_bytes : (c : After-subset_in) (i : ℕ) → get_or c.args.source.now i 0 < 256
-source_bytes c i = omega (arith, c.type_inv.source i)
 
 pub one_number-requires : goal.one_number-requires
 one_number-requires c =
-    length_most c.args.kind c.args.form c.args.layout c.args.source.now c.args.glyphs.now c.args.lookups.now c.args.out.now c.subset_in.result c.subset_in.ensures (source_bytes (goal.at.one_number-requires c).After-subset_in)
+    length_most _ _ _ _ _ _ _ _ c.subset_in.ensures (λ i. omega (arith, c.type_inv.source i))
 
 pub returns : goal.returns
 returns c =
-    code_says c.args.kind c.args.form c.args.layout c.args.source.now c.args.glyphs.now c.args.lookups.now c.args.out.now c.subset_in.result c.subset_in.ensures (source_bytes (goal.at.returns c).After-subset_in) c.one_number.ensures
+    code_says _ _ _ _ _ _ _ _ c.subset_in.ensures (λ i. omega (arith, c.type_inv.source i)) c.one_number.ensures

@@ -6,6 +6,3 @@ use Rattle.value_differences.proofs.list_fields.Given as goal
 
 abbrev pub invariant-loop-i : goal.invariant-loop-i
 invariant-loop-i l = Through (at_field l.g l.second (values_at l.left l.p) (values_at l.right l.q)) 8 12 l.initial.out l.pos l.out l.at l.i
-
-abbrev pub decreases-loop-i : goal.decreases-loop-i
-decreases-loop-i l = 8 - l.i

@@ -1,24 +1,35 @@
+use mathlib.Core.Path.{◌≡◌, ap, ◌∙◌}
+use Prim.Native.Nat.{ℕ, suc, ◌+◌, ◌-◌, ◌*◌, ◌<◌, ◌≤◌}
+use native.Mathlib.Nat.{mul-suc}
 use native.Mathlib.Omega.{arith}
-use Rattle.laws.specs.Ascends.{ascending_all, ascending_near, ascending_turn, ascending_falls, ascending_end}
+use Rattle.laws.specs.Ascends.{ascending_all, ascending_turn, ascending_falls, ascending_end}
 use Rattle.wire.proofs.ascending.Goals as goal
 
-pub loop-left-init : goal.loop-left-init
-loop-left-init c = (ascending_all, c.word_at-last.ensures.0)
+-- from the word before the i-th to the i-th
+next_place : (at step i : ℕ) → 1 ≤ i → at + step * (i - 1) + step ≡ at + step * i
+next_place at step i h =
+    let e : i ≡ suc (i - 1) = omega arith in
+    omega (arith, ap (λ (k : ℕ). step * k) e ∙ mul-suc step (i - 1))
 
-pub overflow_add-p : goal.overflow_add-p
-overflow_add-p c = omega (arith, ascending_near c.loop-left.invariant.0 c.loop-left-test.true)
+pub loop-i-init : goal.loop-i-init
+loop-i-init c =
+    let p : c.args.at + c.args.step * (1 - 1) ≡ c.args.at = omega arith in
+    let d : c.args.n - (1 - 1) ≡ c.args.n = omega arith in
+    (rw (p, d) ascending_all, rw p c.word_at-last.ensures.0)
 
 pub returns-then-next-last : goal.returns-then-next-last
 returns-then-next-last c =
-    ascending_falls c.loop-left.invariant.0 c.loop-left-test.true c.word_at-next.ensures.0 c.loop-left.invariant.1 c.if-next-last.true
+    let q = next_place c.args.at c.args.step c.loop-i.i c.loop-i.auto.i in
+    ascending_falls c.loop-i.invariant.0 (omega arith) (rw q c.word_at-next.ensures.0) c.loop-i.invariant.1 c.if-next-last.true
 
-pub overflow_add-p-in-loop-left : goal.overflow_add-p-in-loop-left
-overflow_add-p-in-loop-left c =
-    omega (arith, ascending_near c.loop-left.invariant.0 c.loop-left-test.true)
-
-pub loop-left-preserved : goal.loop-left-preserved
-loop-left-preserved c =
-    (ascending_turn c.loop-left.invariant.0 c.loop-left-test.true c.word_at-next.ensures.0 c.loop-left.invariant.1 (omega arith), c.word_at-next.ensures.0)
+pub loop-i-preserved : goal.loop-i-preserved
+loop-i-preserved c =
+    let q = next_place c.args.at c.args.step c.loop-i.i c.loop-i.auto.i in
+    let i : c.loop-i.i + 1 - 1 ≡ c.loop-i.i = omega arith in
+    let d : c.args.n - (c.loop-i.i - 1) - 1 ≡ c.args.n - c.loop-i.i = omega arith in
+    let l : c.loop-i.last < c.word_at-next.result = omega arith in
+    let k = ascending_turn c.loop-i.invariant.0 (omega arith) (rw q c.word_at-next.ensures.0) c.loop-i.invariant.1 l in
+    (rw i (rw (d, q) at k), rw i c.word_at-next.ensures.0)
 
 pub returns : goal.returns
-returns c = ascending_end c.loop-left.invariant.0 c.loop-left-test.false
+returns c = ascending_end c.loop-i.invariant.0 (omega arith)

@@ -1,4 +1,0 @@
-use Rattle.cut.proofs.+in_class_pairs.Given as goal
-
-abbrev pub decreases-in_class_pairs : goal.decreases-in_class_pairs
-decreases-in_class_pairs l = l.rounds

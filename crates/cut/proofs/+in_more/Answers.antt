@@ -1,6 +1,0 @@
-use Rattle.std.proofs.Common.{length}
-use Rattle.cut.proofs.Sizes.{cleared, unless_short}
-use Rattle.cut.proofs.+in_more.Goals as goal
-
-pub returns : goal.returns
-returns t c = unless_short c.args.marks.kind c.args.src.now (length (cleared 12288)) (length (cleared 24576)) c.cut_in.ensures
