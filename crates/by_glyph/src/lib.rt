@@ -21,7 +21,7 @@ use kept_rules::Maps;
 use marks::Marks;
 use placed_sets::Sort;
 use room::{AREA, NotLaid};
-use tried::{NotCut, least};
+use tried::NotCut;
 use wire::word_inside;
 
 // What `cut_sets::cut_sets` does, from the source and the map's list on, for ligatures.
@@ -99,7 +99,7 @@ pub fn ligatures(
     requires { (header_fault (enough src.now (word src.now 4)) 0 4 (set_fault_of Ligatures src.now) src.now ≡ None) × (length src.now ≤ limit) × GlyphMap marks.form glyphs.now }
     ensures { Tries (length t.old < cells_most) (length area.old < enough_area) result out.old out.new (written_in marks.layout out.old (cut (glyph_entries marks.form glyphs.now) [] (ligature_table src.now))) }
 {
-    let bytes = least(area.len(), AREA);
+    let bytes = area.len().min(AREA);
     cut_ligatures(src, glyphs, marks, t, &mut area[..bytes], out)
 }
 
@@ -117,7 +117,7 @@ pub fn contexts(
     requires { (header_fault (enough src.now (word src.now 4)) 0 4 (set_fault_of (Rules chained) src.now) src.now ≡ None) × (length src.now ≤ limit) × GlyphMap marks.form glyphs.now × (ascends (keys (map_entries lookups.now)) ≡ true) }
     ensures { Tries (length t.old < cells_most) (length area.old < enough_area) result out.old out.new (written_in marks.layout out.old (cut (glyph_entries marks.form glyphs.now) (map_entries lookups.now) (glyph_context chained src.now))) }
 {
-    let bytes = least(area.len(), AREA);
+    let bytes = area.len().min(AREA);
     cut_contexts(
         chained,
         src,

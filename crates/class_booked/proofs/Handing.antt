@@ -2,7 +2,7 @@
 use Prim.Native.Nat.{ℕ, ◌+◌, ◌-◌, ◌*◌, ◌≤◌, ◌<◌}
 use mathlib.Core.Path.{◌≡◌, refl, sym, ap, ◌∙◌, subst}
 use mathlib.Core.Bool.{Bool, true, false, true≢false}
-use Rattle.std.specs.Prelude.{Option, None, Some, Err}
+use Rattle.std.specs.Prelude.{Option, None, Some}
 use mathlib.Core.List.{List, [], ◌∷◌, ◌++◌}
 use native.Mathlib.Omega.{arith}
 use lib.ListN.{length, replicate, length-replicate}
@@ -24,25 +24,11 @@ use Rattle.class_spots.specs.SlotWalk.{trim_words}
 use Rattle.class_places.specs.Places.{slots_at, slots_near}
 use Rattle.class_spots.specs.Slots.{slot_blocks, blocks_many, Noted, Filled, WroteSlots}
 use Rattle.class_spots.specs.declared.Slots.{Slots}
-use Rattle.tried.specs.Tries.{Tries}
-use Rattle.tried.specs.declared.NotCut.{NotCut}
-use Rattle.tried.specs.declared.NotCut.TheVariants.{Short, Refused}
-use Rattle.room.specs.declared.NotLaid.TheVariants.{TooBig}
 use Rattle.remade_classes.specs.Tail.{tail_many, cover_of, table_blocks, tail_words, tail_fit}
 use Rattle.class_finish.specs.Table.{cover_place, class_table, table_into, Finishes, Finished}
-use Rattle.class_finish.specs.Written.{BookFor, NoRoom, Writes, left_into}
+use Rattle.class_finish.specs.Written.{BookFor, Writes, left_into}
 use Rattle.class_finish.specs.declared.Prepared.{Prepared}
 use Rattle.new_class_tables.proofs.Fitting.{tail_fit_lem}
-
--- no room
-pub too_short : {n : ℕ} → n < enough_area → NoRoom n Short
-too_short h = record { told = λ out made k. (h, refl) }
-
-pub too_big : {n : ℕ} → enough_area ≤ n → NoRoom n (Refused TooBig)
-too_big h = record { told = λ out made k. k h }
-
-pub room_told : {n m : ℕ} {r : NotCut} {out : List ℕ} {made : Outcome} → NoRoom n r → n ≡ m → (enough_area ≤ n → refused out 9 ≡ made) → Tries ⊥ (m < enough_area) (Err r) out out made
-room_told {n} {m} {r} {out} {made} h e k = subst (λ (i : ℕ). Tries ⊥ (i < enough_area) (Err r) out out made) e (h.told out made k)
 
 -- Books.
 

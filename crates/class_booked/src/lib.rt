@@ -8,14 +8,14 @@ ghost use Rattle.kept_rules.specs.Left.{maps_in, rule_left};
 ghost use Rattle.tried.specs.Tries.{Tries};
 ghost use Rattle.class_finish.specs.Written.{BookFor, Writes, left_into};
 
-use class_finish::{Prepared, finish, no_room};
+use class_finish::{Prepared, finish};
 use class_places::slots_at;
 use class_slots::write_slots;
 use class_spots::Classes;
 use handing::hand_over;
 use repeats::BOOK;
-use room::NotLaid;
-use tried::NotCut;
+use room::{AREA, NotLaid};
+use tried::{NotCut, no_room};
 
 // What is left of a context, of which the cells hold what is needed, written into the area by this book and handed over if there is room. `dead` has marks at the places of rules that are known to go.
 pub fn write_booked(
@@ -40,14 +40,14 @@ pub fn write_booked(
     };
     let slots = write_slots(chained, src, t, prepared.maps, all, dead, area, book);
     if area.len() < slots.end {
-        return Err(no_room(area));
+        return Err(no_room(area, AREA));
     }
     if slots.count == 0 {
         return Err(NotCut::Refused(NotLaid::Nothing));
     }
     let end = finish(src, glyphs, t, prepared.tail, slots, classes, area, book);
     if area.len() < end {
-        return Err(no_room(area));
+        return Err(no_room(area, AREA));
     }
     let at = slots_at(chained);
     Ok(hand_over(area, at + 2 * slots.count, at + 2 * classes, end, true, out)?)

@@ -11,7 +11,6 @@ ghost use Rattle.tried.specs.Tries.{Tries};
 ghost use Rattle.context_classes.specs.Cutting.{enough_cells, Sound, Behind, Covers, NotesCovered, Cuts};
 
 use class_layouts::write_left;
-use class_lists::greater;
 use class_maps::MOST;
 use class_places::input_at;
 use context_classes::{Begun, lay_classes, prepare};
@@ -22,7 +21,7 @@ use meet_runs::meet;
 use meets::most;
 use remade_classes::Noted;
 use room::{AREA, NotLaid};
-use tried::{NotCut, least};
+use tried::NotCut;
 use wire::word_at;
 
 // The number of cells that is enough for any source: 65,536 that take turns as the glyph map, the list of a class table's classes and the lookup map, and as many for the notes of the covered glyphs; three class maps; and 2,048 for the marks, 32 in each.
@@ -69,7 +68,7 @@ fn notes_at(mask: usize, lookups: &[u8], all: usize) -> usize
     if CELLS <= all {
         return 65536;
     }
-    greater(mask + 1, greater(cells(lookups), all / 4))
+    (mask + 1).max(cells(lookups)).max(all / 4)
 }
 
 // The retained covered glyphs, noted in cells behind those that the glyph map takes, and then others in its place. The place is 0 where there are too few cells.
@@ -139,8 +138,8 @@ pub fn by_class(
     requires { Sound chained src.now marks.form glyphs.now lookups.now }
     ensures { Tries (length t.old < enough_cells) (length area.old < enough_area) result out.old out.new (written_in marks.layout out.old (cut (glyph_entries marks.form glyphs.now) (map_entries lookups.now) (class_context chained src.now))) }
 {
-    let cells = least(t.len(), CELLS);
-    let bytes = least(area.len(), AREA);
+    let cells = t.len().min(CELLS);
+    let bytes = area.len().min(AREA);
     cut_in(
         chained,
         src,

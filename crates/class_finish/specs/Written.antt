@@ -1,12 +1,9 @@
 -- What is left of a context by class, written into the area and handed over.
-use Rattle.std.specs.Prelude.{ℕ, ◌≤◌, ◌<◌, ◌≡◌, true, List, length, eqb, Err}
+use Rattle.std.specs.Prelude.{ℕ, ◌≤◌, ◌≡◌, true, List, length, eqb}
 use Rattle.meaning.specs.Cut.{trim}
-use Rattle.meaning.specs.Subset.{Outcome, refused}
-use Rattle.room.specs.Laid.{enough_area}
+use Rattle.meaning.specs.Subset.{Outcome}
 use Rattle.known_blocks.specs.Book.{book_cells, packs}
 use Rattle.class_spots.specs.Slots.{Ready, slot_blocks}
-use Rattle.tried.specs.Tries.{Tries}
-use Rattle.tried.specs.declared.NotCut.{NotCut}
 use Rattle.remade_classes.specs.Tail.{cover_of, table_blocks, TailIn}
 use Rattle.class_finish.specs.Table.{table_into}
 use Rattle.class_finish.specs.declared.Prepared.{Prepared}
@@ -19,10 +16,6 @@ most_classes = 65536
 pub record BookFor (packing : ℕ) (book : List ℕ) : Type 0 where
   pub mode : packs book ≡ eqb packing 1
   pub enough : packs book ≡ true → book_cells ≤ length book
-
--- What is answered where an area of n bytes has no room: it is too short, or the layout is too big, if an area that is long enough says so.
-pub record NoRoom (n : ℕ) (r : NotCut) : Type 0 where
-  pub told : (out : List ℕ) (made : Outcome) → (enough_area ≤ n → refused out 9 ≡ made) → Tries ⊥ (n < enough_area) (Err r) out out made
 
 -- what the writer asks: the cells have all that is needed for the sets and for what follows them, and there are not too many classes
 pub record Writes (s glyphs t : List ℕ) (p : Prepared) (area : List ℕ) : Type 0 where

@@ -1,11 +1,10 @@
-// Format 2 of contexts and chained contexts: the table is put together around its sets, and what is answered where the area has no room for it.
+// Format 2 of contexts and chained contexts: the table is put together around its sets.
 #![tactic(auto)]
 
 ghost use Rattle.std.specs.Prelude.{◌≡◌, true, ◌+◌, ◌*◌, ◌≤◌, ◌<◌, length};
 ghost use Rattle.known_blocks.specs.Book.{book_cells, packs};
 ghost use Rattle.remade_classes.specs.Tail.{cover_of, table_blocks};
 ghost use Rattle.class_finish.specs.Table.{Finishes, Finished};
-ghost use Rattle.class_finish.specs.Written.{NoRoom};
 
 use area::put;
 use class_places::slots_at;
@@ -14,8 +13,6 @@ use class_spots::Slots;
 use class_tail::write_tail;
 use kept_rules::Maps;
 use remade_classes::Tail;
-use room::{AREA, NotLaid};
-use tried::NotCut;
 
 // What the cells hold for the cut: the maps of the rules, the marks of the classes that covered glyphs hold, by where they begin, the number of surviving classes, and what follows the sets. And the mark of the layout that is asked for.
 #[derive(Clone, Copy)]
@@ -49,14 +46,4 @@ pub fn finish(
     let end = write_tail(src, glyphs, t, tail, area, book, gap, slots.end);
     put(area, at - 2, count);
     end
-}
-
-// What is answered where the area has no room: it is too short, or, if it is long enough for any layout that is not too big, this one is too big.
-pub fn no_room(area: &[u8]) -> NotCut
-    ensures { NoRoom (length area.now) result }
-{
-    if area.len() < AREA {
-        return NotCut::Short;
-    }
-    NotCut::Refused(NotLaid::TooBig)
 }

@@ -1,5 +1,5 @@
 -- The ways through the listing of classes.
-use Prim.Native.Nat.{ℕ, zero, suc, ◌+◌, ◌-◌, ◌*◌, ◌/◌, ◌%◌, ◌≤◌, ◌<◌}
+use Prim.Native.Nat.{ℕ, zero, suc, ◌+◌, ◌-◌, ◌*◌, ◌/◌, ◌%◌, ◌≤◌, ◌<◌, max}
 use mathlib.Core.Path.{◌≡◌, refl, sym, ap, ap₂, ◌∙◌}
 use mathlib.Core.Bool.{Bool, true, false, cond, ◌||◌}
 use Rattle.std.specs.Prelude.{None, Some}
@@ -23,7 +23,7 @@ use Rattle.glyph_runs.specs.declared.Run.{Run}
 use Rattle.class_stretches.specs.Tables.{classes_at, NullOrSound}
 use Rattle.class_stretches.specs.Stretches.{Hint, Found}
 use Rattle.class_lists.specs.From.{from_old, from_first, from_low, from_few, from_gap, from_end, from_one, from_steps}
-use Rattle.class_lists.specs.Listed.{classed, holds_zero, Listed, Greater, rising, PutRun, ToFill, Filled, Passes}
+use Rattle.class_lists.specs.Listed.{classed, holds_zero, Listed, rising, PutRun, ToFill, Filled, Passes}
 use Rattle.class_stretches.specs.declared.Stretch.{Stretch}
 use Rattle.class_lists.specs.declared.Place.{Place}
 
@@ -125,14 +125,6 @@ module _ {form : ℕ} {m : List ℕ} (g : GlyphMap form m) {run from : ℕ} (w :
   pub gap_end : run_count form m ≤ run → from_old from (glyph_entries form m) ≡ []
   gap_end h = from_end from 0 (glyph_entries form m) (map_good g).old (λ y a. none_found g y w (λ k e. omega (arith, p k e)) (λ l. absurd (omega arith)))
 
-module _ {a b r : ℕ} (k : Greater a b r) where
-  greater_gap : (y : ℕ) → b ≤ y → y < r → y < a
-  greater_gap y l h = step (dec_lt y a)
-    where
-      step : Dec (y < a) → y < a
-      step (yes d) = d
-      step (no d) = absurd (omega (arith, k.least (y + 1) (omega arith) (omega arith)))
-
 -- a stretch of a run: n glyphs from `first` on
 module _ {form : ℕ} {m : List ℕ} (g : GlyphMap form m) {e : ℕ} {r : Run} (h : e < run_count form m) (d : IsRun form m e r) where
   run_steps : (first n : ℕ) → r.old ≤ first → first + n ≤ r.old + r.count → from_old first (glyph_entries form m) ≡ steps first (r.new + (first - r.old)) n ++ from_old (first + n) (glyph_entries form m)
@@ -201,19 +193,19 @@ module _ {form : ℕ} {m : List ℕ} {x : ℕ} {found : Stretch} {t₀ : List �
       reached = record { within = k.reached.within; passed = λ i q. omega (arith, k.reached.passed i q, k.near); ends = λ l. absurd (omega arith) };
     }
 
-    module _ {r : Run} {first : ℕ} (h : e < run_count form m) (d : IsRun form m e r) (f : Greater r.old from first) where
+    module _ {r : Run} {first : ℕ} (h : e < run_count form m) (d : IsRun form m e r) (f : first ≡ max r.old from) where
       to_first : from_old from g ≡ from_old first g
-      to_first = gap_to k.good k.reached.within k.reached.passed first f.second (λ y a b l. omega (arith, greater_gap f y a b, d.old))
+      to_first = gap_to k.good k.reached.within k.reached.passed first (omega arith) (λ y a b l. omega (arith, d.old))
 
       -- the next glyph is in the run
       pub filling_in : first < r.old + r.count
-      filling_in = f.least (r.old + r.count) (omega (arith, d.some)) (omega (arith, k.reached.ends h, d.old, d.count))
+      filling_in = omega (arith, d.some, k.reached.ends h, d.old, d.count)
 
       -- the next glyph is past the stretch
       pub filling_stops : found.last + 1 ≤ first → Filled form m x found t₀ t cell (record { run = e; cell = to })
       filling_stops l = record {
         mid = k.mid;
-        split = k.split ∙ ap (λ (q : List (ℕ × ℕ)). k.mid ++ q) (gap_to k.good k.reached.within k.reached.passed (found.last + 1) k.near (λ y a b n. omega (arith, greater_gap f y a (omega arith), d.old)));
+        split = k.split ∙ ap (λ (q : List (ℕ × ℕ)). k.mid ++ q) (gap_to k.good k.reached.within k.reached.passed (found.last + 1) k.near (λ y a b n. omega (arith, d.old)));
         within = k.within;
         past = k.reach;
         cells = k.cells;
@@ -223,7 +215,7 @@ module _ {form : ℕ} {m : List ℕ} {x : ℕ} {found : Stretch} {t₀ : List �
 
       -- a stretch of the run may be put into cells
       pub filling_put : (n : ℕ) → first + n ≤ r.old + r.count → (to < 0x2_0000_0000_0000) × (r.new + (first - r.old) + n ≤ 65536) × (found.class < 65536)
-      filling_put n b = (omega (arith, filling_few, k.low), omega (arith, f.first, d.new_end), k.small)
+      filling_put n b = (omega (arith, filling_few, k.low), omega (arith, d.new_end), k.small)
 
       module _ {n : ℕ} (b : first + n ≤ r.old + r.count) (c : first + n ≤ found.last + 1) {u : List ℕ} {q : ℕ}
           (w : PutRun t u to (r.new + (first - r.old)) n found.class q) where
@@ -234,11 +226,11 @@ module _ {form : ℕ} {m : List ℕ} {x : ℕ} {found : Stretch} {t₀ : List �
         many = length-append k.mid (steps first (r.new + (first - r.old)) n) ∙ ap (λ (j : ℕ). length k.mid + j) (steps_length first (r.new + (first - r.old)) n)
 
         split_more : from_old x g ≡ more ++ from_old (first + n) g
-        split_more = k.split ∙ ap (λ (s : List (ℕ × ℕ)). k.mid ++ s) (to_first ∙ run_steps k.good h d first n f.first b)
+        split_more = k.split ∙ ap (λ (s : List (ℕ × ℕ)). k.mid ++ s) (to_first ∙ run_steps k.good h d first n (omega arith) b)
             ∙ sym (append_assoc k.mid (steps first (r.new + (first - r.old)) n) (from_old (first + n) g))
 
         within_more : All (λ e. (x ≤ e.0) × (e.0 ≤ found.last)) more
-        within_more = all_append (λ e. (x ≤ e.0) × (e.0 ≤ found.last)) k.mid (steps first (r.new + (first - r.old)) n) k.within (steps_within x found.last first (r.new + (first - r.old)) n (omega (arith, k.order, f.second)) c)
+        within_more = all_append (λ e. (x ≤ e.0) × (e.0 ≤ found.last)) k.mid (steps first (r.new + (first - r.old)) n) k.within (steps_within x found.last first (r.new + (first - r.old)) n (omega (arith, k.order)) c)
 
         reach_more : q ≡ cell + length more
         reach_more = omega (arith, w.past, k.reach, many)
@@ -275,7 +267,7 @@ module _ {form : ℕ} {m : List ℕ} {x : ℕ} {found : Stretch} {t₀ : List �
             passed = λ i j. let s : i ≡ e = omega arith in rw s (omega (arith, d.old, d.count));
             ends = λ j. omega (arith, d.old, d.count, apart k.good e (e + 1) (omega arith) j, (run_is k.good (e + 1) j).some);
           };
-          order = omega (arith, k.order, f.second, d.some);
+          order = omega (arith, k.order, d.some);
           near = omega arith;
           end = k.end;
           small = k.small;
@@ -427,29 +419,29 @@ module _ {s : List ℕ} {at form : ℕ} {m t₀ : List ℕ} {list : ℕ} where
         none_long : length (classed cs (from_old from es)) ≡ 0
         none_long = rw (none_left, classed_none cs)
 
-    module _ {r : Run} {glyph : ℕ} (h : run < run_count form m) (d : IsRun form m run r) (f : Greater r.old from glyph) where
+    module _ {r : Run} {glyph : ℕ} (h : run < run_count form m) (d : IsRun form m run r) (f : glyph ≡ max r.old from) where
       glyph_in : glyph < r.old + r.count
-      glyph_in = f.least (r.old + r.count) (omega (arith, d.some)) (omega (arith, k.reached.ends h, d.old, d.count))
+      glyph_in = omega (arith, d.some, k.reached.ends h, d.old, d.count)
 
       -- the search may begin with `next`
       pub listing_hint : NullOrSound s at × Hint s at glyph next × (glyph < 65536)
-      listing_hint = (k.sound, k.hint glyph f.second, omega (arith, glyph_in, d.old_end))
+      listing_hint = (k.sound, k.hint glyph (omega arith), omega (arith, glyph_in, d.old_end))
 
       to_glyph : from_old from es ≡ from_old glyph es
-      to_glyph = gap_to k.good k.reached.within k.reached.passed glyph f.second (λ y a b l. omega (arith, greater_gap f y a b, d.old))
+      to_glyph = gap_to k.good k.reached.within k.reached.passed glyph (omega arith) (λ y a b l. omega (arith, d.old))
 
       module _ {found : Stretch} (w : Found s at glyph found) where
         pub listing_fill : ToFill form m run glyph found cell
         listing_fill = record {
           good = k.good;
-          reached = record { within = k.reached.within; passed = λ i e. omega (arith, k.reached.passed i e, f.second); ends = λ l. omega (arith, glyph_in, d.old, d.count) };
+          reached = record { within = k.reached.within; passed = λ i e. omega (arith, k.reached.passed i e); ends = λ l. omega (arith, glyph_in, d.old, d.count) };
           holds = w.stretch.holds;
           end = w.stretch.end;
           small = w.stretch.small;
           near = omega (arith, listing_few, k.near);
         }
 
-        module _ {u : List ℕ} {p : Place} (v : Passes form m glyph found t u cell p) {more : ℕ} {met : Bool} (o : Greater high found.class more) (z : met ≡ zero || eqb found.class 0) where
+        module _ {u : List ℕ} {p : Place} (v : Passes form m glyph found t u cell p) {more : ℕ} {met : Bool} (o : more ≡ max found.class high) (z : met ≡ zero || eqb found.class 0) where
           abbrev left : List (ℕ × ℕ)
           left = from_old (found.last + 1) es
 
@@ -466,7 +458,7 @@ module _ {s : List ℕ} {at form : ℕ} {m t₀ : List ℕ} {list : ℕ} where
             reached = v.reached;
             hint = λ y l. w.hint y (omega arith);
             low = omega (arith, w.stretch.end);
-            small = o.least 65536 k.small w.stretch.small;
+            small = omega (arith, k.small, w.stretch.small);
             kept = a;
             order = b;
             place = c;
@@ -483,7 +475,7 @@ module _ {s : List ℕ} {at form : ℕ} {m t₀ : List ℕ} {list : ℕ} where
               (omega (arith, q.0, k.order))
               (omega (arith, q.0, k.place, ap length same))
               (λ l. rw (q.0, q.1, ← same) (k.cells (omega (arith, q.0))))
-              (λ b l a. k.most b (omega (arith, o.first)) (rw same a))
+              (λ b l a. k.most b (omega arith) (rw same a))
               (rw (z, eq-eqb found.class 0 n, or_true zero) (sym (sym k.zeros ∙ ap (λ (y : Bool). zero || y) held ∙ or_true zero)))
             where
               same : classed cs (from_old from es) ≡ classed cs left
@@ -491,8 +483,8 @@ module _ {s : List ℕ} {at form : ℕ} {m t₀ : List ℕ} {list : ℕ} where
 
               there : find es glyph ≡ Some (new_of form m run + (glyph - old_of form m run))
               there =
-                  let e : old_of form m run + (glyph - old_of form m run) ≡ glyph = omega (arith, f.first, d.old) in
-                  rw e at (run_found k.good run (glyph - old_of form m run) h (omega (arith, glyph_in, f.first, d.old, d.count)))
+                  let e : old_of form m run + (glyph - old_of form m run) ≡ glyph = omega (arith, d.old) in
+                  rw e at (run_found k.good run (glyph - old_of form m run) h (omega (arith, glyph_in, d.old, d.count)))
 
               held : holds_zero cs (from_old from es) ≡ true
               held = ap (holds_zero cs) (to_glyph ∙ from_one glyph (new_of form m run + (glyph - old_of form m run)) 0 es (map_good k.good).old there)
@@ -506,7 +498,7 @@ module _ {s : List ℕ} {at form : ℕ} {m t₀ : List ℕ} {list : ℕ} where
               (omega (arith, q.past, k.order))
               (omega (arith, q.past, k.place, ap length same, long))
               (λ l. cells l)
-              (λ b l a. k.most b (omega (arith, o.first)) (rw same (all_append (λ e. e.1 ≤ b) (map (λ e. (e.1, found.class)) q.mid) (classed cs left) (class_all found.class b q.mid (omega (arith, o.second))) a)))
+              (λ b l a. k.most b (omega arith) (rw same (all_append (λ e. e.1 ≤ b) (map (λ e. (e.1, found.class)) q.mid) (classed cs left) (class_all found.class b q.mid (omega arith)) a)))
               (rw (z, ne_eqb found.class 0 n, or_none zero) (ap (λ (y : Bool). zero || y) (sym others) ∙ k.zeros))
             where
               long : length (map {B = ℕ × ℕ} (λ e. (e.1, found.class)) (v.listed n).mid ++ classed cs left) ≡ length (v.listed n).mid + length (classed cs left)

@@ -35,12 +35,6 @@ pub record Listed (cs g : List (ℕ × ℕ)) (t₀ t : List ℕ) (list : ℕ) (r
   pub zero : r.zero ≡ holds_zero cs g
   pub cells : list + r.len ≤ length t₀ → notes t list r.len ≡ classed cs g
 
--- r is the greater of two numbers
-pub record Greater (a b r : ℕ) : Type 0 where
-  pub first : a ≤ r
-  pub second : b ≤ r
-  pub least : (k : ℕ) → a < k → b < k → r < k
-
 -- n new numbers in step, each with the class c
 unfoldable pub rising : ℕ → ℕ → ℕ → List (ℕ × ℕ)
 rising new c zero = []

@@ -6,7 +6,7 @@ ghost use Rattle.std.specs.Prelude.{◌≡◌, ◌||◌, ◌+◌, ◌≤◌, ◌
 ghost use Rattle.meaning.specs.Maps.{glyph_entries};
 ghost use Rattle.glyph_runs.specs.Runs.{GlyphMap};
 ghost use Rattle.class_stretches.specs.Tables.{classes_at, NullOrSound};
-ghost use Rattle.class_lists.specs.Listed.{Greater, PutRun, ToFill, Filled, Passes, Listed};
+ghost use Rattle.class_lists.specs.Listed.{PutRun, ToFill, Filled, Passes, Listed};
 
 use class_stretches::{Stretch, stretch_from};
 use glyph_runs::{count_runs, reach, run_at};
@@ -24,16 +24,6 @@ pub struct ClassList {
     pub len: usize,
     pub high: usize,
     pub zero: bool,
-}
-
-// The greater of two numbers.
-pub fn greater(a: usize, b: usize) -> usize
-    ensures { Greater a b result }
-{
-    if a < b {
-        return b;
-    }
-    a
 }
 
 // New numbers in step, `n` from `new` on, each with the class, in the cells from `cell` on, if there is room for them all; the cell after them.
@@ -70,7 +60,7 @@ fn fill(
     let mut to = cell;
     for e in run..n {
         let r = run_at(glyphs, form, e);
-        let first = greater(r.old, from);
+        let first = r.old.max(from);
         if end <= first {
             return Place { run: e, cell: to };
         }
@@ -140,10 +130,10 @@ pub fn list_classes(
     // A while: each step passes the runs of a stretch.
     while run < n {
         let r = run_at(glyphs, form, run);
-        let glyph = greater(r.old, from);
+        let glyph = r.old.max(from);
         let found = stretch_from(src, at, next, glyph);
         let place = list_stretch(glyphs, form, run, glyph, found, t, cell);
-        high = greater(high, found.class);
+        high = found.class.max(high);
         zero = met_zero(zero, found.class);
         next = found.next;
         from = found.last + 1;

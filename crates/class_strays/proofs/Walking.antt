@@ -1,5 +1,5 @@
 -- What the walks keep, with each way through a turn.
-use Prim.Native.Nat.{ℕ, zero, suc, ◌+◌, ◌-◌, ◌%◌, ◌≤◌, ◌<◌}
+use Prim.Native.Nat.{ℕ, zero, suc, ◌+◌, ◌-◌, ◌%◌, ◌≤◌, ◌<◌, min}
 use mathlib.Core.Path.{◌≡◌, refl, sym, ◌∙◌}
 use mathlib.Core.Bool.{Bool, true, false, cond, ◌&&◌, ◌||◌, not}
 use Rattle.std.specs.Prelude.{Option}
@@ -9,8 +9,8 @@ use native.Mathlib.Omega.{arith}
 use native.Mathlib.Numerals.{add-one}
 use lib.ListN.{length, get_or, set, length-set}
 use lib.Seq.{get_or-set_same, get_or-set_other}
-use lib.Dec.{eqb, leb, ltb}
-use borrow.Author.Tests.{eqb-true, eqb-false, eq-eqb, ne_eqb, le-leb, lt-leb, lt-ltb, le-ltb, ltb-true, ltb-false}
+use lib.Dec.{eqb, leb}
+use borrow.Author.Tests.{eqb-true, eqb-false, eq-eqb, ne_eqb, le-leb, lt-leb}
 use Rattle.meaning.specs.Parts.{class_in}
 use Rattle.difference_laws.specs.ClassNumbers.{lowest, strays, class_number, lowest_within, lowest_held, unheld_stays}
 use Rattle.class_stretches.specs.declared.Stretch.{Stretch}
@@ -220,13 +220,6 @@ pub lowest_more : (v : ℕ) → 65536 < v → ((v - 1) % 65536 + 1 ≡ lowest_in
 unfolding lowest_in
 lowest_more v h = (rw (lt-leb v 65536 h), omega arith)
 
--- the ways through `lower`
-pub lower_first : (a b : ℕ) → a < b → a ≡ cond (ltb a b) a b
-lower_first a b h = rw (lt-ltb a b h)
-
-pub lower_second : (a b : ℕ) → b ≤ a → b ≡ cond (ltb a b) a b
-lower_second a b h = rw (le-ltb a b h)
-
 -- cells that are compared
 compared_same : (t : List ℕ) (i j : ℕ) → lowest_in (get_or t i 0) ≡ lowest_in (get_or t j 0) → compared t i j ≡ t
 unfolding compared
@@ -346,22 +339,14 @@ module _ {s : List ℕ} {at : ℕ} {q : List ℕ} {to : ℕ} {t₀ : List ℕ} {
   straying_none h k a b = record { within = omega arith; room = h; lefts = a; rights = b; marked = k; elsewhere = elsewhere_all }
 
   module _ {t u : List ℕ} {x y l r : Stretch} {g z : ℕ} (k : Straying s at q to t₀ t base x y g) (h : g < 65536) (v : Holding s at g l × (g ≤ l.last)) (w : Holding q to g r × (g ≤ r.last))
-      (e : u ≡ compared t (base + l.class) (base + 65536 + r.class)) (m : z ≡ cond (ltb l.last r.last) l.last r.last) where
-    -- the lower end
-    ends : (b : Bool) → ltb l.last r.last ≡ b → z ≡ cond b l.last r.last → (g ≤ z) × (z ≤ l.last) × (z ≤ r.last)
-    ends true p q = (omega (arith, v.1), omega arith, omega (arith, ltb-true l.last r.last p))
-    ends false p q = (omega (arith, w.1), omega (arith, ltb-false l.last r.last p), omega arith)
-
-    end : (g ≤ z) × (z ≤ l.last) × (z ≤ r.last)
-    end = ends (ltb l.last r.last) refl m
-
+      (e : u ≡ compared t (base + l.class) (base + 65536 + r.class)) (m : z ≡ min l.last r.last) where
     straying_far : g ≤ z
-    straying_far = end.0
+    straying_far = omega (arith, v.1, w.1)
 
     held : (y : ℕ) → g ≤ y → y ≤ z → (class_in (table_at s at) y ≡ class_in (table_at s at) g) × (class_in (table_at q to) y ≡ class_in (table_at q to) g)
     held y a b = (
-      sym (v.0.same y a (omega (arith, end.1))) ∙ v.0.same g (omega arith) v.1,
-      sym (w.0.same y a (omega (arith, end.2))) ∙ w.0.same g (omega arith) w.1,
+      sym (v.0.same y a (omega arith)) ∙ v.0.same g (omega arith) v.1,
+      sym (w.0.same y a (omega arith)) ∙ w.0.same g (omega arith) w.1,
     )
 
     one : Marked (class_in (table_at s at)) (class_in (table_at q to)) 65536 (suc g) (compared t (base + l.class) (base + 65536 + r.class)) base
@@ -369,7 +354,7 @@ module _ {s : List ℕ} {at : ℕ} {q : List ℕ} {to : ℕ} {t₀ : List ℕ} {
 
     pub straying_turn : Straying s at q to t₀ u base l r (z + 1)
     straying_turn = rw e (record {
-      within = omega (arith, end.1, v.0.low);
+      within = omega (arith, v.0.low);
       room = k.room;
       lefts = holding_on v.0 (omega (arith, straying_far));
       rights = holding_on w.0 (omega (arith, straying_far));

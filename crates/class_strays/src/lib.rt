@@ -2,7 +2,7 @@
 // Both tables are walked by stretches of ids that hold one class.
 #![tactic(auto)]
 
-ghost use Rattle.std.specs.Prelude.{◌≡◌, cond, ◌+◌, ◌≤◌, ◌<◌, length, ltb};
+ghost use Rattle.std.specs.Prelude.{◌≡◌, ◌+◌, ◌≤◌, ◌<◌, length};
 ghost use Rattle.meaning.specs.Parts.{class_in};
 ghost use Rattle.class_stretches.specs.Tables.{table_at, NullOrSound};
 ghost use Rattle.class_lists.specs.Elsewhere.{Elsewhere};
@@ -48,16 +48,6 @@ fn compare_lowest(t: &mut [u32], base: usize, c: usize, d: usize)
     }
 }
 
-// The lower of two.
-fn lower(a: usize, b: usize) -> usize
-    ensures { result ≡ cond (ltb a b) a b }
-{
-    if a < b {
-        return a;
-    }
-    b
-}
-
 // From the lowest ids of the classes to their numbers: a class strays if one of its ids has, in the other table, a class with another lowest id.
 pub fn mark_strays(left: &[u8], at: usize, right: &[u8], to: usize, t: &mut [u32], base: usize)
     requires { NullOrSound left.now at × NullOrSound right.now to × (base + 131072 ≤ length t.old) × Marked (class_in (table_at left.now at)) (class_in (table_at right.now to)) 65536 0 t.old base }
@@ -71,6 +61,6 @@ pub fn mark_strays(left: &[u8], at: usize, right: &[u8], to: usize, t: &mut [u32
         l = onward(left, at, l, g);
         r = onward(right, to, r, g);
         compare_lowest(t, base, l.class, r.class);
-        g = lower(l.last, r.last) + 1;
+        g = l.last.min(r.last) + 1;
     }
 }

@@ -8,7 +8,7 @@ ghost use Rattle.compare_refusals.specs.Answers.{number_of, length_of, compared_
 use compare_lists::lay;
 use compare_refusals::{Refusal, judge};
 
-// The call with lent cells, whatever they hold: what differs between two subtables of this kind, listed in the buffer, or the first of the refusals that applies.
+// The call with lent cells, whatever they hold: what differs between two subtables of this kind, listed in the buffer, with how many bytes the list takes, or the first of the refusals that applies.
 // Where the cells are too few our own are taken; `set_differences::NUM`, `NUMS`, `HEADS` and `LINKS` are enough. Only rules in format 1 or 2 need any.
 pub fn compare_in(
     kind: usize,

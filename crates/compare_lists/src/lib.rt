@@ -139,10 +139,7 @@ fn enough(num: usize, nums: usize, heads: usize, links: usize) -> bool
 fn codes_in(size: usize) -> usize
     ensures { (result ≤ size) × (262144 ≤ size → result ≡ 262144) }
 {
-    if size < NUM {
-        return size;
-    }
-    NUM
+    size.min(NUM)
 }
 
 // What differs between two sound subtables: the list's length, and the list in the buffer if there is room for all of it. The cells are lent, whatever they hold; where they are too few our own are taken.

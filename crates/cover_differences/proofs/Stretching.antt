@@ -1,18 +1,18 @@
 -- Two coverages walked by stretches.
-use Prim.Native.Nat.{ℕ, zero, suc, ◌+◌, ◌-◌, ◌*◌, ◌≤◌, ◌<◌}
+use Prim.Native.Nat.{ℕ, zero, suc, ◌+◌, ◌-◌, ◌*◌, ◌≤◌, ◌<◌, max}
 use mathlib.Core.Path.{◌≡◌, refl, sym, ap, ◌∙◌}
 use mathlib.Core.Bool.{Bool, true, false, cond, ◌&&◌, ◌||◌}
 use mathlib.Core.List.{List, [], ◌∷◌, ◌++◌, append_assoc}
 use native.Mathlib.Decide.{dec_lt}
 use native.Mathlib.Omega.{arith}
 use lib.Dec.{leb, eqb}
-use borrow.Author.Tests.{eq-eqb, ne_eqb, lt-ltb, le-ltb, le-leb, lt-leb, leb-true, eqb-true, eqb-false}
+use borrow.Author.Tests.{eq-eqb, ne_eqb, le-leb, lt-leb, leb-true, eqb-true, eqb-false}
 use Rattle.meaning.specs.Words.{word, words, triples, inside, up_from}
 use Rattle.meaning.specs.Parts.{span, range_glyphs, ranges_ascend, coverage, coverage_sound}
 use Rattle.laws.specs.Runs.{both}
 use Rattle.laws.specs.Stands.{All}
 use Rattle.differences.specs.Entries.{same_list}
-use Rattle.cover_differences.specs.Stretches.{first_at, last_at, stretches, glyphs_in, higher, glyphs_past, count_at, cover_at, sound_at}
+use Rattle.cover_differences.specs.Stretches.{first_at, last_at, stretches, glyphs_in, glyphs_past, count_at, cover_at, sound_at}
 
 -- Spans.
 
@@ -87,7 +87,9 @@ module _ (p z q w : ℕ) (l r : List ℕ) (a : p ≤ z) (b : q ≤ w) where
 past_all : (l : List (ℕ × ℕ)) → glyphs_past 0 l ≡ glyphs_in l
 unfolding glyphs_past glyphs_in
 past_all [] = refl
-past_all ((a, z) ∷ l) = rw (le-ltb a 0 (omega arith))
+past_all ((a, z) ∷ l) =
+    let e : max a 0 ≡ a = omega arith in
+    rw e
 
 -- stretches of glyphs that are listed, and of ranges, are the coverage
 listed_in : (s : List ℕ) (at i k : ℕ) → eqb (word s at) 1 ≡ true → glyphs_in (stretches s at i k) ≡ words s (at + 4 + 2 * i) k
@@ -182,18 +184,11 @@ module _ {s : List ℕ} {at n i low : ℕ} (k : Side s at n i low) (h : i < n) w
       let d : n - i ≡ suc (n - (i + 1)) = omega arith in
       rw d
 
-  side_ends : higher (first_at s at i) low ≤ last_at s at i
-  side_ends = step (dec_lt (first_at s at i) low)
-    where
-      first : first_at s at i ≤ last_at s at i
-      first = (rw side_front at k.long).0
-
-      past : low ≤ last_at s at i
-      past = rw side_front at k.reaching
-
-      step : Dec (first_at s at i < low) → higher (first_at s at i) low ≤ last_at s at i
-      step (yes q) = rw (lt-ltb (first_at s at i) low q) past
-      step (no q) = rw (le-ltb (first_at s at i) low (omega arith)) first
+  side_ends : max (first_at s at i) low ≤ last_at s at i
+  side_ends =
+      let first : first_at s at i ≤ last_at s at i = (rw side_front at k.long).0 in
+      let past : low ≤ last_at s at i = rw side_front at k.reaching in
+      omega arith
 
   -- the next stretch, from its first glyph on
   side_next : Side s at n (i + 1) 0
@@ -206,18 +201,16 @@ module _ {s : List ℕ} {at n i low : ℕ} (k : Side s at n i low) (h : i < n) w
       record { within = k.within; short = k.short; long = k.long; reaching = rw side_front reach }
 
   -- what is left of the glyphs
-  side_glyphs : glyphs_past low (stretches s at i (n - i)) ≡ span (higher (first_at s at i) low) (last_at s at i) ++ glyphs_past 0 (stretches s at (i + 1) (n - (i + 1)))
+  side_glyphs : glyphs_past low (stretches s at i (n - i)) ≡ span (max (first_at s at i) low) (last_at s at i) ++ glyphs_past 0 (stretches s at (i + 1) (n - (i + 1)))
   unfolding glyphs_past
   side_glyphs = rw (side_front, past_all (stretches s at (i + 1) (n - (i + 1))))
 
-  side_later : (e : ℕ) → higher (first_at s at i) low ≤ e
+  side_later : (e : ℕ) → max (first_at s at i) low ≤ e
       → glyphs_past (e + 1) (stretches s at i (n - i)) ≡ span (e + 1) (last_at s at i) ++ glyphs_past 0 (stretches s at (i + 1) (n - (i + 1)))
   unfolding glyphs_past
-  side_later e q = rw (side_front, past_all (stretches s at (i + 1) (n - (i + 1))), lt-ltb (first_at s at i) (e + 1) (low_first (dec_lt (first_at s at i) low)))
-    where
-      low_first : Dec (first_at s at i < low) → first_at s at i < e + 1
-      low_first (yes x) = omega (arith, rw (lt-ltb (first_at s at i) low x) at q)
-      low_first (no x) = omega (arith, rw (le-ltb (first_at s at i) low (omega arith)) at q)
+  side_later e q =
+      let f : max (first_at s at i) (e + 1) ≡ e + 1 = omega arith in
+      rw (side_front, past_all (stretches s at (i + 1) (n - (i + 1))), f)
 
 -- past the last stretch no glyph is left
 side_none : (s : List ℕ) (at n i low : ℕ) → n ≤ i → glyphs_past low (stretches s at i (n - i)) ≡ []
@@ -250,20 +243,20 @@ module _ {s t : List ℕ} {l r m n : ℕ} where
     walking_end h = step (dec_lt j n)
       where
         step : Dec (j < n) → leb n j ≡ same_list eqb (cover_at s l) (cover_at t r)
-        step (yes q) = rw (lt-leb n j q) (rw (side_none s l m i a h, side_glyphs k.right q, span_front (higher (first_at t r j) b) (last_at t r j) (side_ends k.right q)) at k.rest)
+        step (yes q) = rw (lt-leb n j q) (rw (side_none s l m i a h, side_glyphs k.right q, span_front (max (first_at t r j) b) (last_at t r j) (side_ends k.right q)) at k.rest)
         step (no q) = rw (le-leb n j (omega arith)) (rw (side_none s l m i a h, side_none t r n j b (omega arith)) at k.rest)
 
     module _ (h : i < m) where
       -- the right has no stretch left
       pub walking_more : n ≤ j → false ≡ same_list eqb (cover_at s l) (cover_at t r)
       unfolding same_list
-      walking_more g = rw (side_glyphs k.left h, side_none t r n j b g, span_front (higher (first_at s l i) a) (last_at s l i) (side_ends k.left h)) at k.rest
+      walking_more g = rw (side_glyphs k.left h, side_none t r n j b g, span_front (max (first_at s l i) a) (last_at s l i) (side_ends k.left h)) at k.rest
 
-      module _ (g : j < n) {x y p q : ℕ} (ex : (x ≡ first_at s l i) × (x < 65536)) (ep : p ≡ higher x a) (ey : (y ≡ first_at t r j) × (y < 65536)) (eq : q ≡ higher y b) where
-        lefts : p ≡ higher (first_at s l i) a
+      module _ (g : j < n) {x y p q : ℕ} (ex : (x ≡ first_at s l i) × (x < 65536)) (ep : p ≡ max x a) (ey : (y ≡ first_at t r j) × (y < 65536)) (eq : q ≡ max y b) where
+        lefts : p ≡ max (first_at s l i) a
         lefts = ep ∙ rw ex.0
 
-        rights : q ≡ higher (first_at t r j) b
+        rights : q ≡ max (first_at t r j) b
         rights = eq ∙ rw ey.0
 
         both_left : same_list eqb (span p (last_at s l i) ++ glyphs_past 0 (stretches s l (i + 1) (m - (i + 1)))) (span q (last_at t r j) ++ glyphs_past 0 (stretches t r (j + 1) (n - (j + 1)))) ≡ same_list eqb (cover_at s l) (cover_at t r)

@@ -8,7 +8,7 @@ ghost use Rattle.meaning.specs.Fault.{fault};
 ghost use Rattle.differences.specs.Content.{content};
 ghost use Rattle.differences.specs.Entries.{same_list, same_two, same_says, differences};
 ghost use Rattle.listing.specs.Listed.{Listed};
-ghost use Rattle.cover_differences.specs.Stretches.{first_at, last_at, higher, count_at, sound_at, cover_at};
+ghost use Rattle.cover_differences.specs.Stretches.{first_at, last_at, count_at, sound_at, cover_at};
 ghost use Rattle.cover_differences.specs.Rows.{SoundRow, row_runs, same_row};
 ghost use Rattle.cover_differences.specs.Contexts.{plain_says, SoundPlain, two_rules};
 ghost use Rattle.cover_differences.specs.Chained.{chained_says, SoundChained};
@@ -38,16 +38,6 @@ fn last_at(src: &[u8], at: usize, i: usize) -> usize
     word_at(src, at + 4 + 6 * i + 2)
 }
 
-// The higher of two glyphs.
-fn higher(a: usize, b: usize) -> usize
-    ensures { result ≡ higher a b }
-{
-    if a < b {
-        return b;
-    }
-    a
-}
-
 // How many stretches the coverage at `at` has; a null one, at 0, has none.
 fn count_at(src: &[u8], at: usize) -> usize
     requires { at < 65536 }
@@ -75,8 +65,8 @@ fn same_glyphs(left: &[u8], l: usize, right: &[u8], r: usize) -> bool
         if n <= j {
             return false;
         }
-        let p = higher(first_at(left, l, i), a);
-        let q = higher(first_at(right, r, j), b);
+        let p = first_at(left, l, i).max(a);
+        let q = first_at(right, r, j).max(b);
         if p != q {
             return false;
         }

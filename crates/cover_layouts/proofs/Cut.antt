@@ -26,8 +26,8 @@ use Rattle.cell_maps.specs.declared.Map.{Map}
 use Rattle.area.specs.Part.{part, take_part}
 use Rattle.room.specs.Laid.{enough_area, outcome_of, laid_as, laid_words_lem, laid_unfit}
 use Rattle.room.specs.declared.NotLaid.{NotLaid}
-use Rattle.room.specs.declared.NotLaid.TheVariants.{Nothing, TooBig}
-use Rattle.tried.specs.Tries.{became, Tries, tries_became, tries_less}
+use Rattle.room.specs.declared.NotLaid.TheVariants.{Nothing}
+use Rattle.tried.specs.Tries.{became, Tries, NoRoom, tries_became, tries_less}
 use Rattle.tried.specs.declared.NotCut.{NotCut}
 use Rattle.tried.specs.declared.NotCut.TheVariants.{FewCells, Short, Refused}
 use Rattle.numbers.specs.Entries.{entries_in}
@@ -140,11 +140,8 @@ module _ {end : ℕ} {area out : List ℕ} where
   pub hands_nothing : end ≡ 0 → HandsOver end area (Err (Refused Nothing)) out out
   hands_nothing z = record { handed = λ {left = left} {fit = fit} {before = before} k s. settled_none left fit k z out }
 
-  pub hands_short : length area < enough_area → HandsOver end area (Err Short) out out
-  hands_short h = record { handed = λ {left = left} {fit = fit} {before = before} k s. (h, refl) }
-
-  pub hands_big : length area < end → enough_area ≤ length area → HandsOver end area (Err (Refused TooBig)) out out
-  hands_big h l = record { handed = λ {left = left} {fit = fit} {before = before} k s. settled_big left fit k (omega arith) (omega arith) out }
+  pub hands_no_room : {r : NotCut} → length area < end → NoRoom enough_area (length area) r → HandsOver end area (Err r) out out
+  hands_no_room l h = record { handed = λ {left = left} {fit = fit} {before = before} k s. h.told (λ b. settled_big left fit k (omega arith) (omega arith) out) }
 
   pub hands_over : (laid : Result ℕ NotLaid) {after : List ℕ} → (end ≡ 0 → ⊥) → end ≤ length area → outcome_of laid after ≡ laid_as true out (part area 0 0 ++ part area 0 (end - 0)) → HandsOver end area (became laid) out after
   hands_over laid {after} z l e = record { handed = λ {left = left} {fit = fit} {before = before} k s. tries_became ⊥ (length area < enough_area) laid out after (words_into fit out left) (e ∙ settled_bytes left fit k z (omega arith) out) }

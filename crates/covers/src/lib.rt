@@ -21,7 +21,7 @@ use fold_pairs::lay;
 use handing::hand_over;
 use marks::Marks;
 use room::{AREA, NotLaid};
-use tried::{NotCut, least};
+use tried::{NotCut, no_room};
 
 // The number of cells that is enough for any source: two maps of 65,536 cells each, and a note for each glyph and one more.
 pub const CELLS: usize = 196609;
@@ -34,10 +34,7 @@ fn settle(end: usize, area: &[u8], out: &mut [u8]) -> Result<usize, NotCut>
         return Err(NotCut::Refused(NotLaid::Nothing));
     }
     if area.len() < end {
-        if area.len() < AREA {
-            return Err(NotCut::Short);
-        }
-        return Err(NotCut::Refused(NotLaid::TooBig));
+        return Err(no_room(area, AREA));
     }
     Ok(hand_over(area, 0, 0, end, true, out)?)
 }
@@ -125,8 +122,8 @@ pub fn by_cover(
     requires { Sound chained marks.form src.now glyphs.now lookups.now }
     ensures { Tries (length t.old < enough_cells) (length area.old < enough_area) result out.old out.new (written_in marks.layout out.old (cut (glyph_entries marks.form glyphs.now) (map_entries lookups.now) (cover_context chained src.now))) }
 {
-    let cells = least(t.len(), CELLS);
-    let bytes = least(area.len(), AREA);
+    let cells = t.len().min(CELLS);
+    let bytes = area.len().min(AREA);
     cut_in(
         chained,
         src,

@@ -47,10 +47,7 @@ pub fn pairs_by_class(kind: usize, src: &[u8]) -> bool
 fn of_all(n: usize) -> usize
     ensures { result ≤ 65536 }
 {
-    if 65536 < n {
-        return 65536;
-    }
-    n
+    n.min(65536)
 }
 
 // How many glyphs of the map the cut is likely to meet: all of a map of pairs; of runs no more than lie between the first old id and the last, nor than half the source's length.

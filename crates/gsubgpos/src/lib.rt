@@ -1,8 +1,7 @@
 // Sets of rules of contexts, plain and chained, and of ligatures: checked. The work: the check looks once at the counts of each member.
 #![tactic(auto)]
 
-ghost use Rattle.std.specs.Prelude.{◌≡◌, true, cond, ◌+◌, ◌*◌, ◌≤◌, ◌<◌, length, eqb, None};
-ghost use Rattle.meaning.specs.Words.{word};
+ghost use Rattle.std.specs.Prelude.{◌≡◌, true, ◌+◌, ◌*◌, ◌≤◌, ◌<◌, length, None};
 ghost use Rattle.meaning.specs.Tables.{rule, rule_set, reaches};
 ghost use Rattle.meaning.specs.Fault.{fault_through, set_fault};
 ghost use Rattle.meaning.specs.Records.{rule_within, sets_within};
@@ -14,6 +13,7 @@ use bits::{has_bit, put_bit};
 use faults::{found_before, lowest};
 use ligature_subst::check_ligature;
 use rules::{check_rule, rule_within};
+use view::set_count;
 use wire::{inside, word_at, word_inside};
 
 // The sorts of members that a set has.
@@ -85,16 +85,6 @@ pub fn check_set(member: Member, src: &[u8], at: usize, marks: &mut [u32]) -> Op
     check_members(member, src, at, n, marks)
 }
 
-// How many offsets to rules the set at `set` has; where the set's offset is null there is none.
-fn rules_in(src: &[u8], set: usize) -> usize
-    ensures { (result ≡ cond (eqb set 0) 0 (word src.now set)) × (result < 65536) }
-{
-    if set == 0 {
-        return 0;
-    }
-    word_at(src, set)
-}
-
 // Whether no record of the rule at `at` points past it. A rule whose place has a mark was asked before; one that is good gets a mark, where `marks` has room for it.
 fn within_once(chained: bool, src: &[u8], at: usize, marks: &mut [u32]) -> bool
     requires { (at < 0x100_0000_0000) × Marked (good_rule chained src.now) true marks.old }
@@ -131,7 +121,7 @@ pub fn sets_within(chained: bool, src: &[u8], slot: usize, n: usize, marks: &mut
     let mut within = true;
     'sets: for i in 0..n {
         let set = word_at(src, slot + 2 * i);
-        let rules = rules_in(src, set);
+        let rules = set_count(src, set);
         for k in 0..rules {
             if !reached_within(chained, src, set, set + 2 + 2 * k, marks) {
                 within = false;

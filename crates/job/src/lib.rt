@@ -13,7 +13,7 @@ use refusals::Refusal;
 use subset::subset;
 use wire::word_at;
 
-// The job of a file, on a lent buffer: the call on the file's kind and parts for the plain layout, or that the file is faulty, which is tested first.
+// The job of a file, on a lent buffer: what the call answers on the file's kind and parts for the plain layout, or that the file is faulty, which is tested first.
 pub fn run(file: &[u8], out: &mut [u8]) -> Result<usize, Refusal>
     ensures { outcome result out.new ≡ job file.now out.old }
 {

@@ -13,6 +13,7 @@ use Rattle.meaning.specs.Cut.{glyphs_of}
 use Rattle.meaning.specs.Layout.{coverage_words}
 use Rattle.meaning.specs.Subset.{Outcome, refused, limit}
 use Rattle.room.specs.Laid.{enough_area, laid_as}
+use Rattle.tried.specs.Tries.{NoRoom}
 use Rattle.tried.specs.declared.NotCut.{NotCut}
 use Rattle.area.specs.Part.{part, news}
 use Rattle.handing.specs.Closed.{members}
@@ -23,7 +24,7 @@ use Rattle.placed_sets.specs.Kept.{words_of, Ready, Done, WroteKept, kept_in}
 use Rattle.placed_sets.specs.declared.Sort.{Sort}
 use Rattle.placed_sets.specs.declared.Sets.{Sets}
 use Rattle.kept_header.specs.Table.{sets_in, layout_of, table_of, Finishes, Finished}
-use Rattle.kept_header.specs.Answers.{laid_words, NoRoom, Answered, words_over, words_unfit}
+use Rattle.kept_header.specs.Answers.{laid_words, Answered, words_over, words_unfit}
 use Rattle.kept_header.proofs.Lessening.{none_blocks}
 
 -- the sets and the coverage are part of their table
@@ -78,8 +79,8 @@ unfolding laid_words
 laid_none out e = rw e refl
 
 -- there is no room
-pub answered_short : {a b : ℕ} {r : NotCut} {out : List ℕ} {words : Option (List ℕ)} → NoRoom b r → b ≡ a → (enough_area ≤ a → refused out 9 ≡ laid_words out words) → Answered (⊥) out words a (Err r) out
-answered_short h e o = record { answer = (rw e at h).refuses o }
+pub answered_short : {a b : ℕ} {r : NotCut} {out : List ℕ} {words : Option (List ℕ)} → NoRoom enough_area b r → b ≡ a → (enough_area ≤ a → refused out 9 ≡ laid_words out words) → Answered (⊥) out words a (Err r) out
+answered_short h e o = record { answer = (rw e at h).told o }
 
 module _ {sort : Sort} {s t₀ : List ℕ} {maps : Maps} {at m : ℕ} {packed : Bool} {area₀ t area : List ℕ} {r : Sets} (a : Ready sort s t₀ maps at m) (w : WroteKept sort s t₀ maps at m packed area₀ t area r) where
   abbrev kept : List (ℕ × List ℕ)

@@ -1,5 +1,5 @@
 -- What the writing of a table answers, with a lent area.
-use Rattle.std.specs.Prelude.{ℕ, ◌+◌, ◌*◌, ◌≤◌, ◌<◌, ◌≡◌, refl, List, length, get_or, ltb, Option, None, Some, Result, Err}
+use Rattle.std.specs.Prelude.{ℕ, ◌+◌, ◌*◌, ◌≤◌, ◌<◌, ◌≡◌, refl, List, length, get_or, ltb, Option, None, Some, Result}
 use Rattle.std.proofs.Common.{sym, ap, ◌∙◌, arith, le-ltb}
 use Rattle.meaning.specs.Words.{flat}
 use Rattle.meaning.specs.Tables.{Table}
@@ -11,10 +11,6 @@ use Rattle.room.specs.Laid.{enough_area, laid_as, laid_words_lem, laid_over, lai
 use Rattle.tried.specs.Tries.{Tries, tries_less}
 use Rattle.tried.specs.declared.NotCut.{NotCut}
 use Rattle.placed_sets.specs.Sorts.{left_words}
-
--- There is no room in an area of a bytes: it is too short; or it has what is enough, and then the answer is that the layout is too big. The buffer is as before.
-pub record NoRoom (a : ℕ) (r : NotCut) : Type 0 where
-  pub refuses : {out : List ℕ} {made : Outcome} → (enough_area ≤ a → refused out 9 ≡ made) → Tries (⊥) (a < enough_area) (Err r) out out made
 
 -- words laid into the buffer, which fit if the second of them, the coverage's offset, does; or nothing is left
 unfoldable pub laid_words : List ℕ → Option (List ℕ) → Outcome

@@ -7,7 +7,7 @@ ghost use Rattle.kept_rules.specs.Left.{maps_in};
 ghost use Rattle.placed_sets.specs.Sorts.{Told};
 ghost use Rattle.placed_sets.specs.Kept.{Ready, kept_in};
 ghost use Rattle.kept_header.specs.Table.{table_of};
-ghost use Rattle.kept_header.specs.Answers.{NoRoom, Answered};
+ghost use Rattle.kept_header.specs.Answers.{Answered};
 
 use handing::hand_over;
 use kept_header::{cover_fits, finish};
@@ -16,17 +16,7 @@ use kept_sets::Notes;
 use packed_sets::write_sets;
 use placed_sets::{Sort, header_size};
 use room::{AREA, NotLaid};
-use tried::NotCut;
-
-// There is no room in the area: it is too short; or it has what is enough for any source, and then the layout is too big.
-fn no_room(area: &[u8]) -> NotCut
-    ensures { NoRoom (length area.now) result }
-{
-    if area.len() < AREA {
-        return NotCut::Short;
-    }
-    NotCut::Refused(NotLaid::TooBig)
-}
+use tried::{NotCut, no_room};
 
 // What is left of a table, whose retained covered glyphs are noted, laid into the buffer if it is not too big and the buffer is not shorter. `told` says where the fields that stay stand in a pair record; for other sorts it has marks at the places of members that are known to go.
 pub fn write_table(
@@ -47,7 +37,7 @@ pub fn write_table(
     let p = sets.end;
     let k = sets.count;
     if area.len() < p {
-        return Err(no_room(area));
+        return Err(no_room(area, AREA));
     }
     if k == 0 {
         return Err(NotCut::Refused(NotLaid::Nothing));
@@ -56,7 +46,7 @@ pub fn write_table(
     let first = slots + 2 * m;
     let end = finish(sort, t, notes.at, k, first, p, area);
     if area.len() < end {
-        return Err(no_room(area));
+        return Err(no_room(area, AREA));
     }
     let head = slots + 2 * k;
     let fits = cover_fits(head, first, p);

@@ -1,5 +1,5 @@
 -- The larger of two numbers, the marks of rules that were counted, and the loops over offsets.
-use Prim.Native.Nat.{ℕ, suc, ◌+◌, ◌-◌, ◌*◌, ◌≤◌, ◌<◌}
+use Prim.Native.Nat.{ℕ, suc, ◌+◌, ◌-◌, ◌*◌, ◌≤◌, ◌<◌, max}
 use mathlib.Core.Path.{◌≡◌, refl, sym, ap, ◌∙◌}
 use mathlib.Core.Bool.{Bool, true, false, cond, true≢false}
 use Rattle.std.specs.Prelude.{None, Some}
@@ -17,41 +17,26 @@ use Rattle.bits.specs.Bits.{marked, Put}
 use Rattle.bits.specs.Reading.{none_marked}
 use Rattle.member_steps.specs.Most.{Counted}
 
-pub larger_second : (a b : ℕ) → a < b → b ≡ larger a b
+-- the definition is the greater of two numbers
+larger_max : (a b : ℕ) → larger a b ≡ max a b
 unfolding larger
-larger_second a b h = rw (lt-ltb a b h)
+larger_max a b = step (dec_lt a b)
+  where
+    step : Dec (a < b) → larger a b ≡ max a b
+    step (yes l) = rw (lt-ltb a b l) (omega arith)
+    step (no l) = rw (le-ltb a b (omega arith)) (omega arith)
 
 pub larger_first : (a b : ℕ) → b ≤ a → a ≡ larger a b
-unfolding larger
-larger_first a b h = rw (le-ltb a b h)
+larger_first a b h = omega (arith, larger_max a b)
 
--- it is above both, and no more than what is above both
 pub larger_above : (a b : ℕ) → (a ≤ larger a b) × (b ≤ larger a b)
-larger_above a b = step (dec_lt a b)
-  where
-    step : Dec (a < b) → (a ≤ larger a b) × (b ≤ larger a b)
-    step (yes l) = let e = larger_second a b l in (omega arith, omega arith)
-    step (no l) = let e = larger_first a b (omega arith) in (omega arith, omega arith)
-
-larger_least : (a b m : ℕ) → a ≤ m → b ≤ m → larger a b ≤ m
-larger_least a b m h k = step (dec_lt a b)
-  where
-    step : Dec (a < b) → larger a b ≤ m
-    step (yes l) = let e = larger_second a b l in omega arith
-    step (no l) = let e = larger_first a b (omega arith) in omega arith
+larger_above a b = let e = larger_max a b in (omega arith, omega arith)
 
 larger_assoc : (a b c : ℕ) → larger (larger a b) c ≡ larger a (larger b c)
-larger_assoc a b c =
-    let x = larger_above a b in
-    let y = larger_above (larger a b) c in
-    let u = larger_above b c in
-    let v = larger_above a (larger b c) in
-    let p = larger_least (larger a b) c (larger a (larger b c)) (larger_least a b (larger a (larger b c)) v.0 (omega (arith, u.0, v.1))) (omega (arith, u.1, v.1)) in
-    let q = larger_least a (larger b c) (larger (larger a b) c) (omega (arith, x.0, y.0)) (larger_least b c (larger (larger a b) c) (omega (arith, x.1, y.0)) y.1) in
-    omega arith
+larger_assoc a b c = omega (arith, larger_max a b, larger_max b c, larger_max (larger a b) c, larger_max a (larger b c))
 
 larger_zero : (a : ℕ) → larger a 0 ≡ a
-larger_zero a = sym (larger_first a 0 (omega arith))
+larger_zero a = omega (arith, larger_max a 0)
 
 -- Marks: none at first, and one more.
 
@@ -167,11 +152,8 @@ module _ {chained : Bool} {s steps : List ℕ} {slot n : ℕ} where
   sets_end k h = topping_end k.topping h ∙ zero_larger (largest (largest (rule_steps steps)) (drop_null (reaches (rule_set chained s) s 0 slot n)))
     where
       zero_larger : (a : ℕ) → larger 0 a ≡ a
-      zero_larger a =
-          let x = larger_above 0 a in
-          let y = larger_least 0 a a (omega arith) (omega arith) in
-          omega (arith, x.1)
+      zero_larger a = omega (arith, larger_max 0 a)
 
 -- the larger of a number and what a rule takes
-pub larger_of : (most : ℕ) {found steps r : ℕ} → found ≡ steps → r ≡ larger most found → r ≡ larger most steps
-larger_of most e f = f ∙ ap (larger most) e
+pub larger_of : (most : ℕ) {found steps r : ℕ} → found ≡ steps → r ≡ max most found → r ≡ larger most steps
+larger_of most {found} {steps} e f = omega (arith, larger_max most steps)

@@ -25,16 +25,6 @@ pub fn add_steps(a: usize, b: usize) -> usize
     a + b
 }
 
-// The larger of two numbers.
-pub fn larger(a: usize, b: usize) -> usize
-    ensures { result ≡ larger a b }
-{
-    if a < b {
-        return b;
-    }
-    a
-}
-
 // What a lookup takes by its place in the list, where the listed ones take `steps`; one past the list is asked and matches nowhere.
 fn steps_of(steps: &[usize], n: usize) -> usize
     ensures { result ≡ steps_of steps.now n }
@@ -84,5 +74,5 @@ pub fn most_once(
     }
     let found = rule_steps(chained, src, at, steps);
     put_bit(marks, 0, at);
-    larger(most, found)
+    most.max(found)
 }

@@ -1,5 +1,5 @@
 -- Where the runs of a map meet a range, and what the loops over runs and over ranges keep.
-use Prim.Native.Nat.{ℕ, zero, suc, ◌+◌, ◌-◌, ◌*◌, ◌/◌, ◌≤◌, ◌<◌}
+use Prim.Native.Nat.{ℕ, zero, suc, ◌+◌, ◌-◌, ◌*◌, ◌/◌, ◌≤◌, ◌<◌, min, max}
 use mathlib.Core.Path.{◌≡◌, refl, sym, ap, ◌∙◌}
 use mathlib.Core.Bool.{true, ◌&&◌}
 use Rattle.std.specs.Prelude.{None, Some}
@@ -46,40 +46,31 @@ notes_more {t} {next} to k d es kept e =
 
 -- One run: the glyphs of the range that it has begin with the higher of both starts, and end with the lower of both ends.
 module _ {m : List ℕ} {e first last index : ℕ} {t : List ℕ} {to from next : ℕ} {run : Run} (a : MeetsRun m e first last index t to) (u : IsRun 6 m e run)
-    (h : (first ≤ from) × (run.old ≤ from) × (first < from → from ≡ run.old)) (l : (next ≤ last + 1) × (next ≤ run.old + run.count) × (next < last + 1 → next ≡ run.old + run.count)) where
+    (h : from ≡ max first run.old) (l : next ≡ min (last + 1) (run.old + run.count)) where
   pub run_more : from < next
-  run_more = step (dec_lt first from) (dec_lt next (last + 1))
-    where
-      step : Dec (first < from) → Dec (next < last + 1) → from < next
-      step (yes p) (yes q) = omega (arith, h.2 p, l.2 q, u.some)
-      step (yes p) (no q) = omega (arith, h.2 p, l.0, u.old, a.starts)
-      step (no p) (yes q) = omega (arith, h.0, l.2 q, u.old, u.count, a.ends)
-      step (no p) (no q) = omega (arith, h.0, l.0, a.order)
+  run_more = omega (arith, u.some, u.old, u.count, a.starts, a.ends, a.order)
 
   pub run_asks : (to + (next - from) ≤ length t) × (index + (from - first) + (next - from) ≤ 65536) × (run.new + (from - run.old) + (next - from) ≤ 65536)
   run_asks = (
-    omega (arith, a.room, run_more, h.0, l.0),
-    omega (arith, a.small, run_more, h.0, l.0),
-    omega (arith, run_more, h.1, l.1, u.new_end),
+    omega (arith, a.room, run_more),
+    omega (arith, a.small, run_more),
+    omega (arith, run_more, u.new_end),
   )
 
   pub run_met : {after : List ℕ} → NotedSteps t after to (index + (from - first)) (run.new + (from - run.old)) (next - from) → InRun m e first last index t to after (record { count = next - from; next = next })
   run_met n = record {
     from = from;
-    low = h.0;
-    starts = omega (arith, u.old, h.1);
-    tight = λ p. h.2 p ∙ u.old;
+    low = omega arith;
+    starts = omega (arith, u.old);
+    tight = λ p. omega (arith, u.old);
     more = run_more;
     count = omega (arith, run_more);
-    within = l.0;
-    ends = omega (arith, u.old, u.count, l.1);
-    whole = λ q. l.2 q ∙ ends_are;
+    within = omega arith;
+    ends = omega (arith, u.old, u.count);
+    whole = λ q. omega (arith, u.old, u.count);
     kept = n.kept;
     noted = rw (← u.new, ← u.old) n.noted;
   }
-    where
-      ends_are : run.old + run.count ≡ end m e
-      ends_are = omega (arith, u.old, u.count)
 
 -- What the loop over runs keeps: k glyphs are noted, and x is the next one to look at.
 pub record Spanning (m : List ℕ) (first last index : ℕ) (t₀ t : List ℕ) (to x k e : ℕ) : Type 0 where

@@ -37,32 +37,12 @@ pub fn meet_run(
     ensures { InRun glyphs.now e first last index t.old to t.new result }
 {
     let run = run_at(glyphs, 6, e);
-    let from = higher(first, run.old);
-    let next = lower(last + 1, run.old + run.count);
+    let from = first.max(run.old);
+    let next = (last + 1).min(run.old + run.count);
     let new = run.new + (from - run.old);
     note_steps(t, to, index + (from - first), new, next - from);
     Noted {
         count: next - from,
         next,
     }
-}
-
-// The higher of two numbers.
-fn higher(a: usize, b: usize) -> usize
-    ensures { (a ≤ result) × (b ≤ result) × (a < result → result ≡ b) }
-{
-    if a < b {
-        return b;
-    }
-    a
-}
-
-// The lower of two numbers.
-fn lower(a: usize, b: usize) -> usize
-    ensures { (result ≤ a) × (result ≤ b) × (result < a → result ≡ b) }
-{
-    if b < a {
-        return b;
-    }
-    a
 }

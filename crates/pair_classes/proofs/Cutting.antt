@@ -14,7 +14,7 @@ use borrow.Author.Tests.{leb-true, eq-eqb, ne_eqb, eqb-false}
 use Rattle.meaning.specs.Words.{word, inside, entries, keys, values, find, twos, bytes2, flat}
 use Rattle.meaning.specs.Maps.{map_entries, good_glyphs, good_form, glyph_entries, good_glyph_map}
 use Rattle.meaning.specs.Parts.{coverage, coverage_sound, classes, classes_sound}
-use Rattle.meaning.specs.Tables.{Pair, Table, field_count, reach, cell_rows, pair_table, table}
+use Rattle.meaning.specs.Tables.{Pair, Table, field_count, reach, cell_rows, pair_table}
 use Rattle.meaning.specs.Fault.{part_fault, lowest, fault_through, coverage_fault, classes_fault, good_formats, classes_below, pair_fault, fault}
 use Rattle.meaning.specs.Cut.{class_map, second_map, classes_under, new_coverage, cut}
 use Rattle.meaning.specs.Subset.{Outcome, refused, limit, good_kind, written_in}

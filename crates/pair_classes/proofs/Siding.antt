@@ -2,6 +2,7 @@
 use Prim.Native.Nat.{ℕ, ◌+◌, ◌≤◌}
 use mathlib.Core.Path.{◌≡◌, refl}
 use Rattle.std.specs.Prelude.{unwrap_or}
+use mathlib.Core.Bool.{Bool, true, false}
 use mathlib.Core.List.{List}
 use native.Mathlib.Omega.{arith}
 use lib.ListN.{length}
@@ -11,9 +12,14 @@ use Rattle.class_lists.specs.Elsewhere.{elsewhere_kept}
 use Rattle.class_lists.specs.Listed.{Listed}
 use Rattle.class_lists.specs.declared.ClassList.{ClassList}
 use Rattle.class_ranks.specs.Same.{after_same, holds_same}
-use Rattle.ranked_maps.specs.Mapped.{Lists, ToMap, Classes, Mapped, Entries, lists_made, lists_kept, may_map}
+use Rattle.ranked_maps.specs.Mapped.{Lists, ToMap, Classes, Mapped, Entries, lists_made, lists_kept, may_map, zero_first, zero_second}
 use Rattle.ranked_maps.specs.declared.ClassMap.{ClassMap}
-use Rattle.pair_classes.specs.Sides.{table_cells, Asks, Sided}
+use Rattle.pair_classes.specs.Sides.{table_cells, map_of, Asks, Sided}
+
+-- class 0 keeps its number in either map
+pub map_zero : (second : Bool) (g cs : List (ℕ × ℕ)) → unwrap_or (find (map_of second g cs) 0) 0 ≡ 0
+map_zero true = zero_second
+map_zero false = zero_first
 
 module _ {s : List ℕ} {at form : ℕ} {glyphs : List ℕ} {list : ℕ} (a : Asks s at form glyphs list) {cs g : List (ℕ × ℕ)} {t₀ t₁ : List ℕ} {l : ClassList} (o : Listed cs g t₀ t₁ list l) where
   -- the map may stand right behind the list

@@ -1,6 +1,6 @@
 -- Class tables in cells: the map of the classes that stay, and the entries of the new table.
-use Rattle.std.specs.Prelude.{ℕ, ◌+◌, ◌≤◌, ◌<◌, ◌≡◌, List, length}
-use Rattle.meaning.specs.Cut.{classes_under}
+use Rattle.std.specs.Prelude.{ℕ, ◌+◌, ◌≤◌, ◌<◌, ◌≡◌, Bool, true, false, List, length}
+use Rattle.meaning.specs.Cut.{class_map, second_map, classes_under}
 use Rattle.cell_maps.specs.Cells.{Holds, Kept}
 use Rattle.area.specs.Part.{notes}
 use Rattle.glyph_runs.specs.Runs.{GlyphMap}
@@ -11,6 +11,11 @@ use Rattle.pair_layouts.specs.declared.Classed.{Classed}
 -- cells that are enough for any class table: 65,536 for the classes of the glyphs, and those of the class map
 abbrev pub table_cells : ℕ
 table_cells = 65536 + most_cells
+
+-- the map of the first classes that stay, or of the second ones, by the glyph map and the class table
+abbrev pub map_of : Bool → List (ℕ × ℕ) → List (ℕ × ℕ) → List (ℕ × ℕ)
+map_of true = second_map
+map_of false = class_map
 
 -- what is asked to lay a class table into cells from `list` on: it is null or sound, and the glyph map is good
 pub record Asks (s : List ℕ) (at form : ℕ) (glyphs : List ℕ) (list : ℕ) : Type 0 where

@@ -4,17 +4,18 @@
 ghost use Rattle.std.specs.Prelude.{◌≡◌, [], ◌+◌, ◌≤◌, ◌<◌, length};
 ghost use Rattle.meaning.specs.Maps.{glyph_entries};
 ghost use Rattle.meaning.specs.Tables.{pair_table};
-ghost use Rattle.meaning.specs.Cut.{class_map, second_map, cut};
+ghost use Rattle.meaning.specs.Cut.{cut};
 ghost use Rattle.meaning.specs.Subset.{limit, written_in};
 ghost use Rattle.class_stretches.specs.Tables.{classes_at};
 ghost use Rattle.tried.specs.Tries.{Tries};
-ghost use Rattle.pair_classes.specs.Sides.{Asks, Sided};
+ghost use Rattle.ranked_maps.specs.Mapped.{ToMap, Mapped};
+ghost use Rattle.pair_classes.specs.Sides.{map_of, Asks, Sided};
 ghost use Rattle.pair_layouts.specs.Laying.{Front};
 ghost use Rattle.pair_classes.specs.Cutting.{enough_cells, has_null, Sound, Begins, Noting, FirstIn};
 
 use cell_maps::Map;
 use class_entries::new_entries;
-use class_lists::list_classes;
+use class_lists::{ClassList, list_classes};
 use class_maps::{class_map, pinned_map};
 use covered_map::put_covered;
 use fold_glyphs::lay_glyphs;
@@ -22,6 +23,7 @@ use marks::Marks;
 use meet_runs::meet;
 use meets::most;
 use pair_layouts::{Classed, Noted, lay_pairs};
+use ranked_maps::ClassMap;
 use room::{LIMIT, NotLaid};
 use tried::NotCut;
 use wire::word_inside;
@@ -29,38 +31,20 @@ use wire::word_inside;
 // How many cells are enough for any source: 65,536 for the glyph map, as many for the notes of the covered glyphs, and for each of the two class tables as many for the classes of the glyphs, and those of the class map.
 pub const CELLS: usize = 2 * 65536 + 2 * (65536 + class_maps::MOST);
 
-// The first classes, of the class table at `at`, in cells from `list` on: those that the glyphs of the map hold, and the entries of the new table. The mask is 0 where there are too few cells.
-fn first_classes(
-    src: &[u8],
-    at: usize,
-    form: usize,
-    glyphs: &[u8],
-    t: &mut [u32],
-    list: usize,
-) -> Classed
-    requires { Asks src.now at form glyphs.now list }
-    ensures { Sided (class_map (glyph_entries form glyphs.now) (classes_at src.now at)) (classes_at src.now at) (glyph_entries form glyphs.now) t.old t.new list result }
+// The map of the classes that are listed in the `l.len` cells from `list` on, in cells from `to` on. The second classes always have class 0 among them.
+fn side_map(second: bool, t: &mut [u32], list: usize, l: ClassList, to: usize) -> ClassMap
+    requires { ToMap t.old list l to }
+    ensures { Mapped (map_of second) t.old t.new list l to result }
 {
-    let l = list_classes(src, at, glyphs, form, t, list);
-    let c = class_map(t, list, l, list + l.len);
-    let map = c.map;
-    if map.mask == 0 {
-        return Classed {
-            map,
-            count: 0,
-            entries: Noted { at: list, len: 0 },
-        };
+    if second {
+        return pinned_map(t, list, l, to);
     }
-    let len = new_entries(t, list, l.len, map);
-    Classed {
-        map,
-        count: c.count,
-        entries: Noted { at: list, len },
-    }
+    class_map(t, list, l, to)
 }
 
-// The second classes so, with class 0 always among them.
-fn second_classes(
+// The first or the second classes, of the class table at `at`, in cells from `list` on: those that the glyphs of the map hold, and the entries of the new table. The mask is 0 where there are too few cells.
+fn side_classes(
+    second: bool,
     src: &[u8],
     at: usize,
     form: usize,
@@ -69,10 +53,10 @@ fn second_classes(
     list: usize,
 ) -> Classed
     requires { Asks src.now at form glyphs.now list }
-    ensures { Sided (second_map (glyph_entries form glyphs.now) (classes_at src.now at)) (classes_at src.now at) (glyph_entries form glyphs.now) t.old t.new list result }
+    ensures { Sided (map_of second (glyph_entries form glyphs.now) (classes_at src.now at)) (classes_at src.now at) (glyph_entries form glyphs.now) t.old t.new list result }
 {
     let l = list_classes(src, at, glyphs, form, t, list);
-    let c = pinned_map(t, list, l, list + l.len);
+    let c = side_map(second, t, list, l, list + l.len);
     let map = c.map;
     if map.mask == 0 {
         return Classed {
@@ -104,7 +88,7 @@ fn cut_first(
     ensures { Tries (length t.old < enough_cells) (length area.old < limit) result out.old out.new (written_in marks.layout out.old (cut (glyph_entries marks.form glyphs.now) [] (pair_table src.now))) }
 {
     let list = first.map.at + first.map.mask + 1;
-    let second = second_classes(src, word_inside(src, 10), marks.form, glyphs, t, list);
+    let second = side_classes(true, src, word_inside(src, 10), marks.form, glyphs, t, list);
     if second.map.mask == 0 {
         return Err(NotCut::FewCells);
     }
@@ -130,7 +114,7 @@ fn cut_noted(
     }
     put_covered(src, word_inside(src, 2), t, cover.at, cover.len, area);
     let list = cover.at + cover.len;
-    let first = first_classes(src, word_inside(src, 8), 4, &area[..n], t, list);
+    let first = side_classes(false, src, word_inside(src, 8), 4, &area[..n], t, list);
     if first.map.mask == 0 {
         return Err(NotCut::FewCells);
     }

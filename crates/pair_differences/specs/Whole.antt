@@ -1,24 +1,22 @@
 -- A pair table by glyph as a whole: its first glyphs, each with its pairs, and what is known of a sound one.
-use Rattle.std.specs.Prelude.{ℕ, zero, suc, ◌+◌, ◌*◌, ◌≤◌, ◌<◌, ◌≡◌, refl, Bool, true, false, cond, ◌&&◌, ◌||◌, not, List, [], ◌∷◌, map, length, get_or, leb, eqb, Option, None, Some}
-use Rattle.std.proofs.Common.{sym, ◌∙◌, true≢false, zero-add, arith, eq-eqb, eqb-true, leb-true}
+use Rattle.std.specs.Prelude.{ℕ, ◌+◌, ◌*◌, ◌≤◌, ◌<◌, ◌≡◌, refl, Bool, true, false, cond, ◌&&◌, List, map, length, eqb, None, Some}
+use Rattle.std.proofs.Common.{sym, ◌∙◌, zero-add, arith, eq-eqb}
 use Rattle.std.proofs.Math.Path.{ap}
-use Rattle.std.proofs.lemmas.Bool.{eqb-false}
 use Rattle.meaning.specs.Words.{word, inside, bind, up_from}
-use Rattle.meaning.specs.Parts.{coverage, coverage_sound}
-use Rattle.meaning.specs.Tables.{Pair, reach, reaches, field_count, pair_records, pair_set, pair_table, table}
-use Rattle.meaning.specs.Fault.{fault_through, coverage_fault, pair_set_fault, header_fault, enough, good_formats, pair_fault, fault}
+use Rattle.meaning.specs.Tables.{reach, reaches, field_count, pair_records, pair_set, pair_table, table}
+use Rattle.meaning.specs.Fault.{pair_set_fault, header_fault, enough, good_formats, pair_fault, fault}
 use Rattle.meaning.specs.Cut.{glyphs_of}
 use Rattle.laws.specs.Runs.{Up, both}
 use Rattle.laws.specs.Stands.{All}
 use Rattle.laws.specs.ReadsBack.{fault_pairs, table_pairs}
 use Rattle.laws.specs.SoundGood.{Bytes, part_sound, header_good, word_small}
 use Rattle.coverage_index.specs.Index.{index_of}
-use Rattle.differences.specs.Content.{Content, pair_says, set_holds, by_index, covered, content}
+use Rattle.differences.specs.Content.{Content, pair_says, set_holds, by_index, content}
 use Rattle.differences.specs.Entries.{each, beside, pair_entries, first_entries, differences}
-use Rattle.difference_laws.specs.Empty.{SortedPairs, Sorted}
+use Rattle.difference_laws.specs.Empty.{Sorted}
 use Rattle.difference_laws.specs.Sound.{sound_sorted}
 use Rattle.first_glyphs.specs.First.{cover_of, sound_cover, sound_cover_lem, covered_below, bind_same, by_slot, index_glyphs, cover_words, index_below, at_glyph, first_ids}
-use Rattle.value_differences.specs.Held.{pairs_from, count_in, held}
+use Rattle.value_differences.specs.Held.{pairs_from, held}
 
 -- each covered glyph with its pairs, as the content of the table says them
 unfoldable pub pairs_in : List ℕ → List (ℕ × List (ℕ × List ℕ))

@@ -11,27 +11,16 @@ ghost use Rattle.differences.specs.Content.{content};
 ghost use Rattle.differences.specs.Entries.{each, at_field, pair_entries, differences};
 ghost use Rattle.listing.specs.Listed.{Listed};
 ghost use Rattle.first_glyphs.specs.First.{at_glyph};
-ghost use Rattle.value_differences.specs.Held.{values_at, size_of, count_in, next_second, held};
+ghost use Rattle.value_differences.specs.Held.{values_at, size_of, next_second, held};
 ghost use Rattle.pair_differences.specs.Whole.{pairs_in, PairTable};
 
 use first_glyphs::{cover_index, list_right};
 use listing::put_listed;
 use pair_places::field_count;
+use same_words::same_words;
 use value_differences::list_fields;
+use view::set_count;
 use wire::word_at;
-
-// Whether the `n` words from `p` on the left on are those from `q` on the right on.
-fn same_words(left: &[u8], p: usize, right: &[u8], q: usize, n: usize) -> bool
-    requires { (p < 0x2_0000_0000) × (q < 0x2_0000_0000) × (n ≤ 8) }
-    ensures { result ≡ true → words left.now p n ≡ words right.now q n }
-{
-    for i in 0..n {
-        if word_at(left, p + 2 * i) != word_at(right, q + 2 * i) {
-            return false;
-        }
-    }
-    true
-}
 
 // Whether the pair records at `p` on the left and at `q` on the right say the same in the same words: both tables have the same value formats, and the records the same values behind each other.
 fn alike(left: &[u8], p: usize, right: &[u8], q: usize) -> bool
@@ -80,16 +69,6 @@ fn pair_size(src: &[u8]) -> usize
     2 + 2 * field_count(word_at(src, 4)) + 2 * field_count(word_at(src, 6))
 }
 
-// How many pairs the set at `at` has; a null one has none.
-fn count_in(src: &[u8], at: usize) -> usize
-    ensures { (result ≡ count_in src.now at) × (result < 65536) }
-{
-    if at == 0 {
-        return 0;
-    }
-    word_at(src, at)
-}
-
 // The second glyph of the record at `p`, where `n` records are left; past all glyphs where none is.
 fn next_second(src: &[u8], p: usize, n: usize) -> usize
     ensures { (result ≡ next_second src.now p n) × (result < 65536 + (1 - n)) }
@@ -117,9 +96,9 @@ fn list_sets(
     let rsize = pair_size(right);
     let mut at = pos;
     let mut p = l + 2;
-    let mut m = count_in(left, l);
+    let mut m = set_count(left, l);
     let mut q = r + 2;
-    let mut n = count_in(right, r);
+    let mut n = set_count(right, r);
     // A while: a step passes a pair of one side, or of both.
     'pairs: while 0 < m + n {
         let a = next_second(left, p, m);

@@ -1,7 +1,7 @@
 -- The parts are written one after the other, and the header before them; then they are handed over.
-use Rattle.std.specs.Prelude.{Result, Err}
+use Rattle.std.specs.Prelude.{Result}
 use Prim.Native.Nat.{ℕ, ◌+◌, ◌-◌, ◌*◌, ◌≤◌, ◌<◌}
-use mathlib.Core.Path.{◌≡◌, refl, sym, ap, ◌∙◌, subst}
+use mathlib.Core.Path.{◌≡◌, refl, sym, ap, ◌∙◌}
 use mathlib.Core.Bool.{Bool, true, false, cond}
 use mathlib.Core.List.{List, [], ◌∷◌, ◌++◌, append-nil}
 use native.Mathlib.Omega.{arith}
@@ -11,23 +11,19 @@ use lib.Dec.{leb}
 use borrow.Author.Tests.{le-leb, lt-leb}
 use Rattle.meaning.specs.Words.{flat}
 use Rattle.meaning.specs.Layout.{coverage_words, class_words}
-use Rattle.meaning.specs.Subset.{Outcome, refused, limit}
+use Rattle.meaning.specs.Subset.{refused, limit}
 use Rattle.laws.specs.Stands.{flat_length}
 use Rattle.laws.specs.Written.{Wrote, wrote_none, wrote_two, wrote_three}
 use Rattle.room.specs.Laid.{outcome_of, laid_as, laid_over}
 use Rattle.room.specs.declared.NotLaid.{NotLaid}
-use Rattle.room.specs.declared.NotLaid.TheVariants.{TooBig}
 use Rattle.area.specs.Extends.{Extends, Tried, extends_more, extends_said}
 use Rattle.area.specs.Stored.{extends_before}
 use Rattle.area.specs.Part.{part, take_part, news, notes}
 use Rattle.numbers.specs.Entries.{entries_in}
 use Rattle.pair_sets.specs.declared.Formats.{Formats}
 use Rattle.class_formats.specs.Kept.{NewFormats, kept_cells}
-use Rattle.tried.specs.Tries.{Tries}
-use Rattle.tried.specs.declared.NotCut.{NotCut}
-use Rattle.tried.specs.declared.NotCut.TheVariants.{Short, Refused}
 use Rattle.pair_layouts.specs.Kerning.{shared, head_words, fits_at, cover_at, first_at, second_at, last, end_at, kern_words, parts_into, kern_into, left_into}
-use Rattle.pair_layouts.specs.Laying.{one_table, Ended, Ordered, NoRoom}
+use Rattle.pair_layouts.specs.Laying.{one_table, Ended, Ordered}
 use Rattle.pair_layouts.specs.declared.Noted.{Noted}
 use Rattle.pair_layouts.specs.declared.Classed.{Classed}
 use Rattle.pair_layouts.specs.declared.Ends.{Ends}
@@ -103,18 +99,6 @@ module _ (e : Ends) where
 
   pub last_fits : e.second ≤ 65535 → e.second - e.first ≤ 131076 → {b : Bool} → b ≡ leb (e.end - e.second) 131076 → b ≡ fits_at e.first e.second e.end
   last_fits h k d = rw (le-leb e.second 65535 h, le-leb (e.second - e.first) 131076 k) d
-
--- no room
-pub too_short : {n : ℕ} → n < 262144 → NoRoom n Short
-unfolding limit
-too_short h = record { told = λ out made k. (h, refl) }
-
-pub too_big : {n : ℕ} → 262144 ≤ n → NoRoom n (Refused TooBig)
-unfolding limit
-too_big h = record { told = λ out made k. k h }
-
-pub room_told : {n m : ℕ} {r : NotCut} {out : List ℕ} {made : Outcome} → NoRoom n r → n ≡ m → (limit ≤ n → refused out 9 ≡ made) → Tries ⊥ (m < limit) (Err r) out out made
-room_told {n} {m} {r} {out} {made} h e k = subst (λ (i : ℕ). Tries ⊥ (i < limit) (Err r) out out made) e (h.told out made k)
 
 -- an area that is not over the limit
 pub area_small : (area : List ℕ) → length area ≤ limit → length area ≤ 262144

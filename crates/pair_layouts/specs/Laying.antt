@@ -1,12 +1,10 @@
 -- What writing the parts asks and answers.
-use Rattle.std.specs.Prelude.{ℕ, ◌+◌, ◌*◌, ◌≤◌, ◌<◌, ◌≡◌, Bool, true, cond, List, [], ◌++◌, length, Err}
+use Rattle.std.specs.Prelude.{ℕ, ◌+◌, ◌*◌, ◌≤◌, ◌<◌, ◌≡◌, Bool, true, cond, List, [], ◌++◌, length}
 use Rattle.meaning.specs.Words.{keys, ascends}
-use Rattle.meaning.specs.Subset.{Outcome, refused, limit}
+use Rattle.meaning.specs.Subset.{limit}
 use Rattle.area.specs.Extends.{Extends}
 use Rattle.area.specs.Part.{notes}
 use Rattle.class_formats.specs.Kept.{AsksCells}
-use Rattle.tried.specs.Tries.{Tries}
-use Rattle.tried.specs.declared.NotCut.{NotCut}
 use Rattle.pair_layouts.specs.declared.Noted.{Noted}
 use Rattle.pair_layouts.specs.declared.Classed.{Classed}
 use Rattle.pair_layouts.specs.declared.Ends.{Ends}
@@ -42,10 +40,6 @@ pub record Ended (one : Bool) (before : List ℕ) (p : ℕ) (cover first second 
 pub record Ordered (e : Ends) : Type 0 where
   pub first : e.first ≤ e.second
   pub second : e.second ≤ e.end
-
--- What is answered where an area of n bytes has no room: it is too short, or the layout is too big, if an area that is as long as the limit says so.
-pub record NoRoom (n : ℕ) (r : NotCut) : Type 0 where
-  pub told : (out : List ℕ) (made : Outcome) → (limit ≤ n → refused out 9 ≡ made) → Tries ⊥ (n < limit) (Err r) out out made
 
 -- r bytes of an area of n bytes are used: all, but not more than the limit
 pub record Front (n r : ℕ) : Type 0 where

@@ -9,7 +9,7 @@ ghost use Rattle.meaning.specs.Subset.{limit};
 ghost use Rattle.area.specs.Part.{news, notes};
 ghost use Rattle.tried.specs.Tries.{Tries};
 ghost use Rattle.pair_layouts.specs.Kerning.{shared, head_words, fits_at, left_into};
-ghost use Rattle.pair_layouts.specs.Laying.{EntriesIn, TailIn, one_table, Ended, Ordered, NoRoom, Ready};
+ghost use Rattle.pair_layouts.specs.Laying.{EntriesIn, TailIn, one_table, Ended, Ordered, Ready};
 
 use area::{put_three, put_two};
 use area_parts::{write_classes, write_cover};
@@ -18,8 +18,8 @@ use class_cells::write_cells;
 use class_formats::new_formats;
 use handing::hand_over;
 use pair_sets::Formats;
-use room::{HIGHEST, LIMIT, LONGEST, NotLaid};
-use tried::NotCut;
+use room::{HIGHEST, LIMIT, LONGEST};
+use tried::{NotCut, no_room};
 
 // Cells in a row: where the first stands, and how many there are.
 #[derive(Clone, Copy)]
@@ -125,16 +125,6 @@ fn fits(ends: Ends) -> bool
     ends.end - ends.second <= LONGEST
 }
 
-// What is answered where the area has no room: it is too short, or, if it is as long as the limit, the layout is too big.
-fn no_room(area: &[u8]) -> NotCut
-    ensures { NoRoom (length area.now) result }
-{
-    if area.len() < LIMIT {
-        return NotCut::Short;
-    }
-    NotCut::Refused(NotLaid::TooBig)
-}
-
 // What is left of the table, of which the cells hold the classes and the covered glyphs, written into the area and handed over if there is room.
 pub fn lay_pairs(
     src: &[u8],
@@ -155,11 +145,11 @@ pub fn lay_pairs(
     let f = new_formats(src, t, first.map, second.map);
     let p = write_cells(src, f, t, first.map, second.map, area, 16);
     if area.len() < p {
-        return Err(no_room(area));
+        return Err(no_room(area, LIMIT));
     }
     let ends = write_tail(t, cover, first.entries, second.entries, packing, area, p);
     if area.len() < ends.end {
-        return Err(no_room(area));
+        return Err(no_room(area, LIMIT));
     }
     write_head(area, ends, f, first.count, second.count);
     Ok(hand_over(area, 0, 0, ends.end, fits(ends), out)?)

@@ -28,7 +28,7 @@ use pair_formats::new_formats;
 use pair_places::kept_places;
 use placed_sets::Sort;
 use room::{AREA, NotLaid};
-use tried::{NotCut, least};
+use tried::NotCut;
 use wire::word_inside;
 
 // What is left of a table of pairs, whose retained covered glyphs are noted: its new value formats, and then the table with the fields that stay.
@@ -126,6 +126,6 @@ pub fn pairs(
     requires { (pair_fault src.now ≡ None) × (length src.now ≤ limit) × GlyphMap marks.form glyphs.now }
     ensures { Tries (length t.old < cells_most) (length area.old < enough_area) result out.old out.new (written_in marks.layout out.old (cut (glyph_entries marks.form glyphs.now) [] (pair_table src.now))) }
 {
-    let bytes = least(area.len(), AREA);
+    let bytes = area.len().min(AREA);
     cut_pairs(src, glyphs, marks, t, &mut area[..bytes], out)
 }

@@ -45,7 +45,7 @@ module _ (g i p : ℕ) where
       (listed_said listed_none (sym (ap (λ (x : ℕ). right_rule g i (rank_of x)) s ∙ t)), omega arith)
 
 module _ (s : List ℕ) (m g i : ℕ) where
-  -- the ways through `list_left` and `list_right`: no rule of this rank, or one
+  -- what `list_ranks` lists on one side: there is no rule of this rank, or one
   pub no_left : {out : List ℕ} {pos : ℕ} → m ≤ i → Listed (left_at s m g i) out pos out pos × (pos ≤ pos + 12)
   no_left h = (listed_said listed_none (rw (le-ltb i m h)), omega arith)
 

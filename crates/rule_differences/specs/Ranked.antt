@@ -1,6 +1,6 @@
 -- Rules rank by rank, where each rule's partner is known.
-use Rattle.std.specs.Prelude.{ℕ, zero, suc, ◌+◌, ◌-◌, ◌*◌, ◌≤◌, ◌<◌, ◌≡◌, refl, Bool, true, false, cond, List, [], ◌∷◌, ◌++◌, length, get_or, ltb, Option, None, Some}
-use Rattle.std.proofs.Common.{sym, ap, ap₂, ◌∙◌, arith, ltb-true, ltb-false}
+use Rattle.std.specs.Prelude.{ℕ, zero, suc, ◌≤◌, ◌<◌, ◌≡◌, refl, Bool, true, false, cond, List, [], ◌∷◌, ◌++◌, length, get_or, ltb, Option, None, Some}
+use Rattle.std.proofs.Common.{ap₂, arith, ltb-true, ltb-false}
 use Rattle.meaning.specs.Words.{up_from}
 use Rattle.differences.specs.Entries.{Entry, each, ranked, partner, left_rule, right_rule, if_there, at_rank, longer, rule_entries}
 use Rattle.difference_laws.specs.Ranks.{each_ranks}

@@ -5,7 +5,7 @@ ghost use Rattle.std.specs.Prelude.{◌≡◌, ◌+◌, ◌≤◌, ◌<◌};
 ghost use Rattle.meaning.specs.Words.{up_from};
 ghost use Rattle.differences.specs.Entries.{each, left_rule, right_rule, longer};
 ghost use Rattle.listing.specs.Listed.{Listed};
-ghost use Rattle.rule_differences.specs.Ranked.{rank_of, left_at, right_at, both_at};
+ghost use Rattle.rule_differences.specs.Ranked.{rank_of, both_at};
 
 use cells::cell;
 use listing::put_listed;
@@ -35,28 +35,6 @@ fn put_right(out: &mut [u8], pos: usize, g: usize, i: usize, partner: usize) -> 
     pos
 }
 
-// What is listed of the left rule of rank `i`, where there are `m`; the place after it.
-fn list_left(partners: &[u32], m: usize, g: usize, i: usize, out: &mut [u8], pos: usize) -> usize
-    requires { (m < 65536) × (pos < 0x8000_0000_0000) }
-    ensures { Listed (left_at partners.now m g i) out.old pos out.new result × (result ≤ pos + 12) }
-{
-    if m <= i {
-        return pos;
-    }
-    put_left(out, pos, g, i, cell(partners, i))
-}
-
-// The same of the right rule of rank `i`, where there are `n`.
-fn list_right(partners: &[u32], n: usize, g: usize, i: usize, out: &mut [u8], pos: usize) -> usize
-    requires { (n < 65536) × (pos < 0x8000_0000_0000) }
-    ensures { Listed (right_at partners.now n g i) out.old pos out.new result × (result ≤ pos + 12) }
-{
-    if n <= i {
-        return pos;
-    }
-    put_right(out, pos, g, i, cell(partners, i))
-}
-
 // The greater of two counts.
 fn longer(m: usize, n: usize) -> usize
     ensures { result ≡ longer m n }
@@ -83,8 +61,12 @@ pub fn list_ranks(
     let end = longer(m, n);
     let mut at = pos;
     for i in 0..end {
-        let p = list_left(lefts, m, g, i, out, at);
-        at = list_right(rights, n, g, i, out, p);
+        if i < m {
+            at = put_left(out, at, g, i, cell(lefts, i));
+        }
+        if i < n {
+            at = put_right(out, at, g, i, cell(rights, i));
+        }
     }
     at
 }

@@ -11,7 +11,7 @@ ghost use Rattle.member_steps.specs.Most.{Counted};
 
 use lookup_list::{long_at, part};
 use matching::cover_parts;
-use member_steps::{larger, most_once, record_steps};
+use member_steps::{most_once, record_steps};
 use places::MEMBER_MARKS;
 use records::crowded;
 use wire::word_at;

@@ -13,21 +13,9 @@ ghost use Rattle.steps.specs.Stepping.{Room};
 ghost use Rattle.traces.specs.Whole.{Whole};
 
 use put_words::put;
+use same_words::same_words;
 use steps::{TooDeep, run_lookups};
 use wire::word_at;
-
-// Whether the `n` words from `at` on are those from `from` on in another slice.
-fn same_words(a: &[u8], at: usize, b: &[u8], from: usize, n: usize) -> bool
-    requires { (at + 2 * n < 0x1_0000_0000_0000_0000) × (from + 2 * n < 0x1_0000_0000_0000_0000) }
-    ensures { result ≡ eq_list (words a.now at n) (words b.now from n) }
-{
-    for i in 0..n {
-        if word_at(a, at + 2 * i) != word_at(b, from + 2 * i) {
-            return false;
-        }
-    }
-    true
-}
 
 // The `n` words from `at` on, copied to the start of a slice that has room for them.
 fn copy_words(src: &[u8], at: usize, out: &mut [u8], n: usize)

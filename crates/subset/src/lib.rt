@@ -10,7 +10,7 @@ use cut::{cut_lent, cut_own};
 use marks::Marks;
 use refusals::{Refusal, judge};
 
-// The call: what is left of a source under a glyph map and a lookup map, laid into the buffer, or the first of the refusals that applies, in their written order: 1, 13, 14, 2 to 7, 12, 8 to 10.
+// The call: what is left of a source under a glyph map and a lookup map, laid into the buffer, with how many bytes it takes, or the first of the refusals that applies, in their written order: 1, 13, 14, 2 to 7, 12, 8 to 10.
 // A refusal leaves the buffer untouched, and bytes past those that are kept keep their old content.
 pub fn subset(
     marks: Marks,

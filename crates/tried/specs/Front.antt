@@ -1,5 +1,5 @@
 -- A front of lent scratch that is enough, or all of it.
-use Rattle.std.specs.Prelude.{ℕ, ◌≤◌, ◌<◌, ◌≡◌, List, length, take, Result}
+use Rattle.std.specs.Prelude.{ℕ, ◌≤◌, ◌<◌, min, ◌≡◌, List, length, take, Result}
 use Rattle.std.proofs.Common.{sym, arith, length-take-le}
 use Rattle.meaning.specs.Subset.{Outcome}
 use Rattle.tried.specs.Tries.{Tries, tries_less}
@@ -10,6 +10,9 @@ pub record Least (a b r : ℕ) : Type 0 where
   pub first : r ≤ a
   pub second : r ≤ b
   pub one : r < b → r ≡ a
+
+pub least_is : {a b r : ℕ} → r ≡ min a b → Least a b r
+least_is e = record { first = omega arith; second = omega arith; one = λ l. omega arith }
 
 pub front_length : {n c : ℕ} (t : List ℕ) → Least (length t) c n → n ≡ length (take n t)
 front_length {n} t h = sym (length-take-le n t h.first)

@@ -1,6 +1,7 @@
 -- What a cut with lent scratch answers.
-use Rattle.std.specs.Prelude.{ℕ, ◌≡◌, refl, List, Option, None, Some, IsSome, Result, Ok, Err}
-use Rattle.meaning.specs.Subset.{Outcome}
+use Rattle.std.specs.Prelude.{ℕ, ◌≤◌, ◌<◌, ◌≡◌, refl, List, Option, None, Some, IsSome, Result, Ok, Err}
+use Rattle.std.proofs.Common.{subst}
+use Rattle.meaning.specs.Subset.{Outcome, refused}
 use Rattle.room.specs.Laid.{outcome_of}
 use Rattle.room.specs.declared.NotLaid.{NotLaid}
 use Rattle.tried.specs.declared.NotCut.{NotCut}
@@ -57,3 +58,11 @@ tries_always (Err FewCells) before after made h = absurd h.0
 tries_always (Err Short) before after made h = absurd h.0
 tries_always (Err (Refused x)) before after made h = refl
 tries_always (Ok n) before after made h = refl
+
+-- What is answered where an area of n bytes has no room: it is too short; or it has what is enough, and then the answer is that the layout is too big. The buffer is untouched.
+pub record NoRoom (enough n : ℕ) (r : NotCut) : Type 0 where
+  pub told : {out : List ℕ} {made : Outcome} → (enough ≤ n → refused out 9 ≡ made) → Tries ⊥ (n < enough) (Err r) out out made
+
+-- and so of an area that is as long
+pub room_told : {enough n m : ℕ} {r : NotCut} {out : List ℕ} {made : Outcome} → NoRoom enough n r → n ≡ m → (enough ≤ n → refused out 9 ≡ made) → Tries ⊥ (m < enough) (Err r) out out made
+room_told {enough} {r = r} {out} {made} h e k = subst (λ (i : ℕ). Tries ⊥ (i < enough) (Err r) out out made) e (h.told k)

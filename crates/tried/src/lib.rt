@@ -1,9 +1,8 @@
-// What comes of a cut with lent scratch, and how much of the scratch it takes.
+// What comes of a cut with lent scratch.
 #![tactic(auto)]
 
-ghost use Rattle.std.specs.Prelude.{◌≡◌};
-ghost use Rattle.tried.specs.Front.{Least};
-ghost use Rattle.tried.specs.Tries.{answered};
+ghost use Rattle.std.specs.Prelude.{◌≡◌, length};
+ghost use Rattle.tried.specs.Tries.{NoRoom, answered};
 ghost use Rattle.tried.specs.declared.NotCut.TheVariants.{Refused};
 
 use room::NotLaid;
@@ -36,12 +35,12 @@ pub fn answered(tried: Result<usize, NotCut>) -> Option<Result<usize, NotLaid>>
     }
 }
 
-// The lesser of two numbers: how long a front of the scratch is taken, where so many are enough.
-pub fn least(a: usize, b: usize) -> usize
-    ensures { Least a b result }
+// Why nothing is laid where the area has no room: it is too short; or it has what is enough for any table that is not too big, and then this one is.
+pub fn no_room(area: &[u8], enough: usize) -> NotCut
+    ensures { NoRoom enough (length area.now) result }
 {
-    if a < b {
-        return a;
+    if area.len() < enough {
+        return NotCut::Short;
     }
-    b
+    NotCut::Refused(NotLaid::TooBig)
 }

@@ -70,34 +70,6 @@ pub valuing_turn : (g second : ℕ) (xs ys : List ℕ) {out₀ : List ℕ} {pos 
 unfolding at_field
 valuing_turn g second xs ys k h e f l = through_turn k h (listed_said l.0 (rw (e, f))) l.1
 
--- What the loop of `same_words` keeps: if the words that are left are the same, all are.
-pub record Wording (l r : List ℕ) (p q n i : ℕ) : Type 0 where
-  pub within : i ≤ n
-  pub rest : words l (p + 2 * i) (n - i) ≡ words r (q + 2 * i) (n - i) → words l p n ≡ words r q n
-
-module _ {l r : List ℕ} {p q n : ℕ} where
-  pub wording_all : Wording l r p q n 0
-  wording_all =
-      let a : p + 2 * 0 ≡ p = omega arith in
-      let b : q + 2 * 0 ≡ q = omega arith in
-      let d : n - 0 ≡ n = omega arith in
-      record { within = omega arith; rest = λ e. rw (a, b, d) at e }
-
-  pub wording_turn : {i a b : ℕ} → Wording l r p q n i → i < n → a ≡ word l (p + 2 * i) → b ≡ word r (q + 2 * i) → a ≡ b → Wording l r p q n (i + 1)
-  unfolding words
-  wording_turn {i} k h x y e =
-      let d : n - i ≡ suc (n - (i + 1)) = omega arith in
-      let u : p + 2 * (i + 1) ≡ p + 2 * i + 2 = omega arith in
-      let v : q + 2 * (i + 1) ≡ q + 2 * i + 2 = omega arith in
-      let w : word l (p + 2 * i) ≡ word r (q + 2 * i) = sym x ∙ e ∙ y in
-      record { within = omega arith; rest = λ f. k.rest (rw (d, w) (ap (λ (z : List ℕ). word r (q + 2 * i) ∷ z) (rw (u, v) at f))) }
-
-  pub wording_end : {i : ℕ} → Wording l r p q n i → n ≤ i → words l p n ≡ words r q n
-  unfolding words
-  wording_end {i} k h =
-      let d : n - i ≡ 0 = omega arith in
-      k.rest (rw d)
-
 -- records with the same words, in tables with the same value formats, have the same values
 pub alike_values : (l r : List ℕ) (p q : ℕ) {f h n m : ℕ} → f ≡ word l 4 → h ≡ word l 6 → f ≡ word r 4 → h ≡ word r 6 → n ≡ field_count f → m ≡ field_count h
     → words l (p + 2) n ≡ words r (q + 2) n → words l (p + 2 + 2 * n) m ≡ words r (q + 2 + 2 * n) m → values_at l p ≡ values_at r q

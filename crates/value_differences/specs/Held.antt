@@ -1,5 +1,5 @@
 -- The pairs of a set as the content of a table says them, read from the bytes.
-use Rattle.std.specs.Prelude.{ℕ, zero, suc, ◌+◌, ◌*◌, Bool, cond, ◌||◌, List, [], ◌∷◌, ◌++◌, map, get_or, eqb}
+use Rattle.std.specs.Prelude.{ℕ, ◌+◌, ◌*◌, Bool, cond, ◌||◌, List, [], ◌∷◌, ◌++◌, map, get_or, eqb}
 use Rattle.meaning.specs.Words.{word, words}
 use Rattle.meaning.specs.Tables.{field_count, pair_records}
 use Rattle.differences.specs.Content.{four_values, pair_says}

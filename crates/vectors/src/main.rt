@@ -345,30 +345,25 @@ fn run(rt: &impl Print, file: &[u8], made: usize, good: usize)
     summary(rt, made + TIMES * index, good + agreeing)
 }
 
-// The longest source, of zeros. Its type says how long it is, and no contract says what is in it.
-fn longest_zeros() -> [u8; LONGEST] {
-    [0u8; LONGEST]
+// A source, a map or a buffer of zeros. Its type says how long it is, and no contract says what is in it.
+fn zeros<const N: usize>() -> [u8; N] {
+    [0u8; N]
 }
 
 // Sources of zeros, of the most bytes that a source may have: the kind has no format 0.
 fn longest_source(rt: &impl Print, kind: usize) -> usize
     ensures { result ≤ 3 }
 {
-    let source = longest_zeros();
+    let source = zeros::<LONGEST>();
     let good = refused_calls(rt, plain(kind, PAIRS), &source, b"", b"", 5, 0);
     verdict(rt, b"the longest source of kind ", kind, good)
-}
-
-// A source that is one byte longer, of zeros. Its type says how long it is, and no contract says what is in it.
-fn long_zeros() -> [u8; LONG] {
-    [0u8; LONG]
 }
 
 // Sources of zeros, of one byte more.
 fn long_source(rt: &impl Print, kind: usize) -> usize
     ensures { result ≤ 3 }
 {
-    let source = long_zeros();
+    let source = zeros::<LONG>();
     let good = refused_calls(rt, plain(kind, PAIRS), &source, b"", b"", 4, 0);
     verdict(rt, b"a longer source of kind ", kind, good)
 }
@@ -380,11 +375,6 @@ fn sources(rt: &impl Print, kind: usize) -> usize
     longest_source(rt, kind) + long_source(rt, kind)
 }
 
-// A buffer for the layout with its last coverage at 65,534. Its type says how long it is, and no contract says what is in it.
-fn highest_kept() -> [u8; HIGHEST_KEPT] {
-    [0u8; HIGHEST_KEPT]
-}
-
 // How many agree of the calls whose plain layout has its last coverage at 65,534: 490 places of 64 glyphs, in 65,666 bytes.
 fn highest_offset(rt: &impl Print) -> usize
     ensures { result ≤ 3 }
@@ -393,7 +383,7 @@ fn highest_offset(rt: &impl Print) -> usize
     put_source(&mut source, 490, 64);
     let mut glyphs = [0u8; 256];
     put_map(&mut glyphs, 64);
-    let mut kept = highest_kept();
+    let mut kept = zeros::<HIGHEST_KEPT>();
     put_result(&mut kept, 490, 64);
     let good = kept_calls(rt, plain(1, PAIRS), &source, &glyphs, b"", &kept);
     verdict(rt, b"a coverage at ", 65534, good)
@@ -472,33 +462,18 @@ fn wide_pairs(rt: &impl Print) -> usize
     verdict(rt, b"pairs of a shared set: ", 300, good)
 }
 
-// A buffer for a map of 32,764 glyphs. Its type says how long it is, and no contract says what is in it.
-fn most_glyphs() -> [u8; MOST_GLYPHS] {
-    [0u8; MOST_GLYPHS]
-}
-
-// A buffer for the layout with as many substitutes. Its type says how long it is, and no contract says what is in it.
-fn most_kept() -> [u8; MOST_KEPT] {
-    [0u8; MOST_KEPT]
-}
-
 // How many agree of the calls whose plain layout has the coverage at 65,534, behind 32,764 substitutes.
 fn most_substitutes(rt: &impl Print) -> usize
     ensures { result ≤ 3 }
 {
     let mut source = [0u8; 16];
     put_next(&mut source, 32764);
-    let mut glyphs = most_glyphs();
+    let mut glyphs = zeros::<MOST_GLYPHS>();
     put_same_but_last(&mut glyphs, 32764);
-    let mut kept = most_kept();
+    let mut kept = zeros::<MOST_KEPT>();
     put_list(&mut kept, 32764);
     let good = kept_calls(rt, plain(5, PAIRS), &source, &glyphs, b"", &kept);
     verdict(rt, b"substitutes: ", 32764, good)
-}
-
-// A buffer for a map of one glyph more. Its type says how long it is, and no contract says what is in it.
-fn more_glyphs() -> [u8; MORE_GLYPHS] {
-    [0u8; MORE_GLYPHS]
 }
 
 // How many agree of the calls whose plain layout would have it at 65,536.
@@ -507,7 +482,7 @@ fn more_substitutes(rt: &impl Print) -> usize
 {
     let mut source = [0u8; 16];
     put_next(&mut source, 32765);
-    let mut glyphs = more_glyphs();
+    let mut glyphs = zeros::<MORE_GLYPHS>();
     put_same_but_last(&mut glyphs, 32765);
     let good = refused_calls(rt, plain(5, PAIRS), &source, &glyphs, b"", 9, 0);
     verdict(rt, b"substitutes: ", 32765, good)
@@ -545,11 +520,6 @@ fn limits(rt: &impl Print) -> usize
     contexts + others + offsets + most_substitutes(rt) + more_substitutes(rt)
 }
 
-// A buffer for the stored calls. Its type says how long it is, and no contract says what is in it.
-fn unread() -> [u8; FILE] {
-    [0u8; FILE]
-}
-
 // Reads until `file` is full, the input ends or a read fails; how many bytes stand at its front.
 fn read_calls(from: &mut impl Read, file: &mut [u8]) -> usize
     ensures { result ≤ length file.new }
@@ -567,7 +537,7 @@ fn read_calls(from: &mut impl Read, file: &mut [u8]) -> usize
 
 fn main(rt: HostRuntime) {
     let good = limits(&rt) + large_tables(&rt);
-    let mut file = unread();
+    let mut file = zeros::<FILE>();
     let n = read_calls(&mut rt.stdin(), &mut file);
     run(&rt, &file[..n], 19 * TIMES, good);
 }

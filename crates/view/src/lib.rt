@@ -1,9 +1,9 @@
 // A table view: the source and a place in it. Two thin functions over it do the work: `field` reads a field of the table and answers its number,
 // and `subtable` moves to the table that an offset field reaches and answers the view of that. Each takes the view apart, and leaves the work to a function on the plain slice.
-// For the table at the front of a source, `header` reads a field and `subtable_place` moves, on the plain slice too: callers use these.
+// For the table at the front of a source, `header` reads a field and `subtable_place` moves, on the plain slice too: callers use these. `set_count` reads the count of a set whose offset may be null.
 #![tactic(auto)]
 
-ghost use Rattle.std.specs.Prelude.{◌≡◌, ◌+◌, ◌<◌};
+ghost use Rattle.std.specs.Prelude.{◌≡◌, cond, ◌+◌, ◌<◌, eqb};
 ghost use Rattle.meaning.specs.Words.{word};
 
 use wire::word_at;
@@ -81,4 +81,14 @@ pub fn subtable_place(src: &[u8], i: usize) -> usize
     ensures { (result ≡ word src.now i) × (result < 65536) }
 {
     place(subtable(at_front(src), i))
+}
+
+// How many members the set at `at` has, by the count at its front; a null one, which stands at 0, has none.
+pub fn set_count(src: &[u8], at: usize) -> usize
+    ensures { (result ≡ cond (eqb at 0) 0 (word src.now at)) × (result < 65536) }
+{
+    if at == 0 {
+        return 0;
+    }
+    word_at(src, at)
 }

@@ -1,7 +1,8 @@
 use Rattle.std.proofs.lemmas.Result.{err_from_is_err_and}
 use Rattle.class_slots.proofs.Turns.{wrote_said}
 use Rattle.class_places.specs.Places.{slots_near}
-use Rattle.class_booked.proofs.Handing.{room_told, mode_kept, enough_kept, finished_said, short_slots, none_left, may_finish, short_table, first_near, table_laid}
+use Rattle.tried.specs.Tries.{room_told}
+use Rattle.class_booked.proofs.Handing.{mode_kept, enough_kept, finished_said, short_slots, none_left, may_finish, short_table, first_near, table_laid}
 use mathlib.Core.Path.{◌∙◌}
 use native.Mathlib.Omega.{arith}
 use Rattle.class_booked.proofs.write_booked.Goals as goal

@@ -5,7 +5,7 @@ use Rattle.class_contexts.proofs.notes_at.Goals as goal
 pub returns : goal.returns
 returns c =
     record {
-      behind = omega (arith, c.greater-2.ensures.first);
-      near = omega (arith, c.greater-2.ensures.least (65537 + c.args.all / 4) (omega (arith, c.requires)) (c.greater.ensures.least (65537 + c.args.all / 4) (omega (arith, c.cells.ensures.1)) (omega arith)));
+      behind = omega (arith, c.max.ensures, c.max-2.ensures);
+      near = omega (arith, c.requires, c.cells.ensures.1, c.max.ensures, c.max-2.ensures);
       enough = λ l. absurd (omega (arith, c.if-all-ge-CELLS.false));
     }

@@ -18,7 +18,7 @@ compare_lowest-requires c =
 
 pub loop-g-preserved : goal.loop-g-preserved
 loop-g-preserved c =
-    straying_turn c.loop-g.invariant c.loop-g-test.true c.onward-l.ensures c.onward-r.ensures c.compare_lowest.ensures c.lower-g.ensures
+    straying_turn c.loop-g.invariant c.loop-g-test.true c.onward-l.ensures c.onward-r.ensures c.compare_lowest.ensures c.min-g.ensures
 
 pub shape_of-t : goal.shape_of-t
 shape_of-t c = c.loop-g.invariant.elsewhere.size

@@ -1,16 +1,13 @@
 use Rattle.std.proofs.Common.{Ok, Err}
 use Rattle.std.proofs.lemmas.Result.{err_from_is_err_and}
-use Rattle.cover_layouts.proofs.Cut.{hands_nothing, hands_short, hands_big, hands_over}
+use Rattle.cover_layouts.proofs.Cut.{hands_nothing, hands_no_room, hands_over}
 use Rattle.covers.proofs.settle.Goals as goal
 
 pub returns-then-end-eq0 : goal.returns-then-end-eq0
 returns-then-end-eq0 c = hands_nothing c.if-end-eq0.true
 
-pub returns-then-area-lt-AREA : goal.returns-then-area-lt-AREA
-returns-then-area-lt-AREA c = hands_short c.if-area-lt-AREA.true
-
 pub returns-then-area-end : goal.returns-then-area-end
-returns-then-area-end c = hands_big c.if-area-end.true c.if-area-lt-AREA.false
+returns-then-area-end c = hands_no_room c.if-area-end.true c.no_room.ensures
 
 pub returns-in_err-hand_over : goal.returns-in_err-hand_over
 returns-in_err-hand_over c =

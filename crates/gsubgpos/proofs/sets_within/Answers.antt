@@ -7,7 +7,7 @@ sets-init c = sets_start c.requires.2
 
 pub loop-k-init : goal.loop-k-init
 loop-k-init c =
-    rules_start c.sets.invariant c.sets-test.true c.word_at-set.ensures c.rules_in-rules.ensures
+    rules_start c.sets.invariant c.sets-test.true c.word_at-set.ensures c.set_count-rules.ensures
 
 pub reached_within-requires : goal.reached_within-requires
 reached_within-requires c =

@@ -8,5 +8,5 @@ returns-then-has_bit c =
 
 pub returns : goal.returns
 returns c =
-    let g = larger_of c.args.most c.rule_steps-found.ensures c.larger.ensures in
+    let g = larger_of c.args.most c.rule_steps-found.ensures c.max.ensures in
     (g, counted_more c.args.at c.requires.1 g c.put_bit.ensures)

@@ -1,4 +1,3 @@
-use Prim.Native.Nat.{◌-◌}
 use native.Mathlib.Omega.{arith}
 use Rattle.noted_runs.proofs.Rows.{stepping_all, stepping_next, stepping_end}
 use Rattle.noted_runs.proofs.note_steps.Goals as goal

@@ -1,4 +1,3 @@
-use Prim.Native.Nat.{◌-◌}
 use Rattle.noted_runs.proofs.Rows.{Stepping}
 use Rattle.noted_runs.proofs.note_steps.Given as goal
 

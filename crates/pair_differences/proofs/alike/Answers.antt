@@ -1,6 +1,7 @@
-use mathlib.Core.Path.{sym}
+use mathlib.Core.Path.{sym, ◌∙◌}
 use mathlib.Core.Bool.{true≢false}
 use native.Mathlib.Omega.{arith}
+use Rattle.laws.specs.Repeats.{list_same}
 use Rattle.value_differences.proofs.Values.{alike_values}
 use Rattle.pair_differences.proofs.alike.Goals as goal
 
@@ -17,5 +18,5 @@ pub returns : goal.returns
 returns c =
     λ e.
     alike_values c.args.left.now c.args.right.now c.args.p c.args.q c.word_at-f.ensures.0 c.word_at-h.ensures.0 (omega (arith, c.word_at.ensures.0)) (omega (arith, c.word_at-2.ensures.0)) c.field_count-n.ensures.0 c.field_count.ensures.0
-    (c.same_words.ensures c.if-not-same_words.false)
-    (c.same_words-2.ensures e)
+    (list_same _ _ (sym c.same_words.ensures ∙ c.if-not-same_words.false))
+    (list_same _ _ (sym c.same_words-2.ensures ∙ e))

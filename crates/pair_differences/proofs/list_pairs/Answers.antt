@@ -1,7 +1,6 @@
 use Rattle.listing.specs.Listed.{through_all, through_turn, through_end, listed_length, listed_said}
 use Rattle.first_glyphs.specs.First.{bytes_known}
 use Rattle.pair_differences.specs.Whole.{pair_table_lem, whole_list}
-use Prim.Native.Nat.{◌-◌}
 use native.Mathlib.Omega.{arith}
 use Rattle.pair_differences.proofs.list_pairs.Goals as goal
 

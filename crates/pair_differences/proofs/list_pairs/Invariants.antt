@@ -2,7 +2,6 @@ use Rattle.differences.specs.Entries.{pair_entries}
 use Rattle.listing.specs.Listed.{Through}
 use Rattle.first_glyphs.specs.First.{at_glyph}
 use Rattle.pair_differences.specs.Whole.{pairs_in}
-use Prim.Native.Nat.{◌-◌}
 use Rattle.pair_differences.proofs.list_pairs.Given as goal
 
 abbrev pub invariant-loop-g : goal.invariant-loop-g

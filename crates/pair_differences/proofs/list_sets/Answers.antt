@@ -5,10 +5,10 @@ use Rattle.pair_differences.proofs.list_sets.Goals as goal
 
 pub pairs-init : goal.pairs-init
 pairs-init c =
-    merging_all (side_all c.pair_size-lsize.ensures c.requires.0 c.count_in-m.ensures c.requires.3)
-    (side_all c.pair_size-rsize.ensures c.requires.1 c.count_in-n.ensures c.requires.4)
-    c.count_in-m.ensures
-    c.count_in-n.ensures
+    merging_all (side_all c.pair_size-lsize.ensures c.requires.0 c.set_count-m.ensures c.requires.3)
+    (side_all c.pair_size-rsize.ensures c.requires.1 c.set_count-n.ensures c.requires.4)
+    c.set_count-m.ensures
+    c.set_count-n.ensures
 
 pub overflow_sub-m : goal.overflow_sub-m
 overflow_sub-m c =

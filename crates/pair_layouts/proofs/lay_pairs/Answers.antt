@@ -1,7 +1,9 @@
 use Rattle.std.proofs.Common.{Ok, Err}
 use Rattle.std.proofs.lemmas.Result.{err_from_is_err_and}
 use mathlib.Core.Path.{refl, ◌∙◌}
-use Rattle.pair_layouts.proofs.Laying.{no_header, room_told, no_cells, no_tail, ordered, left_laid}
+use Rattle.meaning.specs.Subset.{limit}
+use Rattle.tried.specs.Tries.{room_told}
+use Rattle.pair_layouts.proofs.Laying.{no_header, no_cells, no_tail, ordered, left_laid}
 use Rattle.pair_layouts.proofs.lay_pairs.Goals as goal
 
 pub returns-then-area-lt16 : goal.returns-then-area-lt16
@@ -9,10 +11,12 @@ returns-then-area-lt16 c =
     (no_header c.args.area.now c.if-area-lt16.true, refl)
 
 pub returns-then-area-p : goal.returns-then-area-p
+unfolding limit
 returns-then-area-p c =
     room_told c.no_room.ensures c.write_cells-p.ensures.same (no_cells c.args.packing c.args.src.now c.args.t.now c.args.cover c.args.first c.args.second c.new_formats-f.ensures c.args.out.now c.write_cells-p.ensures c.if-area-p.true)
 
 pub returns-then-area-ends : goal.returns-then-area-ends
+unfolding limit
 returns-then-area-ends c =
     room_told c.no_room-then-area-ends.ensures (c.write_tail-ends.ensures.same ∙ c.write_cells-p.ensures.same) (no_tail c.args.packing c.args.src.now c.args.t.now c.args.cover c.args.first c.args.second c.new_formats-f.ensures c.args.out.now c.write_cells-p.ensures c.if-area-p.false c.write_tail-ends.ensures c.if-area-ends.true)
 

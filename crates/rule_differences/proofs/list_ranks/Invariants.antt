@@ -1,6 +1,5 @@
 use Rattle.listing.specs.Listed.{Through}
 use Rattle.rule_differences.specs.Ranked.{both_at}
-use Prim.Native.Nat.{◌-◌}
 use Rattle.rule_differences.proofs.list_ranks.Given as goal
 
 abbrev pub invariant-loop-i : goal.invariant-loop-i

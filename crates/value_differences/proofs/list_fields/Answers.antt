@@ -1,7 +1,6 @@
 use Rattle.listing.specs.Listed.{through_all, through_end, listed_length}
 use Rattle.value_differences.specs.Held.{values_at}
 use Rattle.value_differences.proofs.Values.{valuing_turn}
-use Prim.Native.Nat.{◌-◌}
 use Rattle.value_differences.proofs.list_fields.Goals as goal
 
 pub loop-i-init : goal.loop-i-init

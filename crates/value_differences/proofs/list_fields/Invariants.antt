@@ -1,7 +1,6 @@
 use Rattle.differences.specs.Entries.{at_field}
 use Rattle.listing.specs.Listed.{Through}
 use Rattle.value_differences.specs.Held.{values_at}
-use Prim.Native.Nat.{◌-◌}
 use Rattle.value_differences.proofs.list_fields.Given as goal
 
 abbrev pub invariant-loop-i : goal.invariant-loop-i

@@ -1,5 +1,5 @@
-use Rattle.runs.proofs.Copying.{alike_all, alike_not, alike_turn, alike_end}
-use Rattle.runs.proofs.same_words.Goals as goal
+use Rattle.same_words.proofs.Comparing.{alike_all, alike_not, alike_turn, alike_end}
+use Rattle.same_words.proofs.same_words.Goals as goal
 
 pub loop-i-init : goal.loop-i-init
 loop-i-init c = alike_all
