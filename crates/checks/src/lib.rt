@@ -195,7 +195,7 @@ fn check_pairs(src: &[u8]) -> Option<usize>
     check_class_pairs(src)
 }
 
-// Where the lowest faulty part of a source of this kind starts, or that it is sound: 1 context, 2 chained, 3 ligature, 4 pair, and single substitution for any other.
+// Where the lowest faulty part of a source of this kind starts, if one is faulty: 1 context, 2 chained, 3 ligature, 4 pair, and single substitution for any other.
 #[tactic(auto, unfolding(meaning::specs::Fault::fault, meaning::specs::Fault::part_fault))]
 pub fn check(kind: usize, src: &[u8]) -> Option<usize>
     ensures { result ≡ fault kind src.now }

@@ -1,4 +1,4 @@
--- The ways through the check of a part that reaches others through offsets, for each crate that has such a check.
+-- What a negated test says, and the steps of a loop over offsets past one that reaches a part, for each crate that has such a check.
 use Rattle.std.specs.Prelude.{ℕ, ◌+◌, ◌*◌, ◌<◌, ◌≡◌, refl, Bool, true, false, not, List, Option}
 use Rattle.std.proofs.Common.{sym, ◌∙◌}
 use Rattle.std.proofs.lemmas.Bool.{not-true, not-false}

@@ -37,7 +37,7 @@ fn good_header(src: &[u8]) -> bool
     inside(src, 6, 2 * n) && equal_count(src, n)
 }
 
-// Where the lowest faulty part of a single substitution starts, header or coverage, or that it is sound.
+// Where the lowest faulty part of a single substitution starts, header or coverage, if one is faulty.
 #[tactic(auto, unfolding(meaning::specs::Fault::single_fault, meaning::specs::Fault::fault_through, meaning::specs::Fault::part_fault, meaning::specs::Fault::lowest))]
 pub fn check(src: &[u8]) -> Option<usize>
     ensures { result ≡ single_fault src.now }

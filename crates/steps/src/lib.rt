@@ -16,7 +16,7 @@ use rules::Row;
 // How deep lookups may run; listed ones stand at depth 1.
 const DEPTH: usize = 8;
 
-// A lookup would run deeper than that.
+// A lookup would run deeper than `DEPTH`.
 #[derive(Clone, Copy)]
 pub struct TooDeep;
 
