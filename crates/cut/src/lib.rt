@@ -19,6 +19,16 @@ use marks::Marks;
 use room::{LIMIT, NotLaid};
 use tried::{NotCut, answered};
 
+// So many cells of our own. The type says how many they are, and nothing says what is in them.
+fn own_cells<const N: usize>() -> [u32; N] {
+    [0u32; N]
+}
+
+// So many bytes of area of our own.
+fn own_bytes<const N: usize>() -> [u8; N] {
+    [0u8; N]
+}
+
 // With so many cells and bytes of our own. It stands alone, so that its arrays stay out of its caller's frame: a small job would pay for them, and docs/SPEED.md says how much.
 #[inline(never)]
 fn in_own<const CELLS: usize, const BYTES: usize>(
@@ -31,8 +41,8 @@ fn in_own<const CELLS: usize, const BYTES: usize>(
     requires { Sound marks.kind marks.form src.now glyphs.now lookups.now × (CELLS < 0x1000_0000) × (BYTES < 0x1000_0000) }
     ensures { Tries (CELLS < cells_for marks.kind src.now) (BYTES < bytes_for marks.kind src.now) result out.old out.new (written_in marks.layout out.old (cut (glyph_entries marks.form glyphs.now) (map_entries lookups.now) (table marks.kind src.now))) }
 {
-    let mut t = [0u32; CELLS];
-    let mut area = [0u8; BYTES];
+    let mut t = own_cells::<CELLS>();
+    let mut area = own_bytes::<BYTES>();
     cut_in(marks, src, glyphs, lookups, &mut t, &mut area, out)
 }
 

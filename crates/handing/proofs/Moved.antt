@@ -1,13 +1,12 @@
--- What copies and moves come to, and what the loop that lessens keeps.
+-- What the loops that copy and lessen keep, and what they and a move come to.
 use Prim.Native.Nat.{ℕ, zero, suc, ◌+◌, ◌-◌, ◌*◌, ◌/◌, ◌%◌, ◌≤◌, ◌<◌}
 use mathlib.Core.Path.{◌≡◌, refl, sym, ap, ap₂, ◌∙◌}
 use mathlib.Core.Logic.{◌≢◌}
 use mathlib.Core.Bool.{Bool}
 use mathlib.Core.List.{List, [], ◌∷◌, ◌++◌}
 use native.Mathlib.Omega.{arith}
-use lib.ListN.{length, get_or, set, take, drop, length-append, length-map}
+use lib.ListN.{length, get_or, set, take, drop, length-append, length-set, length-map}
 use lib.Seq.{sets, length-sets, paste, get_or-set_other}
-use borrow.Rule.Slice.PartMut.{put_mid}
 use Rattle.std.proofs.lemmas.List.Edits.{sets-eq}
 use Rattle.meaning.specs.Words.{word, words, bytes2, flat}
 use Rattle.laws.specs.Stands.{All, flat_length, flat_append}
@@ -17,8 +16,7 @@ use Rattle.room.specs.Laid.{laid_for, laid_as, outcome_of, refused_room, kept_ro
 use Rattle.room.specs.declared.NotLaid.{NotLaid}
 use Rattle.std.specs.Prelude.{Ok, Err}
 use Rattle.area.specs.Extends.{Extends, wrote_extends}
-use Rattle.area.specs.AtOnce.{at_once}
-use Rattle.area.specs.Part.{part, part_length, part_append, part_take, take_part}
+use Rattle.area.specs.Part.{part, part_length, part_all, part_left, part_none, part_append, part_take, take_part}
 use Rattle.handing.specs.Closed.{lessened, less_by, Closed}
 
 -- a run of stores leaves what stands behind it
@@ -33,14 +31,32 @@ unfolding part
 part_behind xs l at j zero h = refl
 part_behind xs l at j (suc n) h = rw (get_d_sets_behind xs l at j h) (ap (λ (r : List ℕ). get_or l j 0 ∷ r) (part_behind xs l at (j + 1) n (omega arith)))
 
--- bytes that are copied or moved are a run of stores
-pub copied : (area out : List ℕ) {ys : List ℕ} (from to n : ℕ) → from + n ≤ length area → to + n ≤ length out → ys ≡ take (from + n - from) (drop from area) → put_mid to (to + n - to) out ys ≡ sets out to (part area from n)
-copied area out {ys} from to n f t e =
-    let a : from + n - from ≡ n = omega arith in
-    let b : to + n - to ≡ n = omega arith in
-    let p : ys ≡ part area from n = rw a at e ∙ sym (part_take area from n f) in
-    rw (b, p) (at_once to n out (part area from n) (part_length area from n) t)
+-- What the loop of `copy` keeps: the bytes that are left, stored from the i-th on, end the run.
+pub record Copying (s : List ℕ) (from n : ℕ) (out₀ : List ℕ) (to : ℕ) (out : List ℕ) (i : ℕ) : Type 0 where
+  pub within : i ≤ n
+  pub same : length out ≡ length out₀
+  pub left : sets out (to + i) (part s (from + i) (n - i)) ≡ sets out₀ to (part s from n)
 
+module _ {s : List ℕ} {from n : ℕ} {out₀ : List ℕ} {to : ℕ} where
+  pub copying_all : Copying s from n out₀ to out₀ 0
+  copying_all =
+      let e : to + 0 ≡ to = omega arith in
+      record { within = omega arith; same = refl; left = rw (part_all s from n, e) }
+
+  pub copying_turn : {out next : List ℕ} {i x : ℕ} → Copying s from n out₀ to out i → i < n → x ≡ get_or s (from + i) 0
+      → next ≡ set out (to + i) x → Copying s from n out₀ to next (i + 1)
+  copying_turn {out} {next} {i} {x} k h e f =
+      let g : to + (i + 1) ≡ suc (to + i) = omega arith in
+      record {
+        within = omega arith;
+        same = ap length f ∙ length-set out (to + i) x ∙ k.same;
+        left = rw (g, f, e) (ap (sets out (to + i)) (sym (part_left s from n i h)) ∙ k.left);
+      }
+
+  pub copying_end : {out : List ℕ} {i : ℕ} → Copying s from n out₀ to out i → n ≤ i → out ≡ sets out₀ to (part s from n)
+  copying_end {out} {i} k h = sym (ap (sets out (to + i)) (part_none s from n i h)) ∙ k.left
+
+-- bytes that are moved are a run of stores
 pub moved : (area : List ℕ) (from to n : ℕ) → from + n ≤ length area → to + n ≤ length area → paste area to (drop from area) (from + n - from) ≡ sets area to (part area from n)
 moved area from to n f t =
     let a : from + n - from ≡ n = omega arith in

@@ -4,13 +4,15 @@ use mathlib.Core.Path.{◌≡◌, refl, ◌∙◌}
 use mathlib.Core.Bool.{Bool, true, false, ◌&&◌}
 use mathlib.Core.List.{List}
 use native.Mathlib.Omega.{arith}
+use Rattle.std.specs.Prelude.{Option, None, Some}
 use lib.ListN.{length}
 use lib.Dec.{leb}
 use borrow.Author.Tests.{le-leb, leb-true}
 use Rattle.meaning.specs.Words.{word, words, inside}
 use Rattle.meaning.specs.Tables.{plain_rule, chained_rule, rule}
-use Rattle.meaning.specs.Fault.{rule_sound}
+use Rattle.meaning.specs.Fault.{rule_sound, rule_fault, part_fault}
 use Rattle.rules.specs.Parts.{IsRule}
+use Rattle.rules.specs.declared.RuleParts.{RuleParts}
 
 -- what ends before something that lies inside lies inside too
 pub inside_before : (s : List ℕ) (p q at n : ℕ) → p + q ≤ at + n → inside s p q && inside s at n ≡ inside s at n
@@ -89,3 +91,13 @@ module _ (s : List ℕ) (at : ℕ) where
         near_ahead = record { close = omega arith; short = omega arith };
         near_records = record { close = omega arith; short = omega arith };
       }
+
+-- the answer of a check of a rule
+module _ {chained : Bool} {s : List ℕ} {at : ℕ} {r : RuleParts} (k : IsRule chained s at r) {b : Bool} (e : b ≡ inside s r.records.at (4 * r.records.len)) where
+  pub rule_sound_lem : b ≡ true → None ≡ rule_fault chained s at
+  unfolding rule_fault part_fault
+  rule_sound_lem h = rw (k.ends, ← e, h)
+
+  pub rule_faulty : b ≡ false → Some at ≡ rule_fault chained s at
+  unfolding rule_fault part_fault
+  rule_faulty h = rw (k.ends, ← e, h)
