@@ -13,6 +13,3 @@ overflow_mul-size c = omega (arith, few (goal.at.overflow_mul-size c).After-pair
 
 pub inside-requires-2 : goal.inside-requires-2
 inside-requires-2 c = (omega arith, omega (arith, few (goal.at.inside-requires-2 c).After-pair_size-size))
-
-pub ascending-requires : goal.ascending-requires
-ascending-requires c = omega (arith, few (goal.at.ascending-requires c).After-pair_size-size)
