@@ -45,8 +45,8 @@ pub fn pair_device(kind: usize, src: &[u8]) -> bool
 }
 
 // Whether the second glyphs of the `n` pair records from `at` on ascend strictly. The records are `size` bytes long. They lie inside the source, so that their glyphs are
-// read without the test that `wire::ascending` makes of each word: where little of a table survives, a call spends most of its time here. The first is read with it, since
-// there may be none.
+// read without the test that `wire::ascending` makes of each word: every pair of a table passes here, however little of it survives. The first is read with it, since there
+// may be none.
 fn seconds_ascend(src: &[u8], at: usize, n: usize, size: usize) -> bool
     requires { (2 ≤ size) × (at + size * n ≤ length src.now) }
     ensures { result ≡ ascends (column src.now size at n) }
